@@ -1,0 +1,4 @@
+-- The definitions of layer 1, digest and MAC.
+pub mod Pick
+pub mod Bytes
+

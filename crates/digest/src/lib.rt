@@ -1,0 +1,1 @@
+// Layer 1: digest and MAC.
