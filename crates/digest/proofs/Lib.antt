@@ -1,2 +1,6 @@
 -- Laws that belong to no one function.
 pub mod Picks
+pub mod Lay
+pub mod Rounds
+pub mod Absorb
+pub mod Hashing

@@ -1,4 +1,5 @@
 -- The definitions of layer 1, digest and MAC.
 pub mod Pick
 pub mod Bytes
-
+pub mod Sha1
+pub mod Hasher

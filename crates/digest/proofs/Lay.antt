@@ -1,0 +1,77 @@
+-- The laws of bytes laid over others.
+use mathlib.Core.Path.{_≡_, refl, sym, _∙_, ap}
+use mathlib.Core.List.{List, [], _∷_, _++_}
+use Prim.Native.Nat.{ℕ, zero, suc, _+_, _-_, _<_, _≤_}
+use native.Mathlib.Omega.{arith}
+use native.Mathlib.Numerals.{add-one, towards-suc}
+use native.Mathlib.Nat.{zero-add}
+use lib.ListN.{length, take, drop, set, replicate, length-append, length-drop, length-replicate, replicate-append-replicate}
+use lib.Seq.{paste, take-length, length-take-le, sets, sets-eq, take-at, drop-at, set-at, take-append-add}
+use Rattle.digest.specs.Bytes.{laidOver, bytes4}
+
+pub laid-paste : (d : List ℕ) (at : ℕ) (s : List ℕ) → paste d at s (length s) ≡ laidOver d at s
+unfolding laidOver
+laid-paste d at s = ap (λ x. take at d ++ x ++ drop (at + length s) d) (take-length s)
+
+pub length-laid : (d : List ℕ) (at : ℕ) (s : List ℕ) → at + length s ≤ length d → length (laidOver d at s) ≡ length d
+unfolding laidOver
+length-laid d at s h =
+    simp (length-append, length-drop) (omega (arith, length-take-le at d (omega arith)))
+
+-- four stores in a row
+pub laid-four : (d : List ℕ) (at x y z w : ℕ) → at + 4 ≤ length d
+  → set (set (set (set d at x) (at + 1) y) (at + 2) z) (at + 3) w ≡ laidOver d at (x ∷ y ∷ z ∷ w ∷ [])
+unfolding laidOver
+laid-four d at x y z w h = simp towards-suc (simp towards-suc at (sets-eq (x ∷ y ∷ z ∷ w ∷ []) d at h))
+
+-- five words spelled one behind the other
+pub laid-words : (z : List ℕ) (a b c d e : ℕ) (d₁ d₂ d₃ d₄ d₅ : List ℕ) → z ≡ replicate 20 0
+  → d₁ ≡ laidOver z 0 (bytes4 a) → d₂ ≡ laidOver d₁ 4 (bytes4 b) → d₃ ≡ laidOver d₂ 8 (bytes4 c)
+  → d₄ ≡ laidOver d₃ 12 (bytes4 d) → d₅ ≡ laidOver d₄ 16 (bytes4 e)
+  → d₅ ≡ bytes4 a ++ bytes4 b ++ bytes4 c ++ bytes4 d ++ bytes4 e
+unfolding laidOver
+laid-words z a b c d e d₁ d₂ d₃ d₄ d₅ e₀ e₁ e₂ e₃ e₄ e₅ =
+    e₅
+    ∙ ap (λ l. laidOver l 16 (bytes4 e))
+    (e₄
+    ∙ ap (λ l. laidOver l 12 (bytes4 d))
+    (e₃
+    ∙ ap (λ l. laidOver l 8 (bytes4 c))
+    (e₂ ∙ ap (λ l. laidOver l 4 (bytes4 b)) (e₁ ∙ ap (λ l. laidOver l 0 (bytes4 a)) e₀))))
+
+-- what was laid, and what stands before it
+pub laid-front : (d : List ℕ) (at n : ℕ) (s : List ℕ) → at ≤ length d → n ≡ at + length s → take n (laidOver d at s) ≡ take at d ++ s
+unfolding laidOver
+laid-front d at n s h e =
+    take-at (take at d ++ s) (drop (at + length s) d) n
+    (length-append (take at d) s ∙ ap (λ x. x + length s) (length-take-le at d h) ∙ sym e)
+
+-- a part of equal elements
+pub take-replicate : (n k x : ℕ) → k ≤ n → take k (replicate n x) ≡ replicate k x
+take-replicate n k x h =
+    let whole : k + (n - k) ≡ n = omega arith in
+    ap (λ j. take k (replicate j x)) (sym whole)
+    ∙ ap (take k) (sym (replicate-append-replicate k (n - k) x))
+    ∙ take-at (replicate k x) (replicate (n - k) x) k (length-replicate k x)
+
+pub drop-replicate : (n k x : ℕ) → k ≤ n → drop k (replicate n x) ≡ replicate (n - k) x
+drop-replicate n k x h =
+    let whole : k + (n - k) ≡ n = omega arith in
+    ap (λ j. drop k (replicate j x)) (sym whole)
+    ∙ ap (drop k) (sym (replicate-append-replicate k (n - k) x))
+    ∙ drop-at (replicate k x) (replicate (n - k) x) k (length-replicate k x)
+
+-- bytes at the front of zeros, one byte behind them, and zeros up to n
+pub marked : (f d : List ℕ) (m n x : ℕ) → length f < n → n ≤ m → length f < m → d ≡ laidOver (replicate m 0) 0 f
+  → take n (set d (length f) x) ≡ f ++ (x ∷ replicate (n - suc (length f)) 0)
+unfolding laidOver
+marked f d m n x h b b₂ e =
+    let k = length f in
+    let zeros : d ≡ f ++ replicate (m - k) 0 = e ∙ ap (λ l. f ++ l) (ap (λ j. drop j (replicate m 0)) (zero-add k) ∙ drop-replicate m k 0 (omega arith)) in
+    let one : m - k ≡ suc (m - suc k) = omega arith in
+    let end : n ≡ k + suc (n - suc k) = omega arith in
+    ap (λ l. take n (set l k x)) (zeros ∙ ap (λ j. f ++ replicate j 0) one)
+    ∙ ap (take n) (set-at f 0 (replicate (m - suc k) 0) x k refl)
+    ∙ ap (λ j. take j (f ++ (x ∷ replicate (m - suc k) 0))) end
+    ∙ take-append-add f (x ∷ replicate (m - suc k) 0) (suc (n - suc k))
+    ∙ ap (λ l. f ++ (x ∷ l)) (take-replicate (m - suc k) (n - suc k) 0 (omega arith))

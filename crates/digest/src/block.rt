@@ -1,0 +1,204 @@
+// One block of SHA-1 (FIPS 180-1 sections 3 to 7): the eighty-word schedule and the four phases of twenty rounds.
+//
+// Small loops with run-time ends, each called with constants: the compiler then unrolls each whole, and the
+// schedule lives in registers.
+ghost use Prim.Native.Nat.{ℕ, _+_, _*_, _<_, _≤_};
+ghost use mathlib.Core.Path.{_≡_};
+ghost use mathlib.Core.List.{List};
+ghost use lib.ListN.{length, take, drop};
+ghost use lib.Bits.{bitAnd, bitOr, bitXor};
+ghost use Rattle.digest.specs.Bytes.{wordAt};
+ghost use Rattle.digest.specs.Sha1.{shifted, f, k, initialState, words, schedule, round, rounds, joined, compress, absorb};
+use std::num::wrapping_add_u32;
+
+// The five words of FIPS 180-1 section 7.
+pub struct State {
+    pub a: u32,
+    pub b: u32,
+    pub c: u32,
+    pub d: u32,
+    pub e: u32,
+}
+
+// The words that the computation starts with.
+pub fn initial() -> State
+    ensures { λ r. ⌜ r ≡ initialState ⌝ }
+{
+    State {
+        a: 0x67452301,
+        b: 0xefcdab89,
+        c: 0x98badcfe,
+        d: 0x10325476,
+        e: 0xc3d2e1f0,
+    }
+}
+
+// The state after the `blocks` blocks of s that stand from `from` on.
+pub fn absorbed(h: State, s: &[u8], from: usize, blocks: usize) -> State
+    requires { ⌜ from + 64 * blocks ≤ length (now s) ⌝ }
+    ensures { λ r. ⌜ r ≡ absorb (drop from (now (s .entry))) blocks h ⌝ }
+{
+    let mut g = h;
+    let mut i: usize = 0;
+    while i < blocks {
+        g = compressed(g, s, from + 64 * i);
+        i += 1;
+    }
+    g
+}
+
+// The state after the block that stands at `at` (section 7, steps a to e).
+fn compressed(h: State, s: &[u8], at: usize) -> State
+    requires { ⌜ at + 64 ≤ length (now s) ⌝ }
+    ensures { λ r. ⌜ r ≡ compress (take 64 (drop at (now (s .entry)))) h ⌝ }
+{
+    let first = longer(loaded(s, at), 0, 4);
+    let one = phase1(h, first, 0, 20);
+    let second = longer(first, 4, 24);
+    let two = phase2(one, second, 20, 40);
+    let third = longer(second, 24, 44);
+    let three = phase3(two, third, 40, 60);
+    let fourth = longer(third, 44, 64);
+    let four = phase4(three, fourth, 60, 80);
+    added(h, four)
+}
+
+// Step e: the words of the two states, added.
+fn added(g: State, h: State) -> State
+    ensures { λ r. ⌜ r ≡ joined g h ⌝ }
+{
+    State {
+        a: wrapping_add_u32(g.a, h.a),
+        b: wrapping_add_u32(g.b, h.b),
+        c: wrapping_add_u32(g.c, h.c),
+        d: wrapping_add_u32(g.d, h.d),
+        e: wrapping_add_u32(g.e, h.e),
+    }
+}
+
+// Step a: the block's sixteen words, with room for the others.
+fn loaded(s: &[u8], at: usize) -> [u32; 80]
+    requires { ⌜ at + 64 ≤ length (now s) ⌝ }
+    ensures { λ r. ⌜ (length r ≡ 80) × (take 16 r ≡ words (take 64 (drop at (now (s .entry)))) 16) ⌝ }
+{
+    let mut w = [0u32; 80];
+    let mut i: usize = 0;
+    while i < 16 {
+        w[i] = word(s, at + 4 * i);
+        i += 1;
+    }
+    w
+}
+
+// The word that stands at `at`, its first byte the most significant.
+fn word(s: &[u8], at: usize) -> u32
+    requires { ⌜ at + 3 < length (now s) ⌝ }
+    ensures { λ r. ⌜ r ≡ wordAt (now (s .entry)) at ⌝ }
+{
+    ((wide(s[at]) * 256 + wide(s[at + 1])) * 256 + wide(s[at + 2])) * 256 + wide(s[at + 3])
+}
+
+fn wide(x: u8) -> u32
+    ensures { λ r. ⌜ (r ≡ x) × (r < 256) ⌝ }
+{
+    x as u32
+}
+
+// Step b: the words from + 16 to end + 16 of the schedule.
+fn longer(w: [u32; 80], from: usize, end: usize) -> [u32; 80]
+    requires { ⌜ (length w ≡ 80) × (from ≤ end) × (end ≤ 64) ⌝ }
+    ensures { λ r. ⌜ length r ≡ 80 ⌝ }
+    ensures { λ r. ⌜ ((m : List ℕ) → take (from + 16) w ≡ schedule m from → take (end + 16) r ≡ schedule m end) ⌝ }
+{
+    let mut v = w;
+    let mut t = from;
+    while t < end {
+        v[t + 16] = rotated(v[t + 13] ^ v[t + 8] ^ v[t + 2] ^ v[t], 1);
+        t += 1;
+    }
+    v
+}
+
+// Rounds `from` to `end` of the first twenty.
+fn phase1(h: State, w: [u32; 80], from: usize, end: usize) -> State
+    requires { ⌜ (length w ≡ 80) × (from ≤ end) × (end ≤ 20) ⌝ }
+    ensures { λ r. ⌜ ((g : State) → h ≡ rounds w from g → r ≡ rounds w end g) ⌝ }
+{
+    let mut g = h;
+    let mut t = from;
+    while t < end {
+        g = turned(g, (g.b & g.c) | (!g.b & g.d), w[t], 0x5a827999);
+        t += 1;
+    }
+    g
+}
+
+// Rounds `from` to `end` of the second twenty.
+fn phase2(h: State, w: [u32; 80], from: usize, end: usize) -> State
+    requires { ⌜ (length w ≡ 80) × (20 ≤ from) × (from ≤ end) × (end ≤ 40) ⌝ }
+    ensures { λ r. ⌜ ((g : State) → h ≡ rounds w from g → r ≡ rounds w end g) ⌝ }
+{
+    let mut g = h;
+    let mut t = from;
+    while t < end {
+        g = turned(g, g.b ^ g.c ^ g.d, w[t], 0x6ed9eba1);
+        t += 1;
+    }
+    g
+}
+
+// Rounds `from` to `end` of the third twenty.
+fn phase3(h: State, w: [u32; 80], from: usize, end: usize) -> State
+    requires { ⌜ (length w ≡ 80) × (40 ≤ from) × (from ≤ end) × (end ≤ 60) ⌝ }
+    ensures { λ r. ⌜ ((g : State) → h ≡ rounds w from g → r ≡ rounds w end g) ⌝ }
+{
+    let mut g = h;
+    let mut t = from;
+    while t < end {
+        g = turned(g, (g.b & g.c) | (g.b & g.d) | (g.c & g.d), w[t], 0x8f1bbcdc);
+        t += 1;
+    }
+    g
+}
+
+// Rounds `from` to `end` of the last twenty.
+fn phase4(h: State, w: [u32; 80], from: usize, end: usize) -> State
+    requires { ⌜ (length w ≡ 80) × (60 ≤ from) × (from ≤ end) × (end ≤ 80) ⌝ }
+    ensures { λ r. ⌜ ((g : State) → h ≡ rounds w from g → r ≡ rounds w end g) ⌝ }
+{
+    let mut g = h;
+    let mut t = from;
+    while t < end {
+        g = turned(g, g.b ^ g.c ^ g.d, w[t], 0xca62c1d6);
+        t += 1;
+    }
+    g
+}
+
+// Step d, with the values of f, W and K for round t given.
+fn turned(h: State, ft: u32, wt: u32, kt: u32) -> State
+    ensures { λ r. ⌜ ((t : ℕ) → ft ≡ f t (h .b) (h .c) (h .d) → kt ≡ k t → r ≡ round t wt h) ⌝ }
+{
+    let temp = wrapping_add_u32(
+        wrapping_add_u32(
+            wrapping_add_u32(wrapping_add_u32(rotated(h.a, 5), ft), h.e),
+            wt,
+        ),
+        kt,
+    );
+    State {
+        a: temp,
+        b: h.a,
+        c: rotated(h.b, 30),
+        d: h.c,
+        e: h.d,
+    }
+}
+
+// S^n(X): the circular shift to the left by n places.
+fn rotated(x: u32, n: u32) -> u32
+    requires { ⌜ (0 < n) × (n < 32) ⌝ }
+    ensures { λ r. ⌜ r ≡ shifted n x ⌝ }
+{
+    (x << n) | (x >> (32 - n))
+}
