@@ -2,13 +2,12 @@
 use Prim.Native.Nat.{_+_, _≤_, _-_}
 use mathlib.Core.Path.{_≡_, refl, _∙_, ap, sym}
 use native.Mathlib.Numerals.{add-one}
-use lib.ListN.{length, set, length-set}
+use lib.ListN.{length, set, getD, length-set}
 use lib.Seq.{paste, paste-zero, paste-suc}
 use Rattle.digest.proofs.Lay.{laid-paste}
 use borrow.Author.Needs.{needs}
 use native.Mathlib.Omega.{arith}
 use mathlib.Core.Path.{_≡_, refl}
-use lib.ListN.{length}
 use lib.Seq.{paste, paste-zero}
 use Rattle.digest.proofs.bytes.lay.Statement.{statement}
 use Rattle.digest.proofs.bytes.lay.Tie as tie
@@ -40,18 +39,24 @@ loop-less c = search needs
 loop-again : tie.Need-loop-again Inv-loop μ-loop
 loop-again c = let at = c .before .before .loop in
       let args = c .before .before .before .args in
+      let d = args .d .now in
+      let s = args .s .now in
+      let v = getD s (at .i) 0 in
       (omega arith,
-      length-set (at .d) (args .at + at .i) _ ∙ at .inv .1,
-      ap (λ l. set l (args .at + at .i) _) (at .inv .2)
-      ∙ paste-suc _ (args .at) _ (at .i) 0 (omega arith) (omega arith)
-      ∙ ap (paste _ (args .at) _) (sym (add-one (at .i))))
+      length-set (at .d) (args .at + at .i) v ∙ at .inv .1,
+      ap (λ l. set l (args .at + at .i) v) (at .inv .2)
+      ∙ paste-suc d (args .at) s (at .i) 0 (omega arith) (omega arith)
+      ∙ ap (paste d (args .at) s) (sym (add-one (at .i))))
 
 same-length : tie.Need-same-length Inv-loop μ-loop
 same-length c = c .before .loop .inv .1
 
 returns : tie.Need-returns Inv-loop μ-loop
-returns c = let last : c .before .loop .i ≡ length (c .before .before .args .s .now) = omega arith in
-      c .before .loop .inv .2 ∙ ap (paste _ _ _) last ∙ laid-paste _ _ _
+returns c = let args = c .before .before .args in
+      let d = args .d .now in
+      let s = args .s .now in
+      let last : c .before .loop .i ≡ length s = omega arith in
+      c .before .loop .inv .2 ∙ ap (paste d (args .at) s) last ∙ laid-paste d (args .at) s
 
 pub lay-spec : {M : Type 1} → statement M
 lay-spec =
