@@ -3,13 +3,14 @@ use mathlib.Core.Path.{_≡_, refl, sym, _∙_, ap, ap₂, subst}
 use mathlib.Core.List.{List, [], _∷_, _++_, append-assoc}
 use Prim.Native.Nat.{ℕ, zero, suc, _+_, _-_, _*_, _/_, _%_, _^_, _<_, _≤_, min}
 use native.Mathlib.Omega.{arith}
+use native.Mathlib.Nat.{zero-add}
 use lib.ListN.{length, take, drop, set, replicate, length-append, length-take, length-drop, length-set, length-replicate, take-append-drop}
 use lib.Seq.{take-all, length-take-le, drop-append-add, drop-append-le, drop-drop, take-at}
 use Rattle.digest.proofs.Lay.{laid-front, length-laid, marked}
 use Rattle.digest.proofs.Absorb.{absorb-add, absorb-front, absorb-cut}
 use Rattle.digest.specs.Bytes.{laidOver, bytes4, bytes8}
 use Rattle.digest.specs.Sha1.{absorb, blocksOf, padding, spelled, sha1, initialState}
-use Rattle.digest.specs.Hasher.{freshHasher, updated, finished, waiting, Absorbed}
+use Rattle.digest.specs.Hasher.{freshHasher, updated, finished, waiting, Absorbed, AbsorbedFrom, digestFrom}
 use Rattle.digest.specs.declared.block.State.{State}
 use Rattle.digest.specs.declared.pieces.Hasher.{Hasher}
 
@@ -55,6 +56,35 @@ ends-behind k blocks fill need done all e₁ e₂ e₃ = omega arith
 
 less-than-block : (n need m : ℕ) → m ≡ 64 → 0 + min (n - (need + 64 * ((n - need) / 64))) (n - (need + 64 * ((n - need) / 64))) ≤ m
 less-than-block n need m e = omega arith
+
+-- The arithmetic of a message that grows: its blocks, what is left of it, and its count.
+blocks-cut : (m s p w : ℕ) → p ≡ m - 64 * (m / 64) + s → w ≡ m + s → 64 * (m / 64) + 64 * (p / 64) ≡ 64 * (w / 64)
+blocks-cut m s p w e f = omega arith
+
+left-is : (p : ℕ) → p - 64 * (p / 64) ≡ p % 64
+left-is p = omega arith
+
+less-blocks : (m : ℕ) → (m - 64 * (m / 64)) % 64 ≡ m % 64
+less-blocks m = omega arith
+
+sum-mod : (a b s : ℕ) → a % 64 ≡ b % 64 → (a + s) % 64 ≡ (b + s) % 64
+sum-mod a b s e = omega arith
+
+count-mod : (m n c : ℕ) → n % 64 ≡ 0 → c ≡ (n + m) % 2 ^ 64 → c % 64 ≡ m % 64
+count-mod m n c z f = omega arith
+
+mod-mod : (x : ℕ) → x % 2 ^ 64 % 64 ≡ x % 64
+mod-mod x = omega arith
+
+bytes-left : (m s p n c : ℕ) → p ≡ m - 64 * (m / 64) + s → n % 64 ≡ 0 → c ≡ (n + m) % 2 ^ 64 → p - 64 * (p / 64) ≡ (c + s) % 2 ^ 64 % 64
+bytes-left m s p n c e z f =
+    left-is p
+    ∙ ap (λ x. x % 64) e
+    ∙ sum-mod (m - 64 * (m / 64)) c s (less-blocks m ∙ sym (count-mod m n c z f))
+    ∙ sym (mod-mod (c + s))
+
+counted : (m s w n c : ℕ) → w ≡ m + s → c ≡ (n + m) % 2 ^ 64 → (c + s) % 2 ^ 64 ≡ (n + w) % 2 ^ 64
+counted m s w n c e f = omega arith
 
 one-block : (fill : ℕ) → fill < 64 → (fill ≡ 0 → ⊥) → 1 ≡ (fill + 63) / 64
 one-block fill b some = omega arith
@@ -114,32 +144,31 @@ unfolding absorb
 none-topped p fill h e = let none : 0 ≡ (fill + 63) / 64 = omega arith in ap (λ k. absorb p k h) none
 
 -- What a piece means: it stands behind the message.
-pub absorbed-more : (h : Hasher) (m s : List ℕ) → Absorbed h m → Absorbed (updated h s) (m ++ s)
+pub absorbed-more : (g : State) (n : ℕ) (h : Hasher) (m s : List ℕ) → n % 64 ≡ 0 → AbsorbedFrom g n h m → AbsorbedFrom g n (updated h s) (m ++ s)
 unfolding updated laidOver
-absorbed-more h m s a =
+absorbed-more g n h m s z a =
     let p = waiting h ++ s in
     let whole = drop (64 * blocksOf m) m in
     let p-is : p ≡ whole ++ s = ap (λ x. x ++ s) (a .waits) in
     let size : length p ≡ length m - 64 * (length m / 64) + length s
       = ap length p-is ∙ length-append whole s ∙ ap (λ x. x + length s) (length-drop (64 * blocksOf m) m) in
     let q = drop (64 * blocksOf p) p in
-    let q-size : length q ≡ length p - 64 * (length p / 64) = length-drop (64 * blocksOf p) p in
     let inside : 64 * blocksOf m ≤ length m = omega arith in
-    let there : 64 * blocksOf m + 64 * blocksOf p ≡ 64 * blocksOf (m ++ s) = omega (arith, length-append m s) in
-    let counted : h .count ≡ length m % 2 ^ 64 = a .counts in
-    let left : length q ≡ (h .count + length s) % 2 ^ 64 % 64 = omega arith in
+    let there : 64 * blocksOf m + 64 * blocksOf p ≡ 64 * blocksOf (m ++ s) = blocks-cut (length m) (length s) (length p) (length (m ++ s)) size (length-append m s) in
+    let left : length q ≡ (h .count + length s) % 2 ^ 64 % 64
+      = length-drop (64 * blocksOf p) p ∙ bytes-left (length m) (length s) (length p) n (h .count) size z (a .counts) in
     record {
-      state-is = ap₂ (λ x g. absorb x (blocksOf x) g) p-is (a .state-is) ∙ sym (absorb-cut m s initialState);
+      state-is = ap₂ (λ x k. absorb x (blocksOf x) k) p-is (a .state-is) ∙ sym (absorb-cut m s g);
       waits =
         take-at q (drop (0 + length q) (h .rest)) ((h .count + length s) % 2 ^ 64 % 64) left
         ∙ ap (drop (64 * blocksOf p)) (p-is ∙ sym (drop-append-le (64 * blocksOf m) m s inside))
         ∙ drop-drop (64 * blocksOf p) (64 * blocksOf m) (m ++ s)
         ∙ ap (λ x. drop x (m ++ s)) there;
-      counts = omega (arith, length-append m s)
+      counts = counted (length m) (length s) (length (m ++ s)) n (h .count) (length-append m s) (a .counts)
     }
 
 pub both-updated : (h r : Hasher) (s : List ℕ) → r ≡ updated h s → (r ≡ updated h s) × ((m : List ℕ) → Absorbed h m → Absorbed r (m ++ s))
-both-updated h r s e = (e, λ m a. subst (λ x. Absorbed x (m ++ s)) (sym e) (absorbed-more h m s a))
+both-updated h r s e = (e, λ m a. subst (λ x. Absorbed x (m ++ s)) (sym e) (absorbed-more initialState 0 h m s refl a))
 
 -- The last blocks as they are written: the bytes that wait, the one, and the two halves of the length.
 pub padded-by : (rest d₁ d₃ d₄ : List ℕ) (fill end x : ℕ) → length rest ≡ 64 → fill < 64 → fill + 9 ≤ end → end ≤ 128
@@ -190,16 +219,22 @@ finished-by h d g n end e b z t eg =
     ∙ ap₂ (λ x y. absorb x y (h .state)) p-is all)
 
 -- What the end means: the digest of the message.
-pub finished-means : (h : Hasher) (m : List ℕ) → Absorbed h m → finished h ≡ sha1 m
-unfolding finished sha1 padding
-finished-means h m a =
-    let fill-is : h .count % 64 ≡ length m % 64 = omega (arith, a .counts) in
-    let bits-are : 8 * h .count % 2 ^ 64 ≡ 8 * length m % 2 ^ 64 = omega (arith, a .counts) in
-    let pad : padding (h .count) ≡ padding (length m)
+pub finished-from : (g : State) (n : ℕ) (h : Hasher) (m : List ℕ) → n % 64 ≡ 0 → AbsorbedFrom g n h m → finished h ≡ digestFrom g n m
+unfolding finished digestFrom padding
+finished-from g n h m z a =
+    let fill-is : h .count % 64 ≡ (n + length m) % 64 = omega (arith, a .counts) in
+    let bits-are : 8 * h .count % 2 ^ 64 ≡ 8 * (n + length m) % 2 ^ 64 = omega (arith, a .counts) in
+    let pad : padding (h .count) ≡ padding (n + length m)
       = ap₂ (λ x y. (128 ∷ replicate ((119 - x) % 64) 0) ++ bytes8 y) fill-is bits-are in
     ap spelled
-    (ap₂ (λ x g. absorb x (blocksOf x) g) (ap₂ (λ x y. x ++ y) (a .waits) pad) (a .state-is)
-    ∙ sym (absorb-cut m (padding (length m)) initialState))
+    (ap₂ (λ x k. absorb x (blocksOf x) k) (ap₂ (λ x y. x ++ y) (a .waits) pad) (a .state-is)
+    ∙ sym (absorb-cut m (padding (n + length m)) g))
+
+pub finished-means : (h : Hasher) (m : List ℕ) → Absorbed h m → finished h ≡ sha1 m
+unfolding digestFrom sha1
+finished-means h m a =
+    finished-from initialState 0 h m refl a
+    ∙ ap (λ k. spelled (absorb (m ++ padding k) (blocksOf (m ++ padding k)) initialState)) (zero-add (length m))
 
 pub both-finished : (h : Hasher) (r : List ℕ) → r ≡ finished h → (r ≡ finished h) × ((m : List ℕ) → Absorbed h m → r ≡ sha1 m)
 both-finished h r e = (e, λ m a. e ∙ finished-means h m a)

@@ -3,3 +3,6 @@ pub mod Pick
 pub mod Bytes
 pub mod Sha1
 pub mod Hasher
+pub mod Hmac
+pub mod Expansion
+pub mod Mac

@@ -2,8 +2,15 @@
 // function (002 section 11.3), the MAC kinds (002 appendix A), and the comparison of codes.
 mod block;
 mod bytes;
+mod key;
+mod mac;
 mod pieces;
 
 pub use block::State;
+pub use key::Key;
+pub use key::prf;
+pub use mac::Listed;
+pub use mac::Mac;
+pub use mac::same_code;
 pub use pieces::Hasher;
 pub use pieces::sha1;

@@ -1,0 +1,142 @@
+// HMAC with SHA-1 (RFC 2104; 002 section 11.3.1) and the expansion of secrets (002 section 11.3.2).
+ghost use Prim.Native.Nat.{ℕ, _+_, _≤_};
+ghost use mathlib.Core.Path.{_≡_};
+ghost use mathlib.Core.List.{List, _++_};
+ghost use lib.ListN.{length};
+ghost use Rattle.digest.specs.Hasher.{AbsorbedFrom, begun, ended};
+ghost use Rattle.digest.specs.Hmac.{ipad, keyBlock, keyOf, codeUnder, hmac};
+ghost use Rattle.digest.specs.Hmac as Hmac;
+ghost use Rattle.digest.specs.Expansion.{expansion};
+ghost use Rattle.digest.specs.Expansion as Expansion;
+use crate::block::State;
+use crate::block::absorbed;
+use crate::block::initial;
+use crate::bytes::lay;
+use crate::pieces::Hasher;
+use crate::pieces::sha1;
+
+// A key with both pads absorbed, so that codes under one key do not absorb them again. Every value of it is safe.
+pub struct Key {
+    pub inner: State,
+    pub outer: State,
+}
+
+impl Key {
+    // The key of the bytes k, of any length.
+    pub fn new(k: &[u8]) -> Key
+        ensures exact { λ r. ⌜ r ≡ keyOf (now (k .entry)) ⌝ }
+    {
+        let block = key_block(k);
+        let inner = masked(block, 0x36);
+        let outer = masked(block, 0x5c);
+        Key {
+            inner: absorbed(initial(), &inner, 0, 1),
+            outer: absorbed(initial(), &outer, 0, 1),
+        }
+    }
+
+    // The start of a code: a hasher that takes the message in pieces.
+    pub fn begin(self) -> Hasher
+        ensures exact { λ r. ⌜ r ≡ begun (self .inner) ⌝ }
+    {
+        let state = self.inner;
+        Hasher {
+            state,
+            rest: [0; 64],
+            count: 64,
+        }
+    }
+
+    // The code of the message that went into h since `begin`.
+    pub fn end(self, h: Hasher) -> [u8; 20]
+        ensures exact { λ r. ⌜ r ≡ ended (self .outer) h ⌝ }
+        ensures meaning { λ r. ⌜ ((m : List ℕ) → AbsorbedFrom (self .inner) 64 h m → r ≡ codeUnder self m) ⌝ }
+    {
+        let digest = h.finish();
+        let state = self.outer;
+        let last = Hasher {
+            state,
+            rest: [0; 64],
+            count: 64,
+        };
+        last.update(&digest).finish()
+    }
+
+    // The code of a message in two pieces.
+    pub fn code(self, head: &[u8], body: &[u8]) -> [u8; 20]
+        ensures exact { λ r. ⌜ r ≡ codeUnder self (now (head .entry) ++ now (body .entry)) ⌝ }
+        ensures meaning { λ r. ⌜ ((k : List ℕ) → self ≡ keyOf k → r ≡ hmac k (now (head .entry) ++ now (body .entry))) ⌝ }
+    {
+        self.end(self.begin().update(head).update(body))
+    }
+
+    // P_hash of the label and of a seed in three pieces, over all of `out`.
+    pub fn expand(
+        self,
+        label: &[u8],
+        first: &[u8],
+        second: &[u8],
+        third: &[u8],
+        out: &mut [u8],
+    )
+        ensures exact { λ _. ⌜ now (out .exit) ≡ expansion (codeUnder self) (now (label .entry) ++ (now (first .entry) ++ now (second .entry) ++ now (third .entry))) (length (now (out .entry))) ⌝ }
+        ensures meaning { λ _. ⌜ ((k : List ℕ) → self ≡ keyOf k → now (out .exit) ≡ Expansion.prf k (now (label .entry)) (now (first .entry) ++ now (second .entry) ++ now (third .entry)) (length (now (out .entry)))) ⌝ }
+    {
+        if out.len() == 0 {
+            return;
+        }
+        let last = (out.len() - 1) / 20;
+        let mut a = seeded(self, self.begin(), label, first, second, third);
+        let mut i: usize = 0;
+        while i < last {
+            let term = seeded(self, self.begin().update(&a), label, first, second, third);
+            lay(out, 20 * i, &term);
+            a = self.end(self.begin().update(&a));
+            i += 1;
+        }
+        let term = seeded(self, self.begin().update(&a), label, first, second, third);
+        let left = out.len() - 20 * last;
+        lay(out, 20 * last, &term[..left]);
+    }
+}
+
+// The pseudo-random function of a secret, a label and a seed in three pieces, over all of `out`.
+pub fn prf(secret: &[u8], label: &[u8], first: &[u8], second: &[u8], third: &[u8], out: &mut [u8])
+    ensures exact { λ _. ⌜ now (out .exit) ≡ Expansion.prf (now (secret .entry)) (now (label .entry)) (now (first .entry) ++ now (second .entry) ++ now (third .entry)) (length (now (out .entry))) ⌝ }
+{
+    Key::new(secret).expand(label, first, second, third, out);
+}
+
+// The code of what went into h since the key's begin, with the label and the seed behind it.
+fn seeded(key: Key, h: Hasher, label: &[u8], first: &[u8], second: &[u8], third: &[u8]) -> [u8; 20]
+    ensures { λ r. ⌜ ((m : List ℕ) → AbsorbedFrom (key .inner) 64 h m → r ≡ codeUnder key (m ++ (now (label .entry) ++ (now (first .entry) ++ now (second .entry) ++ now (third .entry))))) ⌝ }
+{
+    key.end(h.update(label).update(first).update(second).update(third))
+}
+
+// The key with zeros behind it, up to a block; a longer key is hashed first.
+fn key_block(k: &[u8]) -> [u8; 64]
+    ensures { λ r. ⌜ r ≡ keyBlock (now (k .entry)) ⌝ }
+{
+    let mut block = [0u8; 64];
+    if 64 < k.len() {
+        let short = sha1(k);
+        lay(&mut block, 0, &short);
+        return block;
+    }
+    lay(&mut block, 0, k);
+    block
+}
+
+// Each byte of the block XOR x.
+fn masked(block: [u8; 64], x: u8) -> [u8; 64]
+    ensures { λ r. ⌜ (length block ≡ 64 → r ≡ Hmac.masked x block) ⌝ }
+{
+    let mut d = block;
+    let mut i: usize = 0;
+    while i < 64 {
+        d[i] = block[i] ^ x;
+        i += 1;
+    }
+    d
+}

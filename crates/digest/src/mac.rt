@@ -1,0 +1,77 @@
+// The MAC kinds of the profile (002 appendix A, table 6), and the comparison of codes.
+ghost use mathlib.Core.Path.{_≡_};
+ghost use Rattle.digest.specs.Mac.{numberOf, sizeOf, listedAs, sameBytes};
+
+// SHA_80: the first ten bytes of the code. SHA: all twenty.
+pub enum Mac {
+    Sha80,
+    Sha,
+}
+
+// The kind that a number of table 6 names, where the profile has it.
+pub enum Listed {
+    Is(Mac),
+    Other,
+}
+
+impl Mac {
+    // How many bytes of the code each kind sends.
+    pub const SHA80_SIZE: usize = 10;
+    pub const SHA_SIZE: usize = 20;
+
+    // The MAC secret of either kind, in bytes.
+    pub const SECRET_SIZE: usize = 20;
+
+    // The labels under which the secrets of each course are expanded (002 section 11.2).
+    pub const CLIENT_EXPANSION: [u8; 16] = *b"client expansion";
+    pub const SERVER_EXPANSION: [u8; 16] = *b"server expansion";
+
+    // The assigned number.
+    pub fn number(self) -> u8
+        ensures exact { λ r. ⌜ r ≡ numberOf self ⌝ }
+    {
+        match self {
+            Mac::Sha80 => 2,
+            Mac::Sha => 3,
+        }
+    }
+
+    // The size of the code.
+    pub fn size(self) -> usize
+        ensures exact { λ r. ⌜ r ≡ sizeOf self ⌝ }
+    {
+        match self {
+            Mac::Sha80 => Mac::SHA80_SIZE,
+            Mac::Sha => Mac::SHA_SIZE,
+        }
+    }
+
+    // The kind of an assigned number.
+    pub fn listed(n: u8) -> Listed
+        ensures exact { λ r. ⌜ r ≡ listedAs n ⌝ }
+    {
+        if n == 2 {
+            return Listed::Is(Mac::Sha80);
+        }
+        if n == 3 {
+            return Listed::Is(Mac::Sha);
+        }
+        Listed::Other
+    }
+}
+
+// Whether two codes are the same. All bytes are looked at, wherever the first difference stands.
+pub fn same_code(a: &[u8], b: &[u8]) -> bool
+    ensures exact { λ r. ⌜ r ≡ sameBytes (now (a .entry)) (now (b .entry)) ⌝ }
+{
+    if a.len() != b.len() {
+        return false;
+    }
+    let mut differ: u8 = 0;
+    let mut i: usize = 0;
+    while i < a.len() {
+        differ = differ | (a[i] ^ b[i]);
+        i += 1;
+    }
+    differ == 0
+}
