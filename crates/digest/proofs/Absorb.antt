@@ -12,7 +12,7 @@ use Rattle.digest.specs.declared.block.State.{State}
 
 -- One block more, as a loop counts it.
 pub absorb-more : (s : List ℕ) (from i : ℕ) (h g r : State)
-  → r ≡ compress (take 64 (drop (from + 64 * i) s)) g → g ≡ absorb (drop from s) i h → r ≡ absorb (drop from s) (i + 1) h
+    → r ≡ compress (take 64 (drop (from + 64 * i) s)) g → g ≡ absorb (drop from s) i h → r ≡ absorb (drop from s) (i + 1) h
 unfolding absorb
 absorb-more s from i h g r e p =
     e
@@ -41,11 +41,11 @@ absorb-front s t (suc n) h l =
 
 -- A message cut behind m: the whole blocks of m, then those of what is left of m with s behind it.
 pub absorb-cut : (m s : List ℕ) (h : State)
-  → absorb (m ++ s) (blocksOf (m ++ s)) h
-  ≡ absorb (drop (64 * blocksOf m) m ++ s) (blocksOf (drop (64 * blocksOf m) m ++ s)) (absorb m (blocksOf m) h)
+    → absorb (m ++ s) (blocksOf (m ++ s)) h
+    ≡ absorb (drop (64 * blocksOf m) m ++ s) (blocksOf (drop (64 * blocksOf m) m ++ s)) (absorb m (blocksOf m) h)
 absorb-cut m s h =
     let left : length (drop (64 * blocksOf m) m ++ s) ≡ length m - 64 * (length m / 64) + length s
-      = length-append (drop (64 * blocksOf m) m) s ∙ ap (λ x. x + length s) (length-drop (64 * blocksOf m) m) in
+    = length-append (drop (64 * blocksOf m) m) s ∙ ap (λ x. x + length s) (length-drop (64 * blocksOf m) m) in
     let all : blocksOf (m ++ s) ≡ blocksOf m + blocksOf (drop (64 * blocksOf m) m ++ s) = omega (arith, length-append m s, left) in
     let inside : 64 * blocksOf m ≤ length m = omega arith in
     ap (λ n. absorb (m ++ s) n h) all

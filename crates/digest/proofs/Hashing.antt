@@ -28,8 +28,8 @@ module _ (rest s : List ℕ) (fill : ℕ) (l : length rest ≡ 64) (b : fill < 6
 
 -- A piece that fills no block waits behind the others.
 pub updated-short : (h : Hasher) (s r : List ℕ) (n : ℕ) → length (h .rest) ≡ 64 → length s < 64 - h .count % 64
-  → r ≡ laidOver (h .rest) (h .count % 64) s → n ≡ (h .count + length s) % 2 ^ 64
-  → _≡_ {A = Hasher} (record { state = h .state; rest = r; count = n }) (updated h s)
+    → r ≡ laidOver (h .rest) (h .count % 64) s → n ≡ (h .count + length s) % 2 ^ 64
+    → _≡_ {A = Hasher} (record { state = h .state; rest = r; count = n }) (updated h s)
 unfolding updated absorb laidOver
 updated-short h s r n l b e c =
     let fill = h .count % 64 in
@@ -38,7 +38,7 @@ updated-short h s r n l b e c =
     let none : blocksOf p ≡ 0 = omega arith in
     let there : fill + length s ≡ 0 + length p = omega arith in
     let same : r ≡ laidOver (h .rest) 0 (drop (64 * blocksOf p) p)
-      = e ∙ ap (λ x. take fill (h .rest) ++ s ++ drop x (h .rest)) there ∙ ap (λ x. laidOver (h .rest) 0 (drop (64 * x) p)) (sym none) in
+    = e ∙ ap (λ x. take fill (h .rest) ++ s ++ drop x (h .rest)) there ∙ ap (λ x. laidOver (h .rest) 0 (drop (64 * x) p)) (sym none) in
     λ i. record { state = absorb p (sym none i) (h .state); rest = same i; count = c i }
 
 -- The arithmetic of a piece that fills a block or more: what tops the first block, and the blocks behind it.
@@ -91,10 +91,10 @@ one-block fill b some = omega arith
 
 -- A piece that fills a block or more.
 pub updated-long : (h : Hasher) (s r : List ℕ) (g a : State) (n need blocks done : ℕ) → length (h .rest) ≡ 64
-  → 64 - h .count % 64 ≤ length s → need ≡ (64 - h .count % 64) % 64 → blocks ≡ (length s - need) / 64 → done ≡ need + 64 * blocks
-  → g ≡ absorb (waiting h ++ s) ((h .count % 64 + 63) / 64) (h .state) → a ≡ absorb (drop need s) blocks g
-  → r ≡ laidOver (h .rest) 0 (drop done s) → n ≡ (h .count + length s) % 2 ^ 64
-  → _≡_ {A = Hasher} (record { state = a; rest = r; count = n }) (updated h s)
+    → 64 - h .count % 64 ≤ length s → need ≡ (64 - h .count % 64) % 64 → blocks ≡ (length s - need) / 64 → done ≡ need + 64 * blocks
+    → g ≡ absorb (waiting h ++ s) ((h .count % 64 + 63) / 64) (h .state) → a ≡ absorb (drop need s) blocks g
+    → r ≡ laidOver (h .rest) 0 (drop done s) → n ≡ (h .count + length s) % 2 ^ 64
+    → _≡_ {A = Hasher} (record { state = a; rest = r; count = n }) (updated h s)
 unfolding updated
 updated-long h s r g a n need blocks done l b e₁ e₂ e₃ eg ea er ec =
     let fill = h .count % 64 in
@@ -103,35 +103,35 @@ updated-long h s r g a n need blocks done l b e₁ e₂ e₃ eg ea er ec =
     let size : length p ≡ fill + length s = both (h .rest) s fill l (omega arith) in
     let top : 64 * k ≡ fill + need = topped-up fill (omega arith) ∙ ap (λ x. fill + x) (sym e₁) in
     let all : k + blocks ≡ blocksOf p
-      = ap (λ x. k + x) e₂ ∙ blocks-behind fill (length s) need k top (fits-behind fill (length s) need b e₁) ∙ ap (λ x. x / 64) (sym size) in
+    = ap (λ x. k + x) e₂ ∙ blocks-behind fill (length s) need k top (fits-behind fill (length s) need b e₁) ∙ ap (λ x. x / 64) (sym size) in
     let end : 64 * blocksOf p ≡ fill + done = ends-behind k blocks fill need done (blocksOf p) top all e₃ in
     let state-is : a ≡ absorb p (blocksOf p) (h .state)
-      = ea
-      ∙ ap₂ (λ x y. absorb x blocks y) (sym (behind (h .rest) s fill l (omega arith) (64 * k) need top)) eg
-      ∙ sym (absorb-add p k blocks (h .state))
-      ∙ ap (λ x. absorb p x (h .state)) all in
+    = ea
+    ∙ ap₂ (λ x y. absorb x blocks y) (sym (behind (h .rest) s fill l (omega arith) (64 * k) need top)) eg
+    ∙ sym (absorb-add p k blocks (h .state))
+    ∙ ap (λ x. absorb p x (h .state)) all in
     let rest-is : r ≡ laidOver (h .rest) 0 (drop (64 * blocksOf p) p)
-      = er ∙ ap (laidOver (h .rest) 0) (sym (behind (h .rest) s fill l (omega arith) (64 * blocksOf p) done end)) in
+    = er ∙ ap (laidOver (h .rest) 0) (sym (behind (h .rest) s fill l (omega arith) (64 * blocksOf p) done end)) in
     λ i. record { state = state-is i; rest = rest-is i; count = ec i }
 
 -- What is left behind whole blocks is less than a block.
 pub left-over : (s rest : List ℕ) (count : ℕ) → length rest ≡ 64
-  → 0 + length (take (length s - ((64 - count % 64) % 64 + 64 * ((length s - (64 - count % 64) % 64) / 64))) (drop ((64 - count % 64) % 64 + 64 * ((length s - (64 - count % 64) % 64) / 64)) s)) ≤ length rest
+    → 0 + length (take (length s - ((64 - count % 64) % 64 + 64 * ((length s - (64 - count % 64) % 64) / 64))) (drop ((64 - count % 64) % 64 + 64 * ((length s - (64 - count % 64) % 64) / 64)) s)) ≤ length rest
 left-over s rest count l =
     simp (length-take, length-drop) (less-than-block (length s) ((64 - count % 64) % 64) (length rest) l)
 
 -- The first block, topped by the front of the piece.
 pub topped-by : (rest s block : List ℕ) (fill : ℕ) (h g : State) → length rest ≡ 64 → fill < 64 → (fill ≡ 0 → ⊥) → 64 ≤ fill + length s
-  → block ≡ laidOver rest fill (take (64 - fill) s) → g ≡ absorb (drop 0 block) 1 h
-  → g ≡ absorb (take fill rest ++ s) ((fill + 63) / 64) h
+    → block ≡ laidOver rest fill (take (64 - fill) s) → g ≡ absorb (drop 0 block) 1 h
+    → g ≡ absorb (take fill rest ++ s) ((fill + 63) / 64) h
 unfolding laidOver
 topped-by rest s block fill h g l b some long e eg =
     let n = 64 - fill in
     let x = take fill rest ++ take n s in
     let size : length x ≡ 64
-      = both rest (take n s) fill l b ∙ ap (λ y. fill + y) (length-take-le n s (omega arith)) ∙ omega arith in
+    = both rest (take n s) fill l b ∙ ap (λ y. fill + y) (length-take-le n s (omega arith)) ∙ omega arith in
     let whole : x ++ drop n s ≡ take fill rest ++ s
-      = append-assoc (take fill rest) (take n s) (drop n s) ∙ ap (λ y. take fill rest ++ y) (take-append-drop n s) in
+    = append-assoc (take fill rest) (take n s) (drop n s) ∙ ap (λ y. take fill rest ++ y) (take-append-drop n s) in
     let one : 1 ≡ (fill + 63) / 64 = one-block fill b some in
     eg
     ∙ ap (λ y. absorb y 1 h) e
@@ -151,20 +151,20 @@ absorbed-more g n h m s z a =
     let whole = drop (64 * blocksOf m) m in
     let p-is : p ≡ whole ++ s = ap (λ x. x ++ s) (a .waits) in
     let size : length p ≡ length m - 64 * (length m / 64) + length s
-      = ap length p-is ∙ length-append whole s ∙ ap (λ x. x + length s) (length-drop (64 * blocksOf m) m) in
+    = ap length p-is ∙ length-append whole s ∙ ap (λ x. x + length s) (length-drop (64 * blocksOf m) m) in
     let q = drop (64 * blocksOf p) p in
     let inside : 64 * blocksOf m ≤ length m = omega arith in
     let there : 64 * blocksOf m + 64 * blocksOf p ≡ 64 * blocksOf (m ++ s) = blocks-cut (length m) (length s) (length p) (length (m ++ s)) size (length-append m s) in
     let left : length q ≡ (h .count + length s) % 2 ^ 64 % 64
-      = length-drop (64 * blocksOf p) p ∙ bytes-left (length m) (length s) (length p) n (h .count) size z (a .counts) in
+    = length-drop (64 * blocksOf p) p ∙ bytes-left (length m) (length s) (length p) n (h .count) size z (a .counts) in
     record {
       state-is = ap₂ (λ x k. absorb x (blocksOf x) k) p-is (a .state-is) ∙ sym (absorb-cut m s g);
       waits =
-        take-at q (drop (0 + length q) (h .rest)) ((h .count + length s) % 2 ^ 64 % 64) left
-        ∙ ap (drop (64 * blocksOf p)) (p-is ∙ sym (drop-append-le (64 * blocksOf m) m s inside))
-        ∙ drop-drop (64 * blocksOf p) (64 * blocksOf m) (m ++ s)
-        ∙ ap (λ x. drop x (m ++ s)) there;
-      counts = counted (length m) (length s) (length (m ++ s)) n (h .count) (length-append m s) (a .counts)
+          take-at q (drop (0 + length q) (h .rest)) ((h .count + length s) % 2 ^ 64 % 64) left
+          ∙ ap (drop (64 * blocksOf p)) (p-is ∙ sym (drop-append-le (64 * blocksOf m) m s inside))
+          ∙ drop-drop (64 * blocksOf p) (64 * blocksOf m) (m ++ s)
+          ∙ ap (λ x. drop x (m ++ s)) there;
+      counts = counted (length m) (length s) (length (m ++ s)) n (h .count) (length-append m s) (a .counts);
     }
 
 pub both-updated : (h r : Hasher) (s : List ℕ) → r ≡ updated h s → (r ≡ updated h s) × ((m : List ℕ) → Absorbed h m → Absorbed r (m ++ s))
@@ -172,19 +172,19 @@ both-updated h r s e = (e, λ m a. subst (λ x. Absorbed x (m ++ s)) (sym e) (ab
 
 -- The last blocks as they are written: the bytes that wait, the one, and the two halves of the length.
 pub padded-by : (rest d₁ d₃ d₄ : List ℕ) (fill end x : ℕ) → length rest ≡ 64 → fill < 64 → fill + 9 ≤ end → end ≤ 128
-  → d₁ ≡ laidOver (replicate 128 0) 0 (take fill rest)
-  → d₃ ≡ laidOver (set d₁ fill 128) (end - 8) (bytes4 (x / 4294967296))
-  → d₄ ≡ laidOver d₃ (end - 4) (bytes4 (x % 4294967296))
-  → take end d₄ ≡ take fill rest ++ ((128 ∷ replicate (end - (fill + 9)) 0) ++ bytes8 x)
+    → d₁ ≡ laidOver (replicate 128 0) 0 (take fill rest)
+    → d₃ ≡ laidOver (set d₁ fill 128) (end - 8) (bytes4 (x / 4294967296))
+    → d₄ ≡ laidOver d₃ (end - 4) (bytes4 (x % 4294967296))
+    → take end d₄ ≡ take fill rest ++ ((128 ∷ replicate (end - (fill + 9)) 0) ++ bytes8 x)
 unfolding bytes8
 padded-by rest d₁ d₃ d₄ fill end x l b lo hi e₁ e₃ e₄ =
     let f = take fill rest in
     let f-size : length f ≡ fill = length-take-le fill rest (omega arith) in
     let size₁ : length d₁ ≡ 128
-      = ap length e₁ ∙ length-laid (replicate 128 0) 0 f (omega (arith, length-replicate {A = ℕ} 128 0)) in
+    = ap length e₁ ∙ length-laid (replicate 128 0) 0 f (omega (arith, length-replicate {A = ℕ} 128 0)) in
     let size₂ : length (set d₁ fill 128) ≡ 128 = length-set d₁ fill 128 ∙ size₁ in
     let size₃ : length d₃ ≡ 128
-      = ap length e₃ ∙ length-laid (set d₁ fill 128) (end - 8) (bytes4 (x / 4294967296)) (omega arith) ∙ size₂ in
+    = ap length e₃ ∙ length-laid (set d₁ fill 128) (end - 8) (bytes4 (x / 4294967296)) (omega arith) ∙ size₂ in
     let four : end ≡ end - 4 + 4 = omega arith in
     let eight : end - 4 ≡ end - 8 + 4 = omega arith in
     let zeros : end - 8 - suc (length f) ≡ end - (fill + 9) = omega arith in
@@ -203,9 +203,9 @@ padded-by rest d₁ d₃ d₄ fill end x l b lo hi e₁ e₃ e₄ =
 
 -- The last blocks: d holds the bytes that wait and the padding.
 pub finished-by : (h : Hasher) (d : List ℕ) (g : State) (n end : ℕ) → end ≡ 64 * n → end ≤ length d
-  → end - (h .count % 64 + 9) ≡ (119 - h .count % 64) % 64
-  → take end d ≡ waiting h ++ ((128 ∷ replicate (end - (h .count % 64 + 9)) 0) ++ bytes8 (8 * h .count % 2 ^ 64))
-  → g ≡ absorb (drop 0 d) n (h .state) → spelled g ≡ finished h
+    → end - (h .count % 64 + 9) ≡ (119 - h .count % 64) % 64
+    → take end d ≡ waiting h ++ ((128 ∷ replicate (end - (h .count % 64 + 9)) 0) ++ bytes8 (8 * h .count % 2 ^ 64))
+    → g ≡ absorb (drop 0 d) n (h .state) → spelled g ≡ finished h
 unfolding finished padding
 finished-by h d g n end e b z t eg =
     let p = waiting h ++ padding (h .count) in
@@ -225,7 +225,7 @@ finished-from g n h m z a =
     let fill-is : h .count % 64 ≡ (n + length m) % 64 = omega (arith, a .counts) in
     let bits-are : 8 * h .count % 2 ^ 64 ≡ 8 * (n + length m) % 2 ^ 64 = omega (arith, a .counts) in
     let pad : padding (h .count) ≡ padding (n + length m)
-      = ap₂ (λ x y. (128 ∷ replicate ((119 - x) % 64) 0) ++ bytes8 y) fill-is bits-are in
+    = ap₂ (λ x y. (128 ∷ replicate ((119 - x) % 64) 0) ++ bytes8 y) fill-is bits-are in
     ap spelled
     (ap₂ (λ x k. absorb x (blocksOf x) k) (ap₂ (λ x y. x ++ y) (a .waits) pad) (a .state-is)
     ∙ sym (absorb-cut m (padding (n + length m)) g))

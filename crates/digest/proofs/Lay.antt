@@ -20,15 +20,15 @@ length-laid d at s h =
 
 -- four stores in a row
 pub laid-four : (d : List ℕ) (at x y z w : ℕ) → at + 4 ≤ length d
-  → set (set (set (set d at x) (at + 1) y) (at + 2) z) (at + 3) w ≡ laidOver d at (x ∷ y ∷ z ∷ w ∷ [])
+    → set (set (set (set d at x) (at + 1) y) (at + 2) z) (at + 3) w ≡ laidOver d at (x ∷ y ∷ z ∷ w ∷ [])
 unfolding laidOver
 laid-four d at x y z w h = simp towards-suc (simp towards-suc at (sets-eq (x ∷ y ∷ z ∷ w ∷ []) d at h))
 
 -- five words spelled one behind the other
 pub laid-words : (z : List ℕ) (a b c d e : ℕ) (d₁ d₂ d₃ d₄ d₅ : List ℕ) → z ≡ replicate 20 0
-  → d₁ ≡ laidOver z 0 (bytes4 a) → d₂ ≡ laidOver d₁ 4 (bytes4 b) → d₃ ≡ laidOver d₂ 8 (bytes4 c)
-  → d₄ ≡ laidOver d₃ 12 (bytes4 d) → d₅ ≡ laidOver d₄ 16 (bytes4 e)
-  → d₅ ≡ bytes4 a ++ bytes4 b ++ bytes4 c ++ bytes4 d ++ bytes4 e
+    → d₁ ≡ laidOver z 0 (bytes4 a) → d₂ ≡ laidOver d₁ 4 (bytes4 b) → d₃ ≡ laidOver d₂ 8 (bytes4 c)
+    → d₄ ≡ laidOver d₃ 12 (bytes4 d) → d₅ ≡ laidOver d₄ 16 (bytes4 e)
+    → d₅ ≡ bytes4 a ++ bytes4 b ++ bytes4 c ++ bytes4 d ++ bytes4 e
 unfolding laidOver
 laid-words z a b c d e d₁ d₂ d₃ d₄ d₅ e₀ e₁ e₂ e₃ e₄ e₅ =
     e₅
@@ -63,7 +63,7 @@ drop-replicate n k x h =
 
 -- bytes at the front of zeros, one byte behind them, and zeros up to n
 pub marked : (f d : List ℕ) (m n x : ℕ) → length f < n → n ≤ m → length f < m → d ≡ laidOver (replicate m 0) 0 f
-  → take n (set d (length f) x) ≡ f ++ (x ∷ replicate (n - suc (length f)) 0)
+    → take n (set d (length f) x) ≡ f ++ (x ∷ replicate (n - suc (length f)) 0)
 unfolding laidOver
 marked f d m n x h b b₂ e =
     let k = length f in

@@ -4,3 +4,6 @@ pub mod Lay
 pub mod Rounds
 pub mod Absorb
 pub mod Hashing
+pub mod Codes
+pub mod Terms
+pub mod Same

@@ -33,7 +33,7 @@ word-part s at n i h =
 
 -- One word more of a block.
 pub words-more : (s w : List ℕ) (at n i v : ℕ) → i < length w → 4 * i + 3 < n → v ≡ wordAt s (at + 4 * i)
-  → take i w ≡ words (take n (drop at s)) i → take (i + 1) (set w i v) ≡ words (take n (drop at s)) (i + 1)
+    → take i w ≡ words (take n (drop at s)) i → take (i + 1) (set w i v) ≡ words (take n (drop at s)) (i + 1)
 unfolding words
 words-more s w at n i v l h ev e =
     fill-step w (words (take n (drop at s)) i) i v l e
@@ -50,7 +50,7 @@ back : (v : List ℕ) (t j i : ℕ) → i + j ≡ t + 16 → 0 < j → getD (tak
 back v t j i e h = getD-take (t + 16) v (16 + t - j) 0 (omega arith) ∙ ap (λ x. getD v x 0) (omega arith)
 
 next-from : (v m : List ℕ) (t : ℕ) → take (t + 16) v ≡ schedule m t
-  → shifted 1 (bitXor (bitXor (bitXor (getD v (t + 13) 0) (getD v (t + 8) 0)) (getD v (t + 2) 0)) (getD v t 0)) ≡ nextWord (schedule m t) (16 + t)
+    → shifted 1 (bitXor (bitXor (bitXor (getD v (t + 13) 0) (getD v (t + 8) 0)) (getD v (t + 2) 0)) (getD v t 0)) ≡ nextWord (schedule m t) (16 + t)
 unfolding nextWord
 next-from v m t e =
     let e3 : getD (take (t + 16) v) (16 + t - 3) 0 ≡ getD v (t + 13) 0 = back v t 3 (t + 13) (omega arith) (omega arith) in
@@ -60,8 +60,8 @@ next-from v m t e =
     cc
 
 pub schedule-more : (v m : List ℕ) (t x : ℕ) → t + 16 < length v
-  → x ≡ shifted 1 (bitXor (bitXor (bitXor (getD v (t + 13) 0) (getD v (t + 8) 0)) (getD v (t + 2) 0)) (getD v t 0))
-  → take (t + 16) v ≡ schedule m t → take (t + 1 + 16) (set v (t + 16) x) ≡ schedule m (t + 1)
+    → x ≡ shifted 1 (bitXor (bitXor (bitXor (getD v (t + 13) 0) (getD v (t + 8) 0)) (getD v (t + 2) 0)) (getD v t 0))
+    → take (t + 16) v ≡ schedule m t → take (t + 1 + 16) (set v (t + 16) x) ≡ schedule m (t + 1)
 unfolding schedule
 schedule-more v m t x l ex e =
     let e1 : t + 1 + 16 ≡ t + 16 + 1 = omega arith in
@@ -134,7 +134,7 @@ schedule-front m n (suc d) i h =
     ∙ ap (λ x. getD (schedule m x) i 0) (sym (add-suc n d))
 
 pub rounds-within : (m w : List ℕ) (n t : ℕ) (g : State) → length m ≡ 16 → n ≤ 64 → t ≤ n + 16 → take (n + 16) w ≡ schedule m n
-  → rounds w t g ≡ rounds (schedule m 64) t g
+    → rounds w t g ≡ rounds (schedule m 64) t g
 rounds-within m w n t g l h b e =
     let whole : n + (64 - n) ≡ 64 = omega arith in
     rounds-by w (schedule m 64) t g
@@ -146,12 +146,12 @@ rounds-within m w n t g l h b e =
 
 -- The four phases make the eighty rounds, over a schedule that grows between them.
 pub four-phases : (m w₁ w₂ w₃ w₄ : List ℕ) (h h₁ h₂ h₃ h₄ : State) → length m ≡ 16
-  → take 20 w₁ ≡ schedule m 4 → take 40 w₂ ≡ schedule m 24 → take 60 w₃ ≡ schedule m 44 → take 80 w₄ ≡ schedule m 64
-  → h₁ ≡ rounds w₁ 20 h
-  → (h₁ ≡ rounds w₂ 20 h → h₂ ≡ rounds w₂ 40 h)
-  → (h₂ ≡ rounds w₃ 40 h → h₃ ≡ rounds w₃ 60 h)
-  → (h₃ ≡ rounds w₄ 60 h → h₄ ≡ rounds w₄ 80 h)
-  → h₄ ≡ rounds (schedule m 64) 80 h
+    → take 20 w₁ ≡ schedule m 4 → take 40 w₂ ≡ schedule m 24 → take 60 w₃ ≡ schedule m 44 → take 80 w₄ ≡ schedule m 64
+    → h₁ ≡ rounds w₁ 20 h
+    → (h₁ ≡ rounds w₂ 20 h → h₂ ≡ rounds w₂ 40 h)
+    → (h₂ ≡ rounds w₃ 40 h → h₃ ≡ rounds w₃ 60 h)
+    → (h₃ ≡ rounds w₄ 60 h → h₄ ≡ rounds w₄ 80 h)
+    → h₄ ≡ rounds (schedule m 64) 80 h
 four-phases m w₁ w₂ w₃ w₄ h h₁ h₂ h₃ h₄ l e₁ e₂ e₃ e₄ p₁ p₂ p₃ p₄ =
     let q₁ = p₁ ∙ rounds-within m w₁ 4 20 h l (omega arith) (omega arith) e₁ in
     let q₂ = p₂ (q₁ ∙ sym (rounds-within m w₂ 24 20 h l (omega arith) (omega arith) e₂)) ∙ rounds-within m w₂ 24 40 h l (omega arith) (omega arith) e₂ in

@@ -23,7 +23,7 @@ updated h s =
     record {
       state = absorb p (blocksOf p) (h .state);
       rest = laidOver (h .rest) 0 (drop (64 * blocksOf p) p);
-      count = (h .count + length s) % 2 ^ 64
+      count = (h .count + length s) % 2 ^ 64;
     }
 
 -- the digest of what came

@@ -36,7 +36,7 @@ unfoldable pub keyOf : List ℕ → Key
 keyOf k =
     record {
       inner = compress (masked ipad (keyBlock k)) initialState;
-      outer = compress (masked opad (keyBlock k)) initialState
+      outer = compress (masked opad (keyBlock k)) initialState;
     }
 
 unfoldable pub codeUnder : Key → List ℕ → List ℕ

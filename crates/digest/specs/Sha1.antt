@@ -70,7 +70,7 @@ round t w h =
       b = h .a;
       c = shifted 30 (h .b);
       d = h .c;
-      e = h .d
+      e = h .d;
     }
 
 -- steps c and d: the rounds before round n
@@ -86,7 +86,7 @@ joined g h =
       b = plus (g .b) (h .b);
       c = plus (g .c) (h .c);
       d = plus (g .d) (h .d);
-      e = plus (g .e) (h .e)
+      e = plus (g .e) (h .e);
     }
 
 -- one block

@@ -21,7 +21,7 @@ pub struct State {
 }
 
 // The words that the computation starts with.
-pub fn initial() -> State
+pub(crate) fn initial() -> State
     ensures { λ r. ⌜ r ≡ initialState ⌝ }
 {
     State {
@@ -34,7 +34,7 @@ pub fn initial() -> State
 }
 
 // The state after the `blocks` blocks of s that stand from `from` on.
-pub fn absorbed(h: State, s: &[u8], from: usize, blocks: usize) -> State
+pub(crate) fn absorbed(h: State, s: &[u8], from: usize, blocks: usize) -> State
     requires { ⌜ from + 64 * blocks ≤ length (now s) ⌝ }
     ensures { λ r. ⌜ r ≡ absorb (drop from (now (s .entry))) blocks h ⌝ }
 {

@@ -5,7 +5,7 @@ ghost use lib.ListN.{length};
 ghost use Rattle.digest.specs.Bytes.{bytes4, laidOver};
 
 // s laid over d from place `at` on.
-pub fn lay(d: &mut [u8], at: usize, s: &[u8])
+pub(crate) fn lay(d: &mut [u8], at: usize, s: &[u8])
     requires { ⌜ at + length (now s) ≤ length (now d) ⌝ }
     ensures { λ _. ⌜ now (d .exit) ≡ laidOver (now (d .entry)) at (now (s .entry)) ⌝ }
 {
@@ -17,7 +17,7 @@ pub fn lay(d: &mut [u8], at: usize, s: &[u8])
 }
 
 // The four bytes of x laid over d from place `at` on, the most significant first.
-pub fn put_word(d: &mut [u8], at: usize, x: u32)
+pub(crate) fn put_word(d: &mut [u8], at: usize, x: u32)
     requires { ⌜ at + 4 ≤ length (now d) ⌝ }
     ensures { λ _. ⌜ now (d .exit) ≡ laidOver (now (d .entry)) at (bytes4 x) ⌝ }
 {

@@ -71,14 +71,7 @@ impl Key {
     }
 
     // P_hash of the label and of a seed in three pieces, over all of `out`.
-    pub fn expand(
-        self,
-        label: &[u8],
-        first: &[u8],
-        second: &[u8],
-        third: &[u8],
-        out: &mut [u8],
-    )
+    pub fn expand(self, label: &[u8], first: &[u8], second: &[u8], third: &[u8], out: &mut [u8])
         ensures exact { λ _. ⌜ now (out .exit) ≡ expansion (codeUnder self) (now (label .entry) ++ (now (first .entry) ++ now (second .entry) ++ now (third .entry))) (length (now (out .entry))) ⌝ }
         ensures meaning { λ _. ⌜ ((k : List ℕ) → self ≡ keyOf k → now (out .exit) ≡ Expansion.prf k (now (label .entry)) (now (first .entry) ++ now (second .entry) ++ now (third .entry)) (length (now (out .entry)))) ⌝ }
     {
@@ -89,14 +82,15 @@ impl Key {
         let mut a = seeded(self, self.begin(), label, first, second, third);
         let mut i: usize = 0;
         while i < last {
-            let term = seeded(self, self.begin().update(&a), label, first, second, third);
-            lay(out, 20 * i, &term);
-            a = self.end(self.begin().update(&a));
+            let whole = term(self, a, label, first, second, third);
+            lay(out, 20 * i, &whole);
+            let after = next(self, a);
+            a = after;
             i += 1;
         }
-        let term = seeded(self, self.begin().update(&a), label, first, second, third);
-        let left = out.len() - 20 * last;
-        lay(out, 20 * last, &term[..left]);
+        let cut = term(self, a, label, first, second, third);
+        let at = 20 * last;
+        lay(out, at, &cut[..out.len() - at]);
     }
 }
 
@@ -114,9 +108,23 @@ fn seeded(key: Key, h: Hasher, label: &[u8], first: &[u8], second: &[u8], third:
     key.end(h.update(label).update(first).update(second).update(third))
 }
 
+// One term of the expansion: the code of A(i), the label and the seed.
+fn term(key: Key, a: [u8; 20], label: &[u8], first: &[u8], second: &[u8], third: &[u8]) -> [u8; 20]
+    ensures { λ r. ⌜ r ≡ codeUnder key (a ++ (now (label .entry) ++ (now (first .entry) ++ now (second .entry) ++ now (third .entry)))) ⌝ }
+{
+    seeded(key, key.begin().update(&a), label, first, second, third)
+}
+
+// A(i + 1), from A(i).
+fn next(key: Key, a: [u8; 20]) -> [u8; 20]
+    ensures { λ r. ⌜ r ≡ codeUnder key a ⌝ }
+{
+    key.end(key.begin().update(&a))
+}
+
 // The key with zeros behind it, up to a block; a longer key is hashed first.
 fn key_block(k: &[u8]) -> [u8; 64]
-    ensures { λ r. ⌜ r ≡ keyBlock (now (k .entry)) ⌝ }
+    ensures { λ r. ⌜ (r ≡ keyBlock (now (k .entry))) × (length r ≡ 64) ⌝ }
 {
     let mut block = [0u8; 64];
     if 64 < k.len() {
@@ -130,7 +138,8 @@ fn key_block(k: &[u8]) -> [u8; 64]
 
 // Each byte of the block XOR x.
 fn masked(block: [u8; 64], x: u8) -> [u8; 64]
-    ensures { λ r. ⌜ (length block ≡ 64 → r ≡ Hmac.masked x block) ⌝ }
+    requires { ⌜ length block ≡ 64 ⌝ }
+    ensures { λ r. ⌜ r ≡ Hmac.masked x block ⌝ }
 {
     let mut d = block;
     let mut i: usize = 0;

@@ -17,6 +17,7 @@ pub enum Listed {
 impl Mac {
     // How many bytes of the code each kind sends.
     pub const SHA80_SIZE: usize = 10;
+
     pub const SHA_SIZE: usize = 20;
 
     // The MAC secret of either kind, in bytes.
@@ -24,6 +25,7 @@ impl Mac {
 
     // The labels under which the secrets of each course are expanded (002 section 11.2).
     pub const CLIENT_EXPANSION: [u8; 16] = *b"client expansion";
+
     pub const SERVER_EXPANSION: [u8; 16] = *b"server expansion";
 
     // The assigned number.

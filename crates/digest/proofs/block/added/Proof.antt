@@ -23,12 +23,12 @@ wrapping-add-u32-requires-5 c κs = search needs
 returns : tie.Need-returns
 unfolding joined
 returns c = λ i. record {
-      a = c .before .before .before .before .wrapping-add-u32 .ensures i;
-      b = c .before .before .before .wrapping-add-u322 .ensures i;
-      c = c .before .before .wrapping-add-u323 .ensures i;
-      d = c .before .wrapping-add-u324 .ensures i;
-      e = c .wrapping-add-u325 .ensures i
-    }
+  a = c .before .before .before .before .wrapping-add-u32 .ensures i;
+  b = c .before .before .before .wrapping-add-u322 .ensures i;
+  c = c .before .before .wrapping-add-u323 .ensures i;
+  d = c .before .wrapping-add-u324 .ensures i;
+  e = c .wrapping-add-u325 .ensures i;
+}
 
 pub added-spec : {M : Type 1} → statement M
 added-spec =

@@ -40,29 +40,29 @@ added-requires c κs = search needs
 returns : tie.Need-returns
 unfolding compress rounds schedule
 returns c = let c₄ = c .before in
-      let l₄ = c₄ .before in
-      let c₃ = l₄ .before in
-      let l₃ = c₃ .before in
-      let c₂ = l₃ .before in
-      let l₂ = c₂ .before in
-      let c₁ = l₂ .before in
-      let l₁ = c₁ .before in
-      let args = l₁ .before .before .before .args in
-      let m = words (take 64 (drop (args .at) (args .s .now))) 16 in
-      let e₁ = l₁ .longer .ensures .1 m (l₁ .before .loaded .ensures .1) in
-      let e₂ = l₂ .longer2 .ensures .1 m e₁ in
-      let e₃ = l₃ .longer3 .ensures .1 m e₂ in
-      let e₄ = l₄ .longer4 .ensures .1 m e₃ in
-      c .added .ensures
-      ∙ ap (joined (args .h))
-      (four-phases m (l₁ .longer .result) (l₂ .longer2 .result) (l₃ .longer3 .result) (l₄ .longer4 .result)
-      (args .h) (c₁ .phase1 .result) (c₂ .phase2 .result) (c₃ .phase3 .result) (c₄ .phase4 .result)
-      (length-words (take 64 (drop (args .at) (args .s .now))) 16)
-      e₁ e₂ e₃ e₄
-      (c₁ .phase1 .ensures (args .h) refl)
-      (c₂ .phase2 .ensures (args .h))
-      (c₃ .phase3 .ensures (args .h))
-      (c₄ .phase4 .ensures (args .h)))
+    let l₄ = c₄ .before in
+    let c₃ = l₄ .before in
+    let l₃ = c₃ .before in
+    let c₂ = l₃ .before in
+    let l₂ = c₂ .before in
+    let c₁ = l₂ .before in
+    let l₁ = c₁ .before in
+    let args = l₁ .before .before .before .args in
+    let m = words (take 64 (drop (args .at) (args .s .now))) 16 in
+    let e₁ = l₁ .longer .ensures .1 m (l₁ .before .loaded .ensures .1) in
+    let e₂ = l₂ .longer2 .ensures .1 m e₁ in
+    let e₃ = l₃ .longer3 .ensures .1 m e₂ in
+    let e₄ = l₄ .longer4 .ensures .1 m e₃ in
+    c .added .ensures
+    ∙ ap (joined (args .h))
+    (four-phases m (l₁ .longer .result) (l₂ .longer2 .result) (l₃ .longer3 .result) (l₄ .longer4 .result)
+    (args .h) (c₁ .phase1 .result) (c₂ .phase2 .result) (c₃ .phase3 .result) (c₄ .phase4 .result)
+    (length-words (take 64 (drop (args .at) (args .s .now))) 16)
+    e₁ e₂ e₃ e₄
+    (c₁ .phase1 .ensures (args .h) refl)
+    (c₂ .phase2 .ensures (args .h))
+    (c₃ .phase3 .ensures (args .h))
+    (c₄ .phase4 .ensures (args .h)))
 
 pub compressed-spec : {M : Type 1} → statement M
 compressed-spec =

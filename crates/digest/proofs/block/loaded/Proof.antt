@@ -42,13 +42,15 @@ loop-less : tie.Need-loop-less Inv-loop μ-loop
 loop-less c = search needs
 
 loop-again : tie.Need-loop-again Inv-loop μ-loop
-loop-again c = (omega arith,
-      length-set (c .before .before .loop .w) (c .before .before .loop .i) (c .word .result) ∙ c .before .before .loop .inv .1,
-      words-more _ (c .before .before .loop .w) _ 64 (c .before .before .loop .i) (c .word .result) (omega arith) (omega arith) (c .word .ensures) (c .before .before .loop .inv .2))
+loop-again c = (
+  omega arith,
+  length-set (c .before .before .loop .w) (c .before .before .loop .i) (c .word .result) ∙ c .before .before .loop .inv .1,
+  words-more _ (c .before .before .loop .w) _ 64 (c .before .before .loop .i) (c .word .result) (omega arith) (omega arith) (c .word .ensures) (c .before .before .loop .inv .2),
+)
 
 returns : tie.Need-returns Inv-loop μ-loop
 returns c = let last : c .before .loop .i ≡ 16 = omega arith in
-      (c .before .loop .inv .1, rw last at (c .before .loop .inv .2))
+    (c .before .loop .inv .1, rw last at (c .before .loop .inv .2))
 
 pub loaded-spec : {M : Type 1} → statement M
 loaded-spec =

@@ -72,15 +72,16 @@ loop-less : tie.Need-loop-less Inv-loop μ-loop
 loop-less c = search needs
 
 loop-again : tie.Need-loop-again Inv-loop μ-loop
-loop-again c = let at = c .before .before .loop in
-      (omega arith,
-      omega arith,
-      length-set (at .v) (at .t + 16) (c .rotated .result) ∙ at .inv .2,
-      λ m e. schedule-more (at .v) m (at .t) (c .rotated .result) (omega arith) (c .rotated .ensures) (at .inv .3 m e))
+loop-again c = let at = c .before .before .loop in (
+  omega arith,
+  omega arith,
+  length-set (at .v) (at .t + 16) (c .rotated .result) ∙ at .inv .2,
+  λ m e. schedule-more (at .v) m (at .t) (c .rotated .result) (omega arith) (c .rotated .ensures) (at .inv .3 m e),
+)
 
 returns : tie.Need-returns Inv-loop μ-loop
 returns c = let last : c .before .loop .t ≡ c .before .before .args .end = omega arith in
-      (c .before .loop .inv .2, λ m e. rw last at (c .before .loop .inv .3 m e))
+    (c .before .loop .inv .2, λ m e. rw last at (c .before .loop .inv .3 m e))
 
 pub longer-spec : {M : Type 1} → statement M
 longer-spec =

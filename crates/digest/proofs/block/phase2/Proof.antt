@@ -34,18 +34,19 @@ loop-less : tie.Need-loop-less Inv-loop μ-loop
 loop-less c = search needs
 
 loop-again : tie.Need-loop-again Inv-loop μ-loop
-loop-again c = let at = c .before .before .before .before .loop in
-      (omega arith,
-      omega arith,
-      λ h e.
+loop-again c = let at = c .before .before .before .before .loop in (
+  omega arith,
+  omega arith,
+  λ h e.
       round-more _ (at .t) h (at .g) (c .turned .result)
       (c .turned .ensures (at .t) (f-second (at .t) _ _ _ (omega arith) (omega arith)) (k-second (at .t) (omega arith) (omega arith)))
-      (at .inv .2 h e))
+      (at .inv .2 h e),
+)
 
 returns : tie.Need-returns Inv-loop μ-loop
 returns c = λ h e.
-      let last : c .before .loop .t ≡ c .before .before .args .end = omega arith in
-      rw last at (c .before .loop .inv .2 h e)
+    let last : c .before .loop .t ≡ c .before .before .args .end = omega arith in
+    rw last at (c .before .loop .inv .2 h e)
 
 pub phase2-spec : {M : Type 1} → statement M
 phase2-spec =

@@ -38,25 +38,26 @@ loop-less c = search needs
 
 loop-again : tie.Need-loop-again Inv-loop μ-loop
 loop-again c = let at = c .before .before .loop in
-      let args = c .before .before .before .args in
-      let d = args .d .now in
-      let s = args .s .now in
-      let v = getD s (at .i) 0 in
-      (omega arith,
+    let args = c .before .before .before .args in
+    let d = args .d .now in
+    let s = args .s .now in
+    let v = getD s (at .i) 0 in (
+      omega arith,
       length-set (at .d) (args .at + at .i) v ∙ at .inv .1,
       ap (λ l. set l (args .at + at .i) v) (at .inv .2)
-      ∙ paste-suc d (args .at) s (at .i) 0 (omega arith) (omega arith)
-      ∙ ap (paste d (args .at) s) (sym (add-one (at .i))))
+          ∙ paste-suc d (args .at) s (at .i) 0 (omega arith) (omega arith)
+          ∙ ap (paste d (args .at) s) (sym (add-one (at .i))),
+    )
 
 same-length : tie.Need-same-length Inv-loop μ-loop
 same-length c = c .before .loop .inv .1
 
 returns : tie.Need-returns Inv-loop μ-loop
 returns c = let args = c .before .before .args in
-      let d = args .d .now in
-      let s = args .s .now in
-      let last : c .before .loop .i ≡ length s = omega arith in
-      c .before .loop .inv .2 ∙ ap (paste d (args .at) s) last ∙ laid-paste d (args .at) s
+    let d = args .d .now in
+    let s = args .s .now in
+    let last : c .before .loop .i ≡ length s = omega arith in
+    c .before .loop .inv .2 ∙ ap (paste d (args .at) s) last ∙ laid-paste d (args .at) s
 
 pub lay-spec : {M : Type 1} → statement M
 lay-spec =

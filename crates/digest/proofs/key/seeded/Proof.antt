@@ -1,34 +1,36 @@
+-- `key::seeded`: four pieces more, and the end.
+use mathlib.Core.Path.{_∙_, ap}
+use mathlib.Core.List.{append-assoc}
+use Rattle.digest.specs.Hmac.{codeUnder}
+use Rattle.digest.proofs.Codes.{piece}
 use borrow.Author.Needs.{needs}
 use Rattle.digest.proofs.key.seeded.Statement.{statement}
 use Rattle.digest.proofs.key.seeded.Tie as tie
-use Rattle.digest.proofs.key.seeded.Reads as reads
-use Rattle.digest.proofs.key.seeded.Lts as lts
-use Rattle.digest.proofs.key.Key.end.Reads as end-reads
-use Rattle.digest.proofs.pieces.Hasher.update.Reads as update-reads
 
--- src/key.rt:114:13
 update-requires : tie.Need-update-requires
 update-requires c κs = search needs
 
--- src/key.rt:114:13
 update-requires-2 : tie.Need-update-requires-2
 update-requires-2 c κs = search needs
 
--- src/key.rt:114:13
 update-requires-3 : tie.Need-update-requires-3
 update-requires-3 c κs = search needs
 
--- src/key.rt:114:13
 update-requires-4 : tie.Need-update-requires-4
 update-requires-4 c κs = search needs
 
--- src/key.rt:114:5
 end-requires : tie.Need-end-requires
 end-requires c κs = search needs
 
--- src/key.rt:111:1
 returns : tie.Need-returns
-returns c = ?
+returns c = λ m a.
+    let args = c .before .before .before .before .before .before .before .before .before .args in
+    let g = args .key .inner in
+    let one = piece g _ _ m _ (c .before .before .before .before .update .ensures .0) a in
+    let two = piece g _ _ _ _ (c .before .before .before .update2 .ensures .0) one in
+    let three = piece g _ _ _ _ (c .before .before .update3 .ensures .0) two in
+    let four = piece g _ _ _ _ (c .before .update4 .ensures .0) three in
+    c .end .ensures .1 _ four ∙ ap (codeUnder (args .key)) (simp append-assoc)
 
 pub seeded-spec : {M : Type 1} → statement M
 seeded-spec =

@@ -1,45 +1,48 @@
+-- `mac::same_code`: no bit differs so far if and only if the bytes so far are equal.
+use Prim.Native.Nat.{_≤_, _-_}
+use mathlib.Core.Path.{_≡_, refl, sym, ap}
+use lib.ListN.{length, take}
+use Rattle.digest.proofs.Same.{differ-more, differ-whole, differ-same}
+use borrow.Author.Needs.{needs}
+use native.Mathlib.Omega.{arith}
 use Rattle.digest.proofs.mac.same_code.Statement.{statement}
 use Rattle.digest.proofs.mac.same_code.Tie as tie
-use Rattle.digest.proofs.mac.same_code.Reads as reads
-use Rattle.digest.proofs.mac.same_code.Lts as lts
 
 abbrev Inv-loop : tie.InvT-loop
-Inv-loop a b differ₀ i₀ differ i = ?
+Inv-loop a b differ₀ i₀ differ i = (i ≤ length a) × (length a ≡ length b) × (differ ≡ 0 → take i a ≡ take i b) × (take i a ≡ take i b → differ ≡ 0)
 
 abbrev μ-loop : tie.MeasureT-loop
-μ-loop a b differ₀ i₀ differ i = ?
+μ-loop a b differ₀ i₀ differ i = length a - i
 
--- src/mac.rt:68:9
 returns : tie.Need-returns Inv-loop μ-loop
-returns c = ?
+returns c = sym (differ-same _ _ (λ e. c .if1 .taken (ap length e)))
 
--- src/mac.rt:72:5
 loop-holds : tie.Need-loop-holds Inv-loop μ-loop
-loop-holds c = ?
+loop-holds c = (omega arith, omega arith, λ e. refl, λ e. refl)
 
--- src/mac.rt:73:28
 shared-slice-read-differ : tie.Need-shared-slice-read-differ Inv-loop μ-loop
-shared-slice-read-differ c = ?
+shared-slice-read-differ c = search needs
 
--- src/mac.rt:73:35
 shared-slice-read-differ-2 : tie.Need-shared-slice-read-differ-2 Inv-loop μ-loop
-shared-slice-read-differ-2 c = ?
+shared-slice-read-differ-2 c = search needs
 
--- src/mac.rt:74:9
 add-i : tie.Need-add-i Inv-loop μ-loop
-add-i c = ?
+add-i c = search needs
 
--- src/mac.rt:72:5
 loop-less : tie.Need-loop-less Inv-loop μ-loop
-loop-less c = ?
+loop-less c = search needs
 
--- src/mac.rt:72:5
 loop-again : tie.Need-loop-again Inv-loop μ-loop
-loop-again c = ?
+loop-again c = let at = c .before .before .before .loop in
+    let args = c .before .before .before .before .before .args in
+    let both = differ-more (args .a .now) (args .b .now) (at .differ) (at .i) (omega arith) (omega arith) (at .inv .2) (at .inv .3) in
+    (omega arith, at .inv .1, both .0, both .1)
 
--- src/mac.rt:64:1
 returns-2 : tie.Need-returns-2 Inv-loop μ-loop
-returns-2 c = ?
+returns-2 c = let at = c .before .loop in
+    let args = c .before .before .before .args in
+    let last : at .i ≡ length (args .a .now) = omega arith in
+    differ-whole (args .a .now) (args .b .now) (at .differ) (at .inv .1) (rw last at (at .inv .2)) (rw last at (at .inv .3))
 
 pub same-code-spec : {M : Type 1} → statement M
 same-code-spec =

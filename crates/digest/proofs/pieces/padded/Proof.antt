@@ -53,12 +53,13 @@ put-word-requires-2 c κs = search needs
 
 returns : tie.Need-returns
 returns c = let args = c .before .before .before .before .before .before .before .before .before .before .args in
-      let bits : args .count * 8 % 2 ^ 64 ≡ 8 * args .count % 2 ^ 64 = omega arith in
-      (search needs,
+    let bits : args .count * 8 % 2 ^ 64 ≡ 8 * args .count % 2 ^ 64 = omega arith in (
+      search needs,
       padded-by (args .t1) (c .before .before .before .before .before .before .before .lay .last .0) (c .before .before .before .before .put-word .last .0) (c .before .put-word2 .last .0) (args .fill) (args .end) (args .count * 8 % 2 ^ 64)
-      (omega arith) (omega arith) (omega arith) (omega arith)
-      (c .before .before .before .before .before .before .before .lay .ensures) (c .before .before .before .before .put-word .ensures) (c .before .put-word2 .ensures)
-      ∙ ap (λ x. take (args .fill) (args .t1) ++ ((128 ∷ replicate (args .end - (args .fill + 9)) 0) ++ bytes8 x)) bits)
+          (omega arith) (omega arith) (omega arith) (omega arith)
+          (c .before .before .before .before .before .before .before .lay .ensures) (c .before .before .before .before .put-word .ensures) (c .before .put-word2 .ensures)
+          ∙ ap (λ x. take (args .fill) (args .t1) ++ ((128 ∷ replicate (args .end - (args .fill + 9)) 0) ++ bytes8 x)) bits,
+    )
 
 pub padded-spec : {M : Type 1} → statement M
 padded-spec =

@@ -41,11 +41,11 @@ put-word-requires-5 c κs = search needs
 returns : tie.Need-returns
 unfolding Sha1.spelled
 returns c = laid-words _ _ _ _ _ _ _ _ _ _ _ refl
-      (c .before .before .before .before .before .before .before .before .before .before .before .before .before .put-word .ensures)
-      (c .before .before .before .before .before .before .before .before .before .before .put-word2 .ensures)
-      (c .before .before .before .before .before .before .before .put-word3 .ensures)
-      (c .before .before .before .before .put-word4 .ensures)
-      (c .before .put-word5 .ensures)
+    (c .before .before .before .before .before .before .before .before .before .before .before .before .before .put-word .ensures)
+    (c .before .before .before .before .before .before .before .before .before .before .put-word2 .ensures)
+    (c .before .before .before .before .before .before .before .put-word3 .ensures)
+    (c .before .before .before .before .put-word4 .ensures)
+    (c .before .put-word5 .ensures)
 
 pub spelled-spec : {M : Type 1} → statement M
 spelled-spec =

@@ -33,8 +33,8 @@ absorbed-requires c κs = search needs
 
 returns-2 : tie.Need-returns-2
 returns-2 c = let args = c .before .before .before .before .before .before .before .before .args in
-      topped-by (args .rest) (args .s .now) (c .before .before .before .lay .last .0) (args .fill) (args .h) (c .absorbed .result)
-      (omega arith) (omega arith) (c .before .before .before .before .before .before .if1 .left) (omega arith) (c .before .before .before .lay .ensures) (c .absorbed .ensures)
+    topped-by (args .rest) (args .s .now) (c .before .before .before .lay .last .0) (args .fill) (args .h) (c .absorbed .result)
+    (omega arith) (omega arith) (c .before .before .before .before .before .before .if1 .left) (omega arith) (c .before .before .before .lay .ensures) (c .absorbed .ensures)
 
 pub topped-spec : {M : Type 1} → statement M
 topped-spec =

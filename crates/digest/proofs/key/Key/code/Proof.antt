@@ -1,31 +1,31 @@
+-- `Key::code`: two pieces behind the inner pad, and the end.
+use mathlib.Core.Path.{_∙_}
+use mathlib.Core.List.{[]}
+use Rattle.digest.proofs.Codes.{begun-absorbed, piece, code-is}
 use borrow.Author.Needs.{needs}
 use Rattle.digest.proofs.key.Key.code.Statement.{statement}
 use Rattle.digest.proofs.key.Key.code.Tie as tie
-use Rattle.digest.proofs.key.Key.code.Reads as reads
-use Rattle.digest.proofs.key.Key.code.Lts as lts
-use Rattle.digest.proofs.key.Key.begin.Reads as begin-reads
-use Rattle.digest.proofs.key.Key.end.Reads as end-reads
-use Rattle.digest.proofs.pieces.Hasher.update.Reads as update-reads
 
--- src/key.rt:70:18
 begin-requires : tie.Need-begin-requires
 begin-requires c κs = search needs
 
--- src/key.rt:70:18
 update-requires : tie.Need-update-requires
 update-requires c κs = search needs
 
--- src/key.rt:70:18
 update-requires-2 : tie.Need-update-requires-2
 update-requires-2 c κs = search needs
 
--- src/key.rt:70:9
 end-requires : tie.Need-end-requires
 end-requires c κs = search needs
 
--- src/key.rt:66:5
 returns : tie.Need-returns
-returns c = ?
+returns c = let args = c .before .before .before .before .before .before .args in
+    let g = args .self .inner in
+    let none = begun-absorbed g (c .before .before .before .begin .result) (c .before .before .before .begin .ensures) in
+    let one = piece g _ _ [] _ (c .before .before .update .ensures .0) none in
+    let two = piece g _ _ _ _ (c .before .update2 .ensures .0) one in
+    let exact = c .end .ensures .1 _ two in
+    (exact, λ k e. exact ∙ code-is (args .self) k _ e)
 
 pub code-spec : {M : Type 1} → statement M
 code-spec =

@@ -1,142 +1,130 @@
+-- `Key::expand`: after i turns the first i terms stand in the output, and `a` is A(i + 1); the last term is cut.
+use borrow.Author.Needs.{needs}
+use native.Mathlib.Omega.{arith}
+use Prim.Native.Nat.{_+_, _≤_, _<_, _-_, _*_, _/_}
+use mathlib.Core.Path.{_≡_, refl, sym, ap, _∙_}
+use mathlib.Core.List.{[], _++_}
+use lib.ListN.{length, take}
+use lib.Seq.{length-take-le}
+use Rattle.digest.specs.Hmac.{codeUnder}
+use Rattle.digest.specs.Expansion.{chain, terms, expansion}
+use Rattle.digest.proofs.Codes.{begun-absorbed, length-code}
+use Rattle.digest.proofs.Lay.{length-laid}
+use Rattle.digest.proofs.Terms.{terms-more, chain-first, chain-more, expansion-by, expansion-none, both-expanded}
+use mathlib.Core.Path.{_≡_, refl, sym, ap}
+use mathlib.Core.List.{_++_}
 use Rattle.digest.proofs.key.Key.expand.Statement.{statement}
 use Rattle.digest.proofs.key.Key.expand.Tie as tie
-use Rattle.digest.proofs.key.Key.expand.Reads as reads
-use Rattle.digest.proofs.key.Key.expand.Lts as lts
-use Rattle.digest.proofs.bytes.lay.Reads as lay-reads
-use Rattle.digest.proofs.key.Key.begin.Reads as begin-reads
-use Rattle.digest.proofs.key.Key.end.Reads as end-reads
-use Rattle.digest.proofs.key.seeded.Reads as seeded-reads
-use Rattle.digest.proofs.pieces.Hasher.update.Reads as update-reads
 
 abbrev Inv-loop : tie.InvT-loop
-Inv-loop self label first second third out₀ last a₀ i₀ out a i = ?
+Inv-loop self label first second third out₀ last a₀ i₀ out a i = (i ≤ last) × (0 < length out₀) × (last ≡ (length out₀ - 1) / 20) × (length out ≡ length out₀) × (length a ≡ 20) × (a ≡ chain (codeUnder self) (label ++ (first ++ second ++ third)) (i + 1)) × (take (20 * i) out ≡ terms (codeUnder self) (label ++ (first ++ second ++ third)) i)
 
 abbrev μ-loop : tie.MeasureT-loop
-μ-loop self label first second third out₀ last a₀ i₀ out a i = ?
+μ-loop self label first second third out₀ last a₀ i₀ out a i = last - i
 
--- src/key.rt:86:13
 returns : tie.Need-returns Inv-loop μ-loop
-returns c = ?
+returns c = let args = c .before .before .before .before .before .before .args in
+    both-expanded (args .self) _ _ _ _ (expansion-none _ _ (args .out .now) (c .if1 .taken))
 
--- src/key.rt:88:21
 sub-last : tie.Need-sub-last Inv-loop μ-loop
-sub-last c = ?
+sub-last c = search needs
 
--- src/key.rt:89:34
 begin-requires : tie.Need-begin-requires Inv-loop μ-loop
-begin-requires c κs = ?
+begin-requires c κs = search needs
 
--- src/key.rt:89:21
 seeded-requires : tie.Need-seeded-requires Inv-loop μ-loop
-seeded-requires c κs = ?
+seeded-requires c κs = search needs
 
--- src/key.rt:91:9
 loop-holds : tie.Need-loop-holds Inv-loop μ-loop
-loop-holds c = ?
+unfolding terms
+loop-holds c = let args = c .before .before .before .before .before .before .before .before .args in
+    let mac = codeUnder (args .self) in
+    let seed = args .label .now ++ (args .first .now ++ args .second .now ++ args .third .now) in
+    let first-is = c .seeded .ensures [] (begun-absorbed (args .self .inner) (c .before .begin .result) (c .before .begin .ensures)) in
+    (omega arith, omega (arith, c .before .before .if1 .left), refl, refl, ap length first-is ∙ length-code (args .self) seed, chain-first mac (length-code (args .self)) seed _ first-is, refl)
 
--- src/key.rt:92:37
-begin-requires-2 : tie.Need-begin-requires-2 Inv-loop μ-loop
-begin-requires-2 c κs = ?
+term-requires : tie.Need-term-requires Inv-loop μ-loop
+term-requires c κs = search needs
 
--- src/key.rt:92:57
-slice-aggregate-update : tie.Need-slice-aggregate-update Inv-loop μ-loop
-slice-aggregate-update c = ?
-
--- src/key.rt:92:37
-update-requires : tie.Need-update-requires Inv-loop μ-loop
-update-requires c κs = ?
-
--- src/key.rt:92:24
-seeded-requires-2 : tie.Need-seeded-requires-2 Inv-loop μ-loop
-seeded-requires-2 c κs = ?
-
--- src/key.rt:93:22
 mul-lay : tie.Need-mul-lay Inv-loop μ-loop
-mul-lay c = ?
+mul-lay c = omega (arith, c .before .before .before .loop .inv .0, c .before .before .before .before .before .before .before .before .before .before .before .before .good)
 
--- src/key.rt:93:30
 slice-aggregate-lay : tie.Need-slice-aggregate-lay Inv-loop μ-loop
-slice-aggregate-lay c = ?
+slice-aggregate-lay c = search needs
 
--- src/key.rt:93:13
 lay-requires : tie.Need-lay-requires Inv-loop μ-loop
-lay-requires c κs = ?
+lay-requires c κs = omega (arith, c .before .before .before .loop-test .taken, c .before .before .before .before .loop .inv, ap length (c .before .before .term .ensures), length-code (c .before .before .before .before .before .before .before .before .before .before .before .before .before .args .self) (c .before .before .before .before .loop .a ++ (c .before .before .before .before .before .before .before .before .before .before .before .before .before .args .label .now ++ (c .before .before .before .before .before .before .before .before .before .before .before .before .before .args .first .now ++ c .before .before .before .before .before .before .before .before .before .before .before .before .before .args .second .now ++ c .before .before .before .before .before .before .before .before .before .before .before .before .before .args .third .now))))
 
--- src/key.rt:94:26
-begin-requires-3 : tie.Need-begin-requires-3 Inv-loop μ-loop
-begin-requires-3 c κs = ?
+next-requires : tie.Need-next-requires Inv-loop μ-loop
+next-requires c κs = search needs
 
--- src/key.rt:94:46
-slice-aggregate-update-2 : tie.Need-slice-aggregate-update-2 Inv-loop μ-loop
-slice-aggregate-update-2 c = ?
-
--- src/key.rt:94:26
-update-requires-2 : tie.Need-update-requires-2 Inv-loop μ-loop
-update-requires-2 c κs = ?
-
--- src/key.rt:94:17
-end-requires : tie.Need-end-requires Inv-loop μ-loop
-end-requires c κs = ?
-
--- src/key.rt:95:13
 add-i : tie.Need-add-i Inv-loop μ-loop
-add-i c = ?
+add-i c = omega (arith, c .before .before .before .before .before .before .before .loop-test .taken, c .before .before .before .before .before .before .before .before .before .before .before .before .before .before .before .before .before .good)
 
--- src/key.rt:91:9
 loop-less : tie.Need-loop-less Inv-loop μ-loop
-loop-less c = ?
+loop-less c = omega (arith, c .before .before .before .before .before .before .before .loop-test .taken)
 
--- src/key.rt:91:9
 loop-again : tie.Need-loop-again Inv-loop μ-loop
-loop-again c = ?
+loop-again c = let at = c .before .before .before .before .before .before .before .before .loop in
+    let args = c .before .before .before .before .before .before .before .before .before .before .before .before .before .before .before .before .before .args in
+    let mac = codeUnder (args .self) in
+    let size = length-code (args .self) in
+    let seed = args .label .now ++ (args .first .now ++ args .second .now ++ args .third .now) in
+    let test = c .before .before .before .before .before .before .before .loop-test .taken in
+    let whole = c .before .before .before .before .before .before .term .ensures in
+    let long : length (c .before .before .before .before .before .before .term .result) ≡ 20 = ap length whole ∙ size (at .a ++ seed) in
+    let laid = c .before .before .before .lay .ensures in (
+      omega arith,
+      at .inv .1,
+      refl,
+      ap length laid ∙ length-laid (at .out) (20 * at .i) _ (omega arith) ∙ at .inv .3,
+      ap length (c .next .ensures) ∙ size (at .a),
+      chain-more mac size seed (at .a) _ (at .i) (c .next .ensures) (at .inv .5),
+      ap (take (20 * (at .i + 1))) laid ∙ terms-more mac size seed (at .out) (at .a) _ (at .i) (omega arith) (at .inv .5) whole (at .inv .6),
+    )
 
--- src/key.rt:97:33
-begin-requires-4 : tie.Need-begin-requires-4 Inv-loop μ-loop
-begin-requires-4 c κs = ?
+term-requires-2 : tie.Need-term-requires-2 Inv-loop μ-loop
+term-requires-2 c κs = search needs
 
--- src/key.rt:97:53
-slice-aggregate-update-3 : tie.Need-slice-aggregate-update-3 Inv-loop μ-loop
-slice-aggregate-update-3 c = ?
+mul-at : tie.Need-mul-at Inv-loop μ-loop
+mul-at c = omega (arith, c .before .before .before .before .before .before .before .before .before .before .before .good)
 
--- src/key.rt:97:33
-update-requires-3 : tie.Need-update-requires-3 Inv-loop μ-loop
-update-requires-3 c κs = ?
+sub-cut : tie.Need-sub-cut Inv-loop μ-loop
+sub-cut c = omega (arith, c .before .before .before .loop .inv)
 
--- src/key.rt:97:20
-seeded-requires-3 : tie.Need-seeded-requires-3 Inv-loop μ-loop
-seeded-requires-3 c κs = ?
+array-share-prefix-cut : tie.Need-array-share-prefix-cut Inv-loop μ-loop
+array-share-prefix-cut c = omega (arith, c .before .before .before .loop .inv)
 
--- src/key.rt:98:32
-mul-left : tie.Need-mul-left Inv-loop μ-loop
-mul-left c = ?
-
--- src/key.rt:98:20
-sub-left : tie.Need-sub-left Inv-loop μ-loop
-sub-left c = ?
-
--- src/key.rt:99:18
-mul-lay-2 : tie.Need-mul-lay-2 Inv-loop μ-loop
-mul-lay-2 c = ?
-
--- src/key.rt:99:29
-array-share-prefix-term : tie.Need-array-share-prefix-term Inv-loop μ-loop
-array-share-prefix-term c = ?
-
--- src/key.rt:99:29
 slice-aggregate-lay-2 : tie.Need-slice-aggregate-lay-2 Inv-loop μ-loop
-slice-aggregate-lay-2 c = ?
+slice-aggregate-lay-2 c = let at = c .before .before .before .before .loop in
+    let args = c .before .before .before .before .before .before .before .before .before .before .before .before .before .args in
+    let long = ap length (c .before .before .term2 .ensures) ∙ length-code (args .self) _ in
+    sym (length-take-le _ (c .before .before .term2 .result) (omega (arith, at .inv, long)))
 
--- src/key.rt:99:9
 lay-requires-2 : tie.Need-lay-requires-2 Inv-loop μ-loop
-lay-requires-2 c κs = ?
+lay-requires-2 c κs = let at = c .before .before .before .before .loop in
+    let args = c .before .before .before .before .before .before .before .before .before .before .before .before .before .args in
+    let long = ap length (c .before .before .term2 .ensures) ∙ length-code (args .self) _ in
+    let cut = length-take-le (length (at .out) - 20 * ((length (args .out .now) - 1) / 20)) (c .before .before .term2 .result) (omega (arith, at .inv, long)) in
+    omega (arith, at .inv, cut)
 
--- src/key.rt:74:5
 same-length : tie.Need-same-length Inv-loop μ-loop
-same-length c = ?
+same-length c = c .before .before .lay2 .kept .0 ∙ c .before .before .before .before .before .before .before .loop .inv .3
 
--- src/key.rt:74:5
 returns-2 : tie.Need-returns-2 Inv-loop μ-loop
-returns-2 c = ?
+returns-2 c = let at = c .before .before .before .before .before .before .before .loop in
+    let args = c .before .before .before .before .before .before .before .before .before .before .before .before .before .before .before .before .args in
+    let mac = codeUnder (args .self) in
+    let size = length-code (args .self) in
+    let seed = args .label .now ++ (args .first .now ++ args .second .now ++ args .third .now) in
+    let last = (length (args .out .now) - 1) / 20 in
+    let same : length (at .out) ≡ length (args .out .now) = at .inv .3 in
+    let done : at .i ≡ last = omega (arith, c .before .before .before .before .before .before .loop-test .left, at .inv .0) in
+    both-expanded (args .self) _ (args .label .now) (args .first .now ++ args .second .now ++ args .third .now) (length (args .out .now))
+    (expansion-by mac size seed (at .out) (c .before .before .lay2 .last .0) (at .a) (c .before .before .before .before .before .term2 .result) last
+    (omega (arith, at .inv .1, same)) (ap (λ n. (n - 1) / 20) (sym same)) (at .inv .5 ∙ ap (λ n. chain mac seed (n + 1)) done) (c .before .before .before .before .before .term2 .ensures)
+    (ap (λ n. take (20 * n) (at .out)) (sym done) ∙ at .inv .6 ∙ ap (terms mac seed) done) (c .before .before .lay2 .ensures)
+    ∙ ap (expansion mac seed) same)
 
 pub expand-spec : {M : Type 1} → statement M
 expand-spec =
@@ -149,28 +137,18 @@ expand-spec =
     begin-requires
     seeded-requires
     loop-holds
-    begin-requires-2
-    slice-aggregate-update
-    update-requires
-    seeded-requires-2
+    term-requires
     mul-lay
     slice-aggregate-lay
     lay-requires
-    begin-requires-3
-    slice-aggregate-update-2
-    update-requires-2
-    end-requires
+    next-requires
     add-i
     loop-less
     loop-again
-    begin-requires-4
-    slice-aggregate-update-3
-    update-requires-3
-    seeded-requires-3
-    mul-left
-    sub-left
-    mul-lay-2
-    array-share-prefix-term
+    term-requires-2
+    mul-at
+    sub-cut
+    array-share-prefix-cut
     slice-aggregate-lay-2
     lay-requires-2
     same-length

@@ -1,19 +1,20 @@
+-- `Mac::listed`: the tests are the definition's.
+use Rattle.digest.specs.Mac.{listedAs}
+use Rattle.digest.proofs.Picks.{picks}
 use Rattle.digest.proofs.mac.Mac.listed.Statement.{statement}
 use Rattle.digest.proofs.mac.Mac.listed.Tie as tie
-use Rattle.digest.proofs.mac.Mac.listed.Reads as reads
-use Rattle.digest.proofs.mac.Mac.listed.Lts as lts
 
--- src/mac.rt:54:13
 returns : tie.Need-returns
-returns c = ?
+unfolding listedAs
+returns c = search picks
 
--- src/mac.rt:57:13
 returns-2 : tie.Need-returns-2
-returns-2 c = ?
+unfolding listedAs
+returns-2 c = search picks
 
--- src/mac.rt:50:5
 returns-3 : tie.Need-returns-3
-returns-3 c = ?
+unfolding listedAs
+returns-3 c = search picks
 
 pub listed-spec : {M : Type 1} → statement M
 listed-spec = tie.close (tie.spec returns returns-2 returns-3)

@@ -20,9 +20,9 @@ spelled-requires c κs = search needs
 
 returns : tie.Need-returns
 returns c = let args = c .before .before .before .before .before .before .before .args in
-      both-finished (args .self) (c .spelled .result)
-      (c .spelled .ensures
-      ∙ finished-by (args .self) (c .before .before .before .padded .result) (c .before .absorbed .result) 1 64 refl (omega arith) (omega arith) (c .before .before .before .padded .ensures .1) (c .before .absorbed .ensures))
+    both-finished (args .self) (c .spelled .result)
+    (c .spelled .ensures
+    ∙ finished-by (args .self) (c .before .before .before .padded .result) (c .before .absorbed .result) 1 64 refl (omega arith) (omega arith) (c .before .before .before .padded .ensures .1) (c .before .absorbed .ensures))
 
 padded-requires-2 : tie.Need-padded-requires-2
 padded-requires-2 c κs = search needs
@@ -38,9 +38,9 @@ spelled-requires-2 c κs = search needs
 
 returns-2 : tie.Need-returns-2
 returns-2 c = let args = c .before .before .before .before .before .before .before .args in
-      both-finished (args .self) (c .spelled2 .result)
-      (c .spelled2 .ensures
-      ∙ finished-by (args .self) (c .before .before .before .padded2 .result) (c .before .absorbed2 .result) 2 128 refl (omega arith) (omega arith) (c .before .before .before .padded2 .ensures .1) (c .before .absorbed2 .ensures))
+    both-finished (args .self) (c .spelled2 .result)
+    (c .spelled2 .ensures
+    ∙ finished-by (args .self) (c .before .before .before .padded2 .result) (c .before .absorbed2 .result) 2 128 refl (omega arith) (omega arith) (c .before .before .before .padded2 .ensures .1) (c .before .absorbed2 .ensures))
 
 pub finish-spec : {M : Type 1} → statement M
 finish-spec =

@@ -26,8 +26,8 @@ lay-requires c κs = let whole : length (c .before .before .before .before .befo
 
 returns : tie.Need-returns
 returns c = let args = c .before .before .before .before .before .before .before .before .before .args in
-      both-updated (args .self) _ (args .s .now)
-      (updated-short (args .self) (args .s .now) (c .before .lay .last .0) _ (search needs) (c .before .before .before .if1 .taken) (c .before .lay .ensures) (c .before .before .before .before .wrapping-add-u64 .ensures))
+    both-updated (args .self) _ (args .s .now)
+    (updated-short (args .self) (args .s .now) (c .before .lay .last .0) _ (search needs) (c .before .before .before .if1 .taken) (c .before .lay .ensures) (c .before .before .before .before .wrapping-add-u64 .ensures))
 
 sub-need : tie.Need-sub-need
 sub-need c = search needs
@@ -61,20 +61,20 @@ part-lay-end c = search needs
 
 lay-requires-2 : tie.Need-lay-requires-2
 lay-requires-2 c κs = let args = c .before .before .before .before .before .before .before .before .before .before .args in
-      let whole : length (args .self .rest) ≡ 64 = search (needs, c .before .before .before .before .before .before .before .before .before .before .good .0) in
-      left-over (args .s .now) (args .self .rest) (args .self .count) whole
+    let whole : length (args .self .rest) ≡ 64 = search (needs, c .before .before .before .before .before .before .before .before .before .before .good .0) in
+    left-over (args .s .now) (args .self .rest) (args .self .count) whole
 
 returns-2 : tie.Need-returns-2
 returns-2 c = let args = c .before .before .before .before .before .before .before .before .before .before .before .before .args in
-      let need = (64 - args .self .count % 64) % 64 in
-      let done = need + 64 * ((length (args .s .now) - need) / 64) in
-      let whole : length (args .self .rest) ≡ 64 = search (needs, c .before .before .before .before .before .before .before .before .before .before .before .before .good .0) in
-      both-updated (args .self) _ (args .s .now)
-      (updated-long (args .self) (args .s .now) (c .before .lay2 .last .0) (c .before .before .before .before .before .topped .result) (c .before .before .before .before .absorbed .result) _ _ _ _
-      whole (c .before .before .before .before .before .before .if1 .left) refl refl refl
-      (c .before .before .before .before .before .topped .ensures) (c .before .before .before .before .absorbed .ensures)
-      (c .before .lay2 .ensures ∙ ap (laidOver (args .self .rest) 0) (take-all _ (drop done (args .s .now)) (le-of-eq (length-drop done (args .s .now)))))
-      (c .before .before .before .before .before .before .before .wrapping-add-u64 .ensures))
+    let need = (64 - args .self .count % 64) % 64 in
+    let done = need + 64 * ((length (args .s .now) - need) / 64) in
+    let whole : length (args .self .rest) ≡ 64 = search (needs, c .before .before .before .before .before .before .before .before .before .before .before .before .good .0) in
+    both-updated (args .self) _ (args .s .now)
+    (updated-long (args .self) (args .s .now) (c .before .lay2 .last .0) (c .before .before .before .before .before .topped .result) (c .before .before .before .before .absorbed .result) _ _ _ _
+    whole (c .before .before .before .before .before .before .if1 .left) refl refl refl
+    (c .before .before .before .before .before .topped .ensures) (c .before .before .before .before .absorbed .ensures)
+    (c .before .lay2 .ensures ∙ ap (laidOver (args .self .rest) 0) (take-all _ (drop done (args .s .now)) (le-of-eq (length-drop done (args .s .now)))))
+    (c .before .before .before .before .before .before .before .wrapping-add-u64 .ensures))
 
 pub update-spec : {M : Type 1} → statement M
 update-spec =
