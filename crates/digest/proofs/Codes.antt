@@ -152,6 +152,15 @@ begun-absorbed g h e = subst (λ x. AbsorbedFrom g 64 x []) (sym e) (record { st
 pub piece : (g : State) (h r : Hasher) (m s : List ℕ) → r ≡ updated h s → AbsorbedFrom g 64 h m → AbsorbedFrom g 64 r (m ++ s)
 piece g h r m s e a = subst (λ x. AbsorbedFrom g 64 x (m ++ s)) (sym e) (absorbed-more g 64 h m s refl a)
 
+-- The digest of twenty bytes behind one block.
+pub ended-as : (g : State) (d : List ℕ) → length d ≡ 20
+    → spelled (absorb (d ++ padding 84) (blocksOf (d ++ padding 84)) g) ≡ finished (updated (begun g) d)
+unfolding digestFrom
+ended-as g d l =
+    let h = updated (begun g) d in
+    ap (λ n. spelled (absorb (d ++ padding (64 + n)) (blocksOf (d ++ padding (64 + n))) g)) (sym l)
+    ∙ sym (finished-from g 64 h d refl (piece g (begun g) h [] d refl (begun-absorbed g (begun g) refl)))
+
 pub ended-means : (key : Key) (h : Hasher) (m : List ℕ) → AbsorbedFrom (key .inner) 64 h m → ended (key .outer) h ≡ codeUnder key m
 unfolding codeUnder
 ended-means key h m a =

@@ -170,53 +170,52 @@ absorbed-more g n h m s z a =
 pub both-updated : (h r : Hasher) (s : List ℕ) → r ≡ updated h s → (r ≡ updated h s) × ((m : List ℕ) → Absorbed h m → Absorbed r (m ++ s))
 both-updated h r s e = (e, λ m a. subst (λ x. Absorbed x (m ++ s)) (sym e) (absorbed-more initialState 0 h m s refl a))
 
--- The last blocks as they are written: the bytes that wait, the one, and the two halves of the length.
-pub padded-by : (rest d₁ d₃ d₄ : List ℕ) (fill end x : ℕ) → length rest ≡ 64 → fill < 64 → fill + 9 ≤ end → end ≤ 128
-    → d₁ ≡ laidOver (replicate 128 0) 0 (take fill rest)
-    → d₃ ≡ laidOver (set d₁ fill 128) (end - 8) (bytes4 (x / 4294967296))
+-- The last blocks as they are written: the bytes f that are left, the one, and the two halves of the length.
+pub padded-by : (f d₁ d₃ d₄ : List ℕ) (end x : ℕ) → length f + 9 ≤ end → end ≤ 128
+    → d₁ ≡ laidOver (replicate 128 0) 0 f
+    → d₃ ≡ laidOver (set d₁ (length f) 128) (end - 8) (bytes4 (x / 4294967296))
     → d₄ ≡ laidOver d₃ (end - 4) (bytes4 (x % 4294967296))
-    → take end d₄ ≡ take fill rest ++ ((128 ∷ replicate (end - (fill + 9)) 0) ++ bytes8 x)
+    → take end d₄ ≡ f ++ ((128 ∷ replicate (end - (length f + 9)) 0) ++ bytes8 x)
 unfolding bytes8
-padded-by rest d₁ d₃ d₄ fill end x l b lo hi e₁ e₃ e₄ =
-    let f = take fill rest in
-    let f-size : length f ≡ fill = length-take-le fill rest (omega arith) in
+padded-by f d₁ d₃ d₄ end x lo hi e₁ e₃ e₄ =
     let size₁ : length d₁ ≡ 128
     = ap length e₁ ∙ length-laid (replicate 128 0) 0 f (omega (arith, length-replicate {A = ℕ} 128 0)) in
-    let size₂ : length (set d₁ fill 128) ≡ 128 = length-set d₁ fill 128 ∙ size₁ in
+    let size₂ : length (set d₁ (length f) 128) ≡ 128 = length-set d₁ (length f) 128 ∙ size₁ in
     let size₃ : length d₃ ≡ 128
-    = ap length e₃ ∙ length-laid (set d₁ fill 128) (end - 8) (bytes4 (x / 4294967296)) (omega arith) ∙ size₂ in
+    = ap length e₃ ∙ length-laid (set d₁ (length f) 128) (end - 8) (bytes4 (x / 4294967296)) (omega arith) ∙ size₂ in
     let four : end ≡ end - 4 + 4 = omega arith in
     let eight : end - 4 ≡ end - 8 + 4 = omega arith in
-    let zeros : end - 8 - suc (length f) ≡ end - (fill + 9) = omega arith in
+    let zeros : end - 8 - suc (length f) ≡ end - (length f + 9) = omega arith in
     ap (take end) e₄
     ∙ laid-front d₃ (end - 4) end (bytes4 (x % 4294967296)) (omega arith) four
     ∙ ap (λ y. y ++ bytes4 (x % 4294967296))
     (ap (take (end - 4)) e₃
-    ∙ laid-front (set d₁ fill 128) (end - 8) (end - 4) (bytes4 (x / 4294967296)) (omega arith) eight
+    ∙ laid-front (set d₁ (length f) 128) (end - 8) (end - 4) (bytes4 (x / 4294967296)) (omega arith) eight
     ∙ ap (λ y. y ++ bytes4 (x / 4294967296))
-    (ap (λ k. take (end - 8) (set d₁ k 128)) (sym f-size)
-    ∙ marked f d₁ 128 (end - 8) 128 (omega arith) (omega arith) (omega arith) e₁
+    (marked f d₁ 128 (end - 8) 128 (omega arith) (omega arith) (omega arith) e₁
     ∙ ap (λ k. f ++ (128 ∷ replicate k 0)) zeros))
-    ∙ ap (λ y. y ++ bytes4 (x % 4294967296)) (append-assoc f (128 ∷ replicate (end - (fill + 9)) 0) (bytes4 (x / 4294967296)))
-    ∙ append-assoc f ((128 ∷ replicate (end - (fill + 9)) 0) ++ bytes4 (x / 4294967296)) (bytes4 (x % 4294967296))
-    ∙ ap (λ y. f ++ y) (append-assoc (128 ∷ replicate (end - (fill + 9)) 0) (bytes4 (x / 4294967296)) (bytes4 (x % 4294967296)))
+    ∙ ap (λ y. y ++ bytes4 (x % 4294967296)) (append-assoc f (128 ∷ replicate (end - (length f + 9)) 0) (bytes4 (x / 4294967296)))
+    ∙ append-assoc f ((128 ∷ replicate (end - (length f + 9)) 0) ++ bytes4 (x / 4294967296)) (bytes4 (x % 4294967296))
+    ∙ ap (λ y. f ++ y) (append-assoc (128 ∷ replicate (end - (length f + 9)) 0) (bytes4 (x / 4294967296)) (bytes4 (x % 4294967296)))
 
--- The last blocks: d holds the bytes that wait and the padding.
-pub finished-by : (h : Hasher) (d : List ℕ) (g : State) (n end : ℕ) → end ≡ 64 * n → end ≤ length d
-    → end - (h .count % 64 + 9) ≡ (119 - h .count % 64) % 64
-    → take end d ≡ waiting h ++ ((128 ∷ replicate (end - (h .count % 64 + 9)) 0) ++ bytes8 (8 * h .count % 2 ^ 64))
-    → g ≡ absorb (drop 0 d) n (h .state) → spelled g ≡ finished h
-unfolding finished padding
-finished-by h d g n end e b z t eg =
-    let p = waiting h ++ padding (h .count) in
-    let p-is : take end d ≡ p = t ∙ ap (λ x. waiting h ++ ((128 ∷ replicate x 0) ++ bytes8 (8 * h .count % 2 ^ 64))) z in
-    let size : length p ≡ end = sym (ap length p-is) ∙ length-take-le end d b in
+-- The last blocks: n of them in d hold the bytes f that are left of c, and the padding.
+pub ended-by : (f d : List ℕ) (h g : State) (c n : ℕ) → length f ≡ c % 64 → n ≡ (length f + 72) / 64 → 64 * n ≤ length d
+    → take (64 * n) d ≡ f ++ ((128 ∷ replicate (64 * n - (length f + 9)) 0) ++ bytes8 (8 * c % 2 ^ 64))
+    → g ≡ absorb (drop 0 d) n h → g ≡ absorb (f ++ padding c) (blocksOf (f ++ padding c)) h
+unfolding padding
+ended-by f d h g c n l en b t eg =
+    let p = f ++ padding c in
+    let zeros : 64 * n - (length f + 9) ≡ (119 - c % 64) % 64 = zeros-are (length f) (c % 64) n l en (omega arith) in
+    let p-is : take (64 * n) d ≡ p = t ∙ ap (λ x. f ++ ((128 ∷ replicate x 0) ++ bytes8 (8 * c % 2 ^ 64))) zeros in
+    let size : length p ≡ 64 * n = sym (ap length p-is) ∙ length-take-le (64 * n) d b in
     let all : n ≡ blocksOf p = omega arith in
-    ap spelled
-    (eg
-    ∙ ap (λ x. absorb x n (h .state)) (sym (take-append-drop end d))
-    ∙ absorb-front (take end d) (drop end d) n (h .state) (omega (arith, length-take-le end d b))
-    ∙ ap₂ (λ x y. absorb x y (h .state)) p-is all)
+    eg
+    ∙ ap (λ x. absorb x n h) (sym (take-append-drop (64 * n) d))
+    ∙ absorb-front (take (64 * n) d) (drop (64 * n) d) n h (omega (arith, length-take-le (64 * n) d b))
+    ∙ ap₂ (λ x y. absorb x y h) p-is all
+  where
+    zeros-are : (fill m n : ℕ) → fill ≡ m → n ≡ (fill + 72) / 64 → m < 64 → 64 * n - (fill + 9) ≡ (119 - m) % 64
+    zeros-are fill m n e en h = omega arith
 
 -- What the end means: the digest of the message.
 pub finished-from : (g : State) (n : ℕ) (h : Hasher) (m : List ℕ) → n % 64 ≡ 0 → AbsorbedFrom g n h m → finished h ≡ digestFrom g n m

@@ -13,6 +13,7 @@ use crate::block::absorbed;
 use crate::block::initial;
 use crate::bytes::lay;
 use crate::pieces::Hasher;
+use crate::pieces::ending;
 use crate::pieces::sha1;
 
 // A key with both pads absorbed, so that codes under one key do not absorb them again. Every value of it is safe.
@@ -53,13 +54,8 @@ impl Key {
         ensures meaning { λ r. ⌜ ((m : List ℕ) → AbsorbedFrom (self .inner) 64 h m → r ≡ codeUnder self m) ⌝ }
     {
         let digest = h.finish();
-        let state = self.outer;
-        let last = Hasher {
-            state,
-            rest: [0; 64],
-            count: 64,
-        };
-        last.update(&digest).finish()
+        let outer = self.outer;
+        ending(outer, &digest, 84)
     }
 
     // The code of a message in two pieces.

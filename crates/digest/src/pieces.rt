@@ -1,11 +1,10 @@
 // SHA-1 over messages that come in pieces (FIPS 180-1).
-ghost use Prim.Native.Nat.{ℕ, _+_, _-_, _*_, _/_, _%_, _^_, _<_, _≤_};
+ghost use Prim.Native.Nat.{ℕ, _+_, _/_, _%_, _<_, _≤_};
 ghost use mathlib.Core.Path.{_≡_};
-ghost use mathlib.Core.List.{List, _∷_, _++_};
-ghost use lib.ListN.{length, take, replicate};
-ghost use Rattle.digest.specs.Bytes.{bytes8};
+ghost use mathlib.Core.List.{List, _++_};
+ghost use lib.ListN.{length, take};
 ghost use Rattle.digest.specs.Sha1 as Sha1;
-ghost use Rattle.digest.specs.Sha1.{absorb};
+ghost use Rattle.digest.specs.Sha1.{absorb, blocksOf, padding};
 ghost use Rattle.digest.specs.Hasher.{freshHasher, updated, finished, Absorbed};
 use crate::block::State;
 use crate::block::absorbed;
@@ -60,7 +59,7 @@ impl Hasher {
         }
     }
 
-    // The digest of all that came: the padding behind it, and the last block or two.
+    // The digest of all that came.
     pub fn finish(self) -> [u8; 20]
         ensures exact { λ r. ⌜ r ≡ finished self ⌝ }
         ensures meaning { λ r. ⌜ ((m : List ℕ) → Absorbed self m → r ≡ Sha1.sha1 m) ⌝ }
@@ -69,12 +68,7 @@ impl Hasher {
         let state = self.state;
         let count = self.count;
         let fill = (count % 64) as usize;
-        if fill < 56 {
-            let one = padded(rest, fill, 64, count);
-            return spelled(absorbed(state, &one, 0, 1));
-        }
-        let two = padded(rest, fill, 128, count);
-        spelled(absorbed(state, &two, 0, 2))
+        ending(state, &rest[..fill], count)
     }
 }
 
@@ -98,18 +92,22 @@ fn topped(h: State, rest: [u8; 64], fill: usize, s: &[u8]) -> State
     absorbed(h, &block, 0, 1)
 }
 
-// The first `fill` bytes of rest, a one, zeros, and the length in bits in the last eight bytes before `end`.
-fn padded(rest: [u8; 64], fill: usize, end: usize, count: u64) -> [u8; 128]
-    requires { ⌜ (length rest ≡ 64) × (fill < 64) × (fill + 9 ≤ end) × (end ≤ 128) ⌝ }
-    ensures { λ r. ⌜ (length r ≡ 128) × (take end r ≡ take fill rest ++ ((128 ∷ replicate (end - (fill + 9)) 0) ++ bytes8 (8 * count % 2 ^ 64))) ⌝ }
+// The digest from the state h on, with the bytes s left of `count` in all: behind s a one, zeros, and the length in
+// bits in the last eight bytes of a block.
+pub(crate) fn ending(h: State, s: &[u8], count: u64) -> [u8; 20]
+    requires { ⌜ length (now s) ≡ count % 64 ⌝ }
+    ensures { λ r. ⌜ r ≡ Sha1.spelled (absorb (now (s .entry) ++ padding count) (blocksOf (now (s .entry) ++ padding count)) h) ⌝ }
 {
     let mut d = [0u8; 128];
-    lay(&mut d, 0, &rest[..fill]);
+    lay(&mut d, 0, s);
+    let fill = s.len();
     d[fill] = 128;
+    let blocks = (fill + 72) / 64;
+    let end = 64 * blocks;
     let bits = count << 3;
     put_word(&mut d, end - 8, (bits / 4294967296) as u32);
     put_word(&mut d, end - 4, (bits % 4294967296) as u32);
-    d
+    spelled(absorbed(h, &d, 0, blocks))
 }
 
 // The five words, each as four bytes.

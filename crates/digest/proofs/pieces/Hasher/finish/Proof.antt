@@ -1,58 +1,28 @@
--- `Hasher::finish`: one block or two hold what waits and the padding. The meaning follows from the exact outcome.
-use mathlib.Core.Path.{refl, _∙_}
-use Rattle.digest.proofs.Hashing.{finished-by, both-finished}
-use borrow.Author.Needs.{needs}
+-- `Hasher::finish`: what waits is what is left. The meaning follows from the exact outcome.
+use mathlib.Core.Path.{_≡_, sym}
+use lib.ListN.{length}
+use lib.Seq.{length-take-le}
 use native.Mathlib.Omega.{arith}
+use borrow.Author.Needs.{needs}
+use Rattle.digest.specs.Hasher.{finished}
+use Rattle.digest.proofs.Hashing.{both-finished}
 use Rattle.digest.proofs.pieces.Hasher.finish.Statement.{statement}
 use Rattle.digest.proofs.pieces.Hasher.finish.Tie as tie
 
-padded-requires : tie.Need-padded-requires
-padded-requires c κs = search needs
+array-share-prefix-rest : tie.Need-array-share-prefix-rest
+array-share-prefix-rest c = let whole : length (c .before .before .args .self .rest) ≡ 64 = search needs in omega arith
 
-slice-aggregate-absorbed : tie.Need-slice-aggregate-absorbed
-slice-aggregate-absorbed c = search needs
+slice-aggregate-ending : tie.Need-slice-aggregate-ending
+slice-aggregate-ending c = let whole : length (c .before .before .before .args .self .rest) ≡ 64 = search needs in sym (length-take-le _ _ (omega arith))
 
-absorbed-requires : tie.Need-absorbed-requires
-absorbed-requires c κs = search needs
-
-spelled-requires : tie.Need-spelled-requires
-spelled-requires c κs = search needs
+ending-requires : tie.Need-ending-requires
+ending-requires c κs = let whole : length (c .before .before .before .args .self .rest) ≡ 64 = search needs in length-take-le _ _ (omega arith)
 
 returns : tie.Need-returns
-returns c = let args = c .before .before .before .before .before .before .before .args in
-    both-finished (args .self) (c .spelled .result)
-    (c .spelled .ensures
-    ∙ finished-by (args .self) (c .before .before .before .padded .result) (c .before .absorbed .result) 1 64 refl (omega arith) (omega arith) (c .before .before .before .padded .ensures .1) (c .before .absorbed .ensures))
-
-padded-requires-2 : tie.Need-padded-requires-2
-padded-requires-2 c κs = search needs
-
-slice-aggregate-absorbed-2 : tie.Need-slice-aggregate-absorbed-2
-slice-aggregate-absorbed-2 c = search needs
-
-absorbed-requires-2 : tie.Need-absorbed-requires-2
-absorbed-requires-2 c κs = search needs
-
-spelled-requires-2 : tie.Need-spelled-requires-2
-spelled-requires-2 c κs = search needs
-
-returns-2 : tie.Need-returns-2
-returns-2 c = let args = c .before .before .before .before .before .before .before .args in
-    both-finished (args .self) (c .spelled2 .result)
-    (c .spelled2 .ensures
-    ∙ finished-by (args .self) (c .before .before .before .padded2 .result) (c .before .absorbed2 .result) 2 128 refl (omega arith) (omega arith) (c .before .before .before .padded2 .ensures .1) (c .before .absorbed2 .ensures))
+unfolding finished
+returns c = let args = c .before .before .before .before .args in
+    both-finished (args .self) (c .ending .result) (c .ending .ensures)
 
 pub finish-spec : {M : Type 1} → statement M
 finish-spec =
-    tie.close
-    (tie.spec
-    padded-requires
-    slice-aggregate-absorbed
-    absorbed-requires
-    spelled-requires
-    returns
-    padded-requires-2
-    slice-aggregate-absorbed-2
-    absorbed-requires-2
-    spelled-requires-2
-    returns-2)
+    tie.close (tie.spec array-share-prefix-rest slice-aggregate-ending ending-requires returns)
