@@ -6,7 +6,7 @@ use native.Mathlib.Omega.{arith}
 use native.Mathlib.Nat.{add-zero, add-suc}
 use native.Mathlib.Numerals.{add-one}
 use lib.ListN.{length, take, drop, getD, set, length-append, List·getD-append}
-use lib.Seq.{take-suc-set, getD-take, getD-drop}
+use lib.Seq.{take-suc-set, getD-take, getD-drop, getD-at}
 use lib.Bits.{bitAnd, bitOr, bitXor}
 use Rattle.digest.proofs.Picks.{picks}
 use Rattle.digest.specs.Bytes.{wordAt}
@@ -49,7 +49,7 @@ length-words s (suc n) = length-append (words s n) (wordAt s (4 * n) ∷ []) ∙
 back : (v : List ℕ) (t j i : ℕ) → i + j ≡ t + 16 → 0 < j → getD (take (t + 16) v) (16 + t - j) 0 ≡ getD v i 0
 back v t j i e h = getD-take (t + 16) v (16 + t - j) 0 (omega arith) ∙ ap (λ x. getD v x 0) (omega arith)
 
-next-from : (v m : List ℕ) (t : ℕ) → take (t + 16) v ≡ schedule m t
+pub next-from : (v m : List ℕ) (t : ℕ) → take (t + 16) v ≡ schedule m t
     → shifted 1 (bitXor (bitXor (bitXor (getD v (t + 13) 0) (getD v (t + 8) 0)) (getD v (t + 2) 0)) (getD v t 0)) ≡ nextWord (schedule m t) (16 + t)
 unfolding nextWord
 next-from v m t e =
@@ -58,17 +58,6 @@ next-from v m t e =
     let e14 : getD (take (t + 16) v) (16 + t - 14) 0 ≡ getD v (t + 2) 0 = back v t 14 (t + 2) (omega arith) (omega arith) in
     let e16 : getD (take (t + 16) v) (16 + t - 16) 0 ≡ getD v t 0 = back v t 16 t (omega arith) (omega arith) in
     cc
-
-pub schedule-more : (v m : List ℕ) (t x : ℕ) → t + 16 < length v
-    → x ≡ shifted 1 (bitXor (bitXor (bitXor (getD v (t + 13) 0) (getD v (t + 8) 0)) (getD v (t + 2) 0)) (getD v t 0))
-    → take (t + 16) v ≡ schedule m t → take (t + 1 + 16) (set v (t + 16) x) ≡ schedule m (t + 1)
-unfolding schedule
-schedule-more v m t x l ex e =
-    let e1 : t + 1 + 16 ≡ t + 16 + 1 = omega arith in
-    ap (λ n. take n (set v (t + 16) x)) e1
-    ∙ fill-step v (schedule m t) (t + 16) x l e
-    ∙ ap (λ y. schedule m t ++ (y ∷ [])) (ex ∙ next-from v m t e)
-    ∙ sym (ap (schedule m) (add-one t))
 
 -- The functions and constants of the four phases.
 pub f-first : (t b c d : ℕ) → t < 20 → bitOr (bitAnd b c) (bitAnd (inverted b) d) ≡ f t b c d
@@ -144,16 +133,46 @@ rounds-within m w n t g l h b e =
     ∙ schedule-front m n (64 - n) i (omega arith)
     ∙ ap (λ x. getD (schedule m x) i 0) whole)
 
--- The four phases make the eighty rounds, over a schedule that grows between them.
-pub four-phases : (m w₁ w₂ w₃ w₄ : List ℕ) (h h₁ h₂ h₃ h₄ : State) → length m ≡ 16
-    → take 20 w₁ ≡ schedule m 4 → take 40 w₂ ≡ schedule m 24 → take 60 w₃ ≡ schedule m 44 → take 80 w₄ ≡ schedule m 64
-    → h₁ ≡ rounds w₁ 20 h
-    → (h₁ ≡ rounds w₂ 20 h → h₂ ≡ rounds w₂ 40 h)
-    → (h₂ ≡ rounds w₃ 40 h → h₃ ≡ rounds w₃ 60 h)
-    → (h₃ ≡ rounds w₄ 60 h → h₄ ≡ rounds w₄ 80 h)
-    → h₄ ≡ rounds (schedule m 64) 80 h
-four-phases m w₁ w₂ w₃ w₄ h h₁ h₂ h₃ h₄ l e₁ e₂ e₃ e₄ p₁ p₂ p₃ p₄ =
-    let q₁ = p₁ ∙ rounds-within m w₁ 4 20 h l (omega arith) (omega arith) e₁ in
-    let q₂ = p₂ (q₁ ∙ sym (rounds-within m w₂ 24 20 h l (omega arith) (omega arith) e₂)) ∙ rounds-within m w₂ 24 40 h l (omega arith) (omega arith) e₂ in
-    let q₃ = p₃ (q₂ ∙ sym (rounds-within m w₃ 44 40 h l (omega arith) (omega arith) e₃)) ∙ rounds-within m w₃ 44 60 h l (omega arith) (omega arith) e₃ in
-    p₄ (q₃ ∙ sym (rounds-within m w₄ 64 60 h l (omega arith) (omega arith) e₄)) ∙ rounds-within m w₄ 64 80 h l (omega arith) (omega arith) e₄
+-- A block on its way. The sixteen words of the block and the first sixteen rounds:
+schedule-none : (m : List ℕ) → schedule m 0 ≡ m
+unfolding schedule
+schedule-none m = refl
+
+rounds-none : (w : List ℕ) (h : State) → h ≡ rounds w 0 h
+unfolding rounds
+rounds-none w h = refl
+
+pub begun-rounds : (m w : List ℕ) (h g : State) → length m ≡ 16 → take 16 w ≡ m → (h ≡ rounds w 0 h → g ≡ rounds w 16 h)
+    → (take (0 + 16) w ≡ schedule m 0) × (g ≡ rounds (schedule m 64) (0 + 16) h)
+begun-rounds m w h g l e p =
+    let first : take (0 + 16) w ≡ schedule m 0 = e ∙ sym (schedule-none m) in
+    (first, p (rounds-none w h) ∙ rounds-within m w 0 16 h l (omega arith) (omega arith) first)
+
+-- one word of the schedule and one round more:
+last-word : (m : List ℕ) (t : ℕ) → length m ≡ 16 → getD (schedule m (suc t)) (t + 16) 0 ≡ nextWord (schedule m t) (16 + t)
+unfolding schedule
+last-word m t l =
+    getD-at (schedule m t) (nextWord (schedule m t) (16 + t)) [] 0 (t + 16) (length-schedule m t ∙ omega arith)
+
+word-of : (m : List ℕ) (t : ℕ) → length m ≡ 16 → t < 64 → nextWord (schedule m t) (16 + t) ≡ getD (schedule m 64) (t + 16) 0
+word-of m t l h =
+    let whole : suc t + (63 - t) ≡ 64 = omega arith in
+    sym (last-word m t l)
+    ∙ schedule-front m (suc t) (63 - t) (t + 16) (omega arith)
+    ∙ ap (λ n. getD (schedule m n) (t + 16) 0) whole
+
+pub late-more : (m v : List ℕ) (t x : ℕ) (h g r : State) → length m ≡ 16 → length v ≡ 80 → t < 64
+    → (take (t + 16) v ≡ schedule m t) × (g ≡ rounds (schedule m 64) (t + 16) h)
+    → (take (t + 16) v ≡ schedule m t → x ≡ nextWord (schedule m t) (16 + t)) → r ≡ round (t + 16) x g
+    → (take (t + 1 + 16) (set v (t + 16) x) ≡ schedule m (t + 1)) × (r ≡ rounds (schedule m 64) (t + 1 + 16) h)
+unfolding schedule
+late-more m v t x h g r l lv b p next e =
+    let word = next (p .0) in
+    let one : t + 1 + 16 ≡ t + 16 + 1 = omega arith in (
+      ap (λ n. take n (set v (t + 16) x)) one
+          ∙ fill-step v (schedule m t) (t + 16) x (omega arith) (p .0)
+          ∙ ap (λ y. schedule m t ++ (y ∷ [])) word
+          ∙ sym (ap (schedule m) (add-one t)),
+      round-more (schedule m 64) (t + 16) h g r (e ∙ ap (λ y. round (t + 16) y g) (word ∙ word-of m t l b)) (p .1)
+          ∙ ap (λ n. rounds (schedule m 64) n h) (sym one),
+    )

@@ -8,7 +8,8 @@ ghost use mathlib.Core.List.{List};
 ghost use lib.ListN.{length, take, drop};
 ghost use lib.Bits.{bitAnd, bitOr, bitXor};
 ghost use Rattle.digest.specs.Bytes.{wordAt};
-ghost use Rattle.digest.specs.Sha1.{shifted, f, k, initialState, words, schedule, round, rounds, joined, compress, absorb};
+ghost use Rattle.digest.specs.Sha1 as Sha1;
+ghost use Rattle.digest.specs.Sha1.{shifted, f, k, initialState, nextWord, schedule, round, rounds, joined, compress, absorb};
 use std::num::wrapping_add_u32;
 
 // The five words of FIPS 180-1 section 7.
@@ -18,6 +19,12 @@ pub struct State {
     pub c: u32,
     pub d: u32,
     pub e: u32,
+}
+
+// A block on its way: the state after some rounds, and the words of the schedule up to there.
+struct Midway {
+    state: State,
+    words: [u32; 80],
 }
 
 // The words that the computation starts with.
@@ -52,15 +59,14 @@ fn compressed(h: State, s: &[u8], at: usize) -> State
     requires { ⌜ at + 64 ≤ length (now s) ⌝ }
     ensures { λ r. ⌜ r ≡ compress (take 64 (drop at (now (s .entry)))) h ⌝ }
 {
-    let first = longer(loaded(s, at), 0, 4);
-    let one = phase1(h, first, 0, 20);
-    let second = longer(first, 4, 24);
-    let two = phase2(one, second, 20, 40);
-    let third = longer(second, 24, 44);
-    let three = phase3(two, third, 40, 60);
-    let fourth = longer(third, 44, 64);
-    let four = phase4(three, fourth, 60, 80);
-    added(h, four)
+    let words = loaded(s, at);
+    let state = phase1(h, words, 0, 16);
+    let one = late1(Midway { state, words }, 0, 4);
+    let two = late2(late2(one, 4, 14), 14, 24);
+    let three = late3(late3(two, 24, 34), 34, 44);
+    let four = late4(late4(three, 44, 54), 54, 64);
+    let last = four.state;
+    added(h, last)
 }
 
 // Step e: the words of the two states, added.
@@ -79,7 +85,7 @@ fn added(g: State, h: State) -> State
 // Step a: the block's sixteen words, with room for the others.
 fn loaded(s: &[u8], at: usize) -> [u32; 80]
     requires { ⌜ at + 64 ≤ length (now s) ⌝ }
-    ensures { λ r. ⌜ (length r ≡ 80) × (take 16 r ≡ words (take 64 (drop at (now (s .entry)))) 16) ⌝ }
+    ensures { λ r. ⌜ (length r ≡ 80) × (take 16 r ≡ Sha1.words (take 64 (drop at (now (s .entry)))) 16) ⌝ }
 {
     let mut w = [0u32; 80];
     let mut i: usize = 0;
@@ -104,21 +110,6 @@ fn wide(x: u8) -> u32
     x as u32
 }
 
-// Step b: the words from + 16 to end + 16 of the schedule.
-fn longer(w: [u32; 80], from: usize, end: usize) -> [u32; 80]
-    requires { ⌜ (length w ≡ 80) × (from ≤ end) × (end ≤ 64) ⌝ }
-    ensures { λ r. ⌜ length r ≡ 80 ⌝ }
-    ensures { λ r. ⌜ ((m : List ℕ) → take (from + 16) w ≡ schedule m from → take (end + 16) r ≡ schedule m end) ⌝ }
-{
-    let mut v = w;
-    let mut t = from;
-    while t < end {
-        v[t + 16] = rotated(v[t + 13] ^ v[t + 8] ^ v[t + 2] ^ v[t], 1);
-        t += 1;
-    }
-    v
-}
-
 // Rounds `from` to `end` of the first twenty.
 fn phase1(h: State, w: [u32; 80], from: usize, end: usize) -> State
     requires { ⌜ (length w ≡ 80) × (from ≤ end) × (end ≤ 20) ⌝ }
@@ -133,46 +124,80 @@ fn phase1(h: State, w: [u32; 80], from: usize, end: usize) -> State
     g
 }
 
-// Rounds `from` to `end` of the second twenty.
-fn phase2(h: State, w: [u32; 80], from: usize, end: usize) -> State
-    requires { ⌜ (length w ≡ 80) × (20 ≤ from) × (from ≤ end) × (end ≤ 40) ⌝ }
-    ensures { λ r. ⌜ ((g : State) → h ≡ rounds w from g → r ≡ rounds w end g) ⌝ }
+// Step b: word t + 16 of the schedule.
+fn next(w: [u32; 80], t: usize) -> u32
+    requires { ⌜ (length w ≡ 80) × (t < 64) ⌝ }
+    ensures { λ r. ⌜ ((m : List ℕ) → take (t + 16) w ≡ schedule m t → r ≡ nextWord (schedule m t) (16 + t)) ⌝ }
 {
-    let mut g = h;
-    let mut t = from;
-    while t < end {
-        g = turned(g, g.b ^ g.c ^ g.d, w[t], 0x6ed9eba1);
-        t += 1;
-    }
-    g
+    rotated(w[t + 13] ^ w[t + 8] ^ w[t + 2] ^ w[t], 1)
 }
 
-// Rounds `from` to `end` of the third twenty.
-fn phase3(h: State, w: [u32; 80], from: usize, end: usize) -> State
-    requires { ⌜ (length w ≡ 80) × (40 ≤ from) × (from ≤ end) × (end ≤ 60) ⌝ }
-    ensures { λ r. ⌜ ((g : State) → h ≡ rounds w from g → r ≡ rounds w end g) ⌝ }
+// The last of the first twenty rounds, each with its word: from + 16 to end + 16.
+fn late1(p: Midway, from: usize, end: usize) -> Midway
+    requires { ⌜ (from ≤ end) × (end ≤ 4) ⌝ }
+    ensures { λ r. ⌜ ((m : List ℕ) (h : State) → length m ≡ 16 → take (from + 16) (p .words) ≡ schedule m from → p .state ≡ rounds (schedule m 64) (from + 16) h → (take (end + 16) (r .words) ≡ schedule m end) × (r .state ≡ rounds (schedule m 64) (end + 16) h)) ⌝ }
 {
-    let mut g = h;
+    let mut g = p.state;
+    let mut w = p.words;
     let mut t = from;
     while t < end {
-        g = turned(g, (g.b & g.c) | (g.b & g.d) | (g.c & g.d), w[t], 0x8f1bbcdc);
+        let x = next(w, t);
+        w[t + 16] = x;
+        g = turned(g, (g.b & g.c) | (!g.b & g.d), x, 0x5a827999);
         t += 1;
     }
-    g
+    Midway { state: g, words: w }
 }
 
-// Rounds `from` to `end` of the last twenty.
-fn phase4(h: State, w: [u32; 80], from: usize, end: usize) -> State
-    requires { ⌜ (length w ≡ 80) × (60 ≤ from) × (from ≤ end) × (end ≤ 80) ⌝ }
-    ensures { λ r. ⌜ ((g : State) → h ≡ rounds w from g → r ≡ rounds w end g) ⌝ }
+// Rounds of the second twenty, each with its word: from + 16 to end + 16.
+fn late2(p: Midway, from: usize, end: usize) -> Midway
+    requires { ⌜ (4 ≤ from) × (from ≤ end) × (end ≤ 24) ⌝ }
+    ensures { λ r. ⌜ ((m : List ℕ) (h : State) → length m ≡ 16 → take (from + 16) (p .words) ≡ schedule m from → p .state ≡ rounds (schedule m 64) (from + 16) h → (take (end + 16) (r .words) ≡ schedule m end) × (r .state ≡ rounds (schedule m 64) (end + 16) h)) ⌝ }
 {
-    let mut g = h;
+    let mut g = p.state;
+    let mut w = p.words;
     let mut t = from;
     while t < end {
-        g = turned(g, g.b ^ g.c ^ g.d, w[t], 0xca62c1d6);
+        let x = next(w, t);
+        w[t + 16] = x;
+        g = turned(g, g.b ^ g.c ^ g.d, x, 0x6ed9eba1);
         t += 1;
     }
-    g
+    Midway { state: g, words: w }
+}
+
+// Rounds of the third twenty, each with its word: from + 16 to end + 16.
+fn late3(p: Midway, from: usize, end: usize) -> Midway
+    requires { ⌜ (24 ≤ from) × (from ≤ end) × (end ≤ 44) ⌝ }
+    ensures { λ r. ⌜ ((m : List ℕ) (h : State) → length m ≡ 16 → take (from + 16) (p .words) ≡ schedule m from → p .state ≡ rounds (schedule m 64) (from + 16) h → (take (end + 16) (r .words) ≡ schedule m end) × (r .state ≡ rounds (schedule m 64) (end + 16) h)) ⌝ }
+{
+    let mut g = p.state;
+    let mut w = p.words;
+    let mut t = from;
+    while t < end {
+        let x = next(w, t);
+        w[t + 16] = x;
+        g = turned(g, (g.b & g.c) | (g.b & g.d) | (g.c & g.d), x, 0x8f1bbcdc);
+        t += 1;
+    }
+    Midway { state: g, words: w }
+}
+
+// Rounds of the last twenty, each with its word: from + 16 to end + 16.
+fn late4(p: Midway, from: usize, end: usize) -> Midway
+    requires { ⌜ (44 ≤ from) × (from ≤ end) × (end ≤ 64) ⌝ }
+    ensures { λ r. ⌜ ((m : List ℕ) (h : State) → length m ≡ 16 → take (from + 16) (p .words) ≡ schedule m from → p .state ≡ rounds (schedule m 64) (from + 16) h → (take (end + 16) (r .words) ≡ schedule m end) × (r .state ≡ rounds (schedule m 64) (end + 16) h)) ⌝ }
+{
+    let mut g = p.state;
+    let mut w = p.words;
+    let mut t = from;
+    while t < end {
+        let x = next(w, t);
+        w[t + 16] = x;
+        g = turned(g, g.b ^ g.c ^ g.d, x, 0xca62c1d6);
+        t += 1;
+    }
+    Midway { state: g, words: w }
 }
 
 // Step d, with the values of f, W and K for round t given.

@@ -1,0 +1,80 @@
+-- `block::late4`: each turn is a word of the schedule and a round, with the function and the constant of its twenty.
+use Prim.Native.Nat.{ℕ, _+_, _-_, _≤_}
+use mathlib.Core.Path.{_≡_, _∙_}
+use mathlib.Core.List.{List}
+use lib.ListN.{length, take, length-set}
+use Rattle.digest.specs.Sha1.{schedule, rounds}
+use Rattle.digest.specs.declared.block.State.{State}
+use Rattle.digest.proofs.Rounds.{late-more, f-fourth, k-fourth}
+use borrow.Author.Needs.{needs}
+use native.Mathlib.Omega.{arith}
+use Rattle.digest.proofs.block.late4.Statement.{statement}
+use Rattle.digest.proofs.block.late4.Tie as tie
+
+abbrev Inv-loop : tie.InvT-loop
+Inv-loop from end g₀ w₀ t₀ g w t =
+    (from ≤ t)
+    × (t ≤ end)
+    × (length w ≡ 80)
+    × ((m : List ℕ) (h : State) → length m ≡ 16 → take (from + 16) w₀ ≡ schedule m from → g₀ ≡ rounds (schedule m 64) (from + 16) h
+    → (take (t + 16) w ≡ schedule m t) × (g ≡ rounds (schedule m 64) (t + 16) h))
+
+abbrev μ-loop : tie.MeasureT-loop
+μ-loop from end g₀ w₀ t₀ g w t = end - t
+
+loop-holds : tie.Need-loop-holds Inv-loop μ-loop
+loop-holds c = (omega arith, omega arith, search needs, λ m h l e p. (e, p))
+
+next-requires : tie.Need-next-requires Inv-loop μ-loop
+next-requires c κs = search needs
+
+add-w : tie.Need-add-w Inv-loop μ-loop
+add-w c = search needs
+
+mul-w : tie.Need-mul-w Inv-loop μ-loop
+mul-w c = search needs
+
+array-write-w : tie.Need-array-write-w Inv-loop μ-loop
+array-write-w c = search needs
+
+turned-requires : tie.Need-turned-requires Inv-loop μ-loop
+turned-requires c κs = search needs
+
+add-t : tie.Need-add-t Inv-loop μ-loop
+add-t c = search needs
+
+loop-less : tie.Need-loop-less Inv-loop μ-loop
+loop-less c = search needs
+
+loop-again : tie.Need-loop-again Inv-loop μ-loop
+loop-again c = let at = c .before .before .before .before .before .loop in
+    let x = c .before .before .before .next in (
+      omega arith,
+      omega arith,
+      length-set (at .w) (at .t + 16) (x .result) ∙ at .inv .2,
+      λ m h l e p.
+          late-more m (at .w) (at .t) (x .result) h (at .g) (c .turned .result) l (at .inv .2) (omega arith) (at .inv .3 m h l e p) (x .ensures m)
+          (c .turned .ensures (at .t + 16) (f-fourth (at .t + 16) _ _ _ (omega arith)) (k-fourth (at .t + 16) (omega arith))),
+    )
+
+returns : tie.Need-returns Inv-loop μ-loop
+returns c = λ m h l e p.
+    let last : c .before .loop .t ≡ c .before .before .before .before .args .end = omega arith in
+    rw last at (c .before .loop .inv .3 m h l e p)
+
+pub late4-spec : {M : Type 1} → statement M
+late4-spec =
+    tie.close
+    (tie.spec
+    Inv-loop
+    μ-loop
+    loop-holds
+    next-requires
+    add-w
+    mul-w
+    array-write-w
+    turned-requires
+    add-t
+    loop-less
+    loop-again
+    returns)
