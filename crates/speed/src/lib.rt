@@ -1,9 +1,11 @@
-// What the benchmark (bench/) times: the calls of the crate digest, for C to call.
+// What the benchmark (bench/) times and weighs: the calls of the crate digest, for C to call.
 ghost use mathlib.Core.Path.{_≡_};
-ghost use mathlib.Core.List.{List};
+ghost use mathlib.Core.List.{List, _++_};
+ghost use lib.ListN.{length};
 ghost use Prim.Native.Nat.{ℕ};
 ghost use Rattle.digest.specs.Sha1.{sha1};
 ghost use Rattle.digest.specs.Hmac.{hmac, keyOf};
+ghost use Rattle.digest.specs.Expansion.{prf};
 ghost use Rattle.speed.specs.Placed.{placed};
 use digest::Key;
 
@@ -36,6 +38,21 @@ pub extern "C" fn speed_codes(key: &[u8], message: &[u8], n: usize, out: &mut [u
         i += 1;
     }
     put(out, c);
+}
+
+// The pseudo-random function, over all of `out`.
+#[no_mangle]
+pub extern "C" fn speed_prf(
+    secret: &[u8],
+    label: &[u8],
+    first: &[u8],
+    second: &[u8],
+    third: &[u8],
+    out: &mut [u8],
+)
+    ensures { λ _. ⌜ now (out .exit) ≡ prf (now (secret .entry)) (now (label .entry)) (now (first .entry) ++ now (second .entry) ++ now (third .entry)) (length (now (out .entry))) ⌝ }
+{
+    digest::prf(secret, label, first, second, third, out);
 }
 
 // The code of a message that comes in one piece.
