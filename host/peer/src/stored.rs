@@ -1,0 +1,2 @@
+//! The one stored day.
+pub fn day() -> String { String::new() }
