@@ -21,6 +21,7 @@ pub mod hmac;
 pub mod keys;
 pub mod lines;
 pub mod rng;
+pub mod script;
 pub mod sha1;
 pub mod shapes;
 pub mod shore;

@@ -9,6 +9,7 @@ const USAGE: &str = "\
 peer console                       the lines that the console must write for those on stdin
 peer lister                        the lines that the frame lister must write for stdin
 peer day                           the stored day, as input for the console
+peer long-day                      the day on which the sending numbers run out (refusal 15)
 peer handshakes                    two worked handshakes, one `name hex` to a line
 peer days --seed S --calls N [--spent K] --console PROGRAM [ARGUMENT ..]
                                    random days through PROGRAM, each line compared; K days on
@@ -22,6 +23,7 @@ fn main() -> ExitCode {
         ["console"] => console::run(io::stdin().lock(), BufWriter::new(io::stdout().lock())),
         ["lister"] => lister(),
         ["day"] => print(&stored::day()),
+        ["long-day"] => print(&stored::long_day()),
         ["handshakes"] => print(&handshakes::worked()),
         ["days", ..] => return run_days(&words[1..]),
         _ => {
