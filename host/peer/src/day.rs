@@ -64,6 +64,12 @@ struct Day<'a> {
     arrived: Vec<Vec<u8>>,
     hellos: Vec<Vec<u8>>,
     last_line: Vec<u8>,
+    /// How many of a thousand numbers are not simply the next.
+    disorder: usize,
+    /// How many datagrams may be on their way.
+    delay: usize,
+    /// Whether connections are closed again soon, so that there are many handshakes.
+    restless: bool,
 }
 
 impl<'a> Day<'a> {
@@ -75,6 +81,9 @@ impl<'a> Day<'a> {
         let (session, secret) = (rng.bytes(8), rng.bytes(20));
         Day {
             unit: Unit::new(&session, &secret),
+            disorder: rng.weigh(&[(3, 10), (4, 100), (3, 400)]),
+            delay: rng.under(6),
+            restless: rng.percent(40),
             rng,
             model,
             sink,
@@ -154,12 +163,12 @@ impl<'a> Day<'a> {
 
     fn ordinary_replied(&mut self) {
         match self.rng.under(100) {
-            0..=39 => self.flight(),
-            40..=51 => self.change_cipher_spec(),
-            52..=60 => self.resend_hello(),
-            61..=65 => self.hello(),
-            66..=70 => self.wrong_hello(),
-            71..=80 => self.clear_alert(),
+            0..=29 => self.flight(),
+            30..=39 => self.change_cipher_spec(),
+            40..=48 => self.resend_hello(),
+            49..=53 => self.hello(),
+            54..=60 => self.wrong_hello(),
+            61..=80 => self.clear_alert(),
             81..=84 => self.resend_hello_and_more(),
             85..=88 => self.traffic(),
             _ => self.call_shore(),
@@ -168,12 +177,12 @@ impl<'a> Day<'a> {
 
     fn ordinary_spec(&mut self) {
         match self.rng.under(100) {
-            0..=34 => self.finished(),
-            35..=59 => self.traffic(),
-            60..=69 => self.resend_hello(),
-            70..=74 => self.hello(),
-            75..=78 => self.wrong_hello(),
-            79..=84 => self.clear_alert(),
+            0..=29 => self.finished(),
+            30..=54 => self.traffic(),
+            55..=63 => self.resend_hello(),
+            64..=68 => self.hello(),
+            69..=73 => self.wrong_hello(),
+            74..=84 => self.clear_alert(),
             85..=88 => self.flight(),
             89..=90 => self.resend_hello_and_more(),
             _ => self.call_shore(),
@@ -182,6 +191,7 @@ impl<'a> Day<'a> {
 
     fn ordinary_open(&mut self) {
         match self.rng.under(100) {
+            0..=19 if self.restless => self.close(),
             0..=69 => self.traffic(),
             70..=73 => self.flight(),
             74..=75 => self.resend_hello(),
@@ -282,6 +292,8 @@ impl Day<'_> {
             Ok(()) => {
                 self.in_step = true;
                 self.next = 0;
+                let left = self.rng.under(2);
+                self.link.truncate(left);
             }
             Err(error) => assert!(!own, "the unit refuses the model's reply: {error}"),
         }
@@ -496,7 +508,7 @@ impl Day<'_> {
             let datagram = self.records();
             self.link.push(datagram);
         }
-        for _ in 0..self.rng.between(1, 3) {
+        while !self.over && self.link.len() > self.delay {
             self.deliver();
         }
     }
@@ -597,15 +609,15 @@ impl Day<'_> {
         let highest = self.model.shore().and_then(|shore| shore.window().highest());
         let highest = usize::from(highest.unwrap_or(0));
         let next = self.next as usize;
-        let number = match self.rng.under(1000) {
-            0..=679 => next,
-            680..=799 => next + self.rng.between(1, 40),
-            800..=909 => highest.saturating_sub(self.rng.under(40)),
-            910..=979 => highest.saturating_sub(self.rng.pick(&[0, 30, 31, 32, 33])),
-            980..=989 => next + self.rng.between(100, 5000),
-            990..=993 => usize::from(self.rng.next() as u16),
-            994..=995 => 65535,
-            _ => highest + 1,
+        let number = match self.rng.under(100) {
+            _ if self.rng.under(1000) >= self.disorder => next,
+            0..=34 => next + self.rng.between(1, 40),
+            35..=64 => highest.saturating_sub(self.rng.under(40)),
+            65..=84 => highest.saturating_sub(self.rng.pick(&[0, 30, 31, 32, 33])),
+            85..=94 => highest + 1,
+            95..=97 => next + self.rng.between(100, 5000),
+            98 => usize::from(self.rng.next() as u16),
+            _ => 65535,
         };
         let number = number.min(65535);
         if number >= next {
