@@ -39,7 +39,7 @@ fn spliced(rng: &mut Rng, front: &[u8], back: &[u8]) -> Vec<u8> {
 /// Another number on a record that is else untouched.
 fn other_number(rng: &mut Rng, datagram: &mut [u8]) {
     if datagram.len() > 2 {
-        let any = rng.next() as u16;
+        let any = rng.draw() as u16;
         let number = rng.weigh(&[(3, 65535), (3, 0), (4, any)]);
         datagram[1..3].copy_from_slice(&number.to_be_bytes());
     }

@@ -41,10 +41,15 @@ pub fn spent(seed: u64, protected: bool, model: &mut Console, sink: &mut Sink) {
     while !day.over && !day.is_spent(protected) {
         day.spend(protected);
     }
-    for _ in 0..40 {
-        day.call_shore();
+    for _ in 0..60 {
+        match day.rng.percent(50) {
+            true => day.send(),
+            false => day.alert(),
+        }
     }
-    day.step();
+    for _ in 0..60 {
+        day.step();
+    }
 }
 
 struct Day<'a> {
@@ -241,7 +246,8 @@ impl Day<'_> {
 
     /// A fresh that is refused: the connection goes on.
     fn wrong_fresh(&mut self) {
-        let (identifier, secret) = self.rng.pick(&[(8, 19), (8, 21), (7, 20), (9, 20), (0, 0), (20, 8)]);
+        let (identifier, secret) =
+            self.rng.pick(&[(8, 19), (8, 21), (7, 20), (9, 20), (0, 0), (20, 8)]);
         let line = format!("fresh {} {}", word(&vec![1; identifier]), word(&vec![2; secret]));
         self.call(line.into_bytes());
     }
@@ -361,7 +367,8 @@ impl Day<'_> {
     /// Exactly what is needed, one less, or something else.
     fn room(&mut self, needed: usize) -> usize {
         let any = self.rng.under(2049);
-        let room = self.rng.weigh(&[(12, needed), (3, needed - 1), (2, needed + 1), (1, any), (1, 0)]);
+        let room =
+            self.rng.weigh(&[(12, needed), (3, needed - 1), (2, needed + 1), (1, any), (1, 0)]);
         room.min(2048)
     }
 
@@ -425,7 +432,7 @@ impl Day<'_> {
         let mut datagram = self.unit.say_hello(message);
         self.hellos.push(message.to_vec());
         if self.rng.percent(20) {
-            let number = self.rng.next() as u16;
+            let number = self.rng.draw() as u16;
             let with_length = self.rng.percent(50);
             datagram = self.unit.clear(Content::Handshake, with_length, number, message);
         }
@@ -488,7 +495,7 @@ impl Day<'_> {
     }
 
     fn finished(&mut self) {
-        let number = self.rng.weigh(&[(3, 0), (1, self_number(self.next))]);
+        let number = self.rng.weigh(&[(3, 0), (1, clamped(self.next))]);
         let with_length = self.rng.percent(30);
         match self.unit.finished(with_length, number) {
             Some(record) => self.receive(&record),
@@ -616,7 +623,7 @@ impl Day<'_> {
             65..=84 => highest.saturating_sub(self.rng.pick(&[0, 30, 31, 32, 33])),
             85..=94 => highest + 1,
             95..=97 => next + self.rng.between(100, 5000),
-            98 => usize::from(self.rng.next() as u16),
+            98 => usize::from(self.rng.draw() as u16),
             _ => 65535,
         };
         let number = number.min(65535);
@@ -644,13 +651,15 @@ impl Day<'_> {
             890..=939 => (Content::Handshake, self.finished_message()),
             940..=949 => (Content::Handshake, self.wrong_finished()),
             950..=979 => (Content::Handshake, self.wrong_message()),
-            _ => (Content::ChangeCipherSpec, self.rng.pick(&[vec![1], vec![], vec![2], vec![1, 1]])),
+            _ => {
+                (Content::ChangeCipherSpec, self.rng.pick(&[vec![1], vec![], vec![2], vec![1, 1]]))
+            }
         }
     }
 
     fn alert_content(&mut self, level: u8) -> Vec<u8> {
         let description = self.description();
-        let checksum = self.rng.next().to_be_bytes();
+        let checksum = self.rng.draw().to_be_bytes();
         alert::write(level, description, [checksum[0], checksum[1], checksum[2], checksum[3]])
     }
 
@@ -659,7 +668,10 @@ impl Day<'_> {
         let mut content = self.unit.alert(1, 0);
         match self.rng.under(4) {
             0 => content[0] = self.rng.pick(&[0, 4, 255]),
-            1 => content[1] = self.rng.pick(&[2, 4, 6, 9, 12, 19, 23, 29, 31, 39, 41, 58, 59, 61, 255]),
+            1 => {
+                content[1] =
+                    self.rng.pick(&[2, 4, 6, 9, 12, 19, 23, 29, 31, 39, 41, 58, 59, 61, 255])
+            }
             2 => content.truncate(self.rng.under(6)),
             _ => content.push(0),
         }
@@ -696,7 +708,7 @@ impl Day<'_> {
     /// A protected record whose code is not right, in many ways.
     fn forged_record(&mut self, with_length: bool) -> Vec<u8> {
         let (content, bytes) = self.protected_content();
-        let number = self.rng.weigh(&[(3, self_number(self.next)), (1, 65535)]);
+        let number = self.rng.weigh(&[(3, clamped(self.next)), (1, 65535)]);
         let type_byte = wire::type_byte(content, true, with_length);
         let Some(connection) = self.unit.connection() else {
             return wire::write(type_byte, number, &self.rng.bytes(24));
@@ -704,7 +716,9 @@ impl Day<'_> {
         let mut keys = connection.keys.clone();
         let fragment = match self.rng.under(9) {
             0 => [bytes.clone(), keys.code(Writer::Shore, type_byte, number, &bytes)].concat(),
-            1 => [bytes.clone(), keys.code(Writer::Unit, type_byte ^ 0x80, number, &bytes)].concat(),
+            1 => {
+                [bytes.clone(), keys.code(Writer::Unit, type_byte ^ 0x80, number, &bytes)].concat()
+            }
             2 => {
                 let short = self.rng.between(1, keys.kind.code_size() - 1);
                 keys.code(Writer::Unit, type_byte, number, &bytes)[..short].to_vec()
@@ -737,7 +751,7 @@ impl Day<'_> {
     }
 
     fn clear_record(&mut self, with_length: bool) -> Vec<u8> {
-        let number = self.rng.next() as u16;
+        let number = self.rng.draw() as u16;
         let hello = self.unit.last_hello().to_vec();
         let (content, bytes) = match self.rng.under(10) {
             0..=2 => return self.clear_alert_record(with_length),
@@ -765,12 +779,13 @@ impl Day<'_> {
         if content.is_empty() {
             content.push(1);
         }
-        let number = self.rng.next() as u16;
+        let number = self.rng.draw() as u16;
         self.unit.clear(Content::Alert, with_length, number, &content)
     }
 }
 
-fn self_number(next: u32) -> u16 {
+/// The next number, or the last once there is no next.
+fn clamped(next: u32) -> u16 {
     next.min(65535) as u16
 }
 

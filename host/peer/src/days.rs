@@ -23,7 +23,8 @@ pub struct Plan {
     pub calls: u64,
     /// Days on which the sending numbers run out, by turns the protected and the clear ones.
     pub spent: u64,
-    /// Where to leave the lines of the day of a difference.
+    /// Where to leave the lines of the day of a difference, and of the day before: some days begin
+    /// with calls to the last one's connection.
     pub keep: Option<PathBuf>,
     pub program: Vec<String>,
 }
@@ -124,11 +125,7 @@ fn start(plan: &Plan) -> std::io::Result<Child> {
 }
 
 /// Makes ordinary days until enough calls are made, then the days that spend the numbers.
-fn make_days(
-    plan: &Plan,
-    expect: SyncSender<Expected>,
-    write: SyncSender<Vec<u8>>,
-) -> (u64, u64) {
+fn make_days(plan: &Plan, expect: SyncSender<Expected>, write: SyncSender<Vec<u8>>) -> (u64, u64) {
     let mut seeds = Rng::new(plan.seed);
     let mut model = Console::default();
     let (mut days, mut calls, mut gone) = (0, 0, false);
@@ -138,7 +135,7 @@ fn make_days(
     };
     while calls < plan.calls && !gone {
         days += 1;
-        day::random(seeds.next(), &mut model, &mut |line, lines| {
+        day::random(seeds.draw(), &mut model, &mut |line, lines| {
             gone = !hand_on(days, line, lines);
             calls += 1;
             !gone && calls < plan.calls
@@ -150,7 +147,7 @@ fn make_days(
             break;
         }
         days += 1;
-        day::spent(seeds.next(), turn % 2 == 0, &mut model, &mut |line, lines| {
+        day::spent(seeds.draw(), turn % 2 == 0, &mut model, &mut |line, lines| {
             gone = !hand_on(days, line, lines);
             calls += 1;
             !gone
@@ -179,20 +176,20 @@ fn compare(
 ) -> Result<Counts, Box<Difference>> {
     let mut output = BufReader::new(stdout);
     let mut counts = Counts::default();
-    let (mut call, mut day, mut lines_of_day) = (0, 0, Vec::new());
+    let (mut call, mut day, mut today, mut yesterday) = (0, 0, Vec::new(), Vec::new());
     while let Ok(next) = expected.recv() {
         call += 1;
         if next.day != day {
             day = next.day;
-            lines_of_day.clear();
+            yesterday = std::mem::take(&mut today);
         }
-        lines_of_day.push(next.line.clone());
+        today.push(next.line.clone());
         let got = read_lines(&mut output, &next.lines);
         if got != next.lines {
             // The child is this thread's own; it may have ended already.
             let _ = child.kill();
             let _ = child.wait();
-            let kept = keep(plan, &lines_of_day);
+            let kept = keep(plan, &[yesterday, today].concat());
             let Expected { line, lines: expected, .. } = next;
             let seed = plan.seed;
             return Err(Box::new(Difference { seed, day, call, line, expected, got, kept }));
@@ -291,7 +288,8 @@ impl Counts {
             }
         }
         seen.sort_by_key(|(name, _)| (name.parse::<u8>().unwrap_or(0), name.to_string()));
-        let words: Vec<String> = seen.iter().map(|(name, count)| format!("{name}:{count}")).collect();
+        let words: Vec<String> =
+            seen.iter().map(|(name, count)| format!("{name}:{count}")).collect();
         words.join(" ")
     }
 }
@@ -315,7 +313,11 @@ impl fmt::Display for Report {
     fn fmt(&self, to: &mut fmt::Formatter) -> fmt::Result {
         let Plan { seed, calls, .. } = self.plan;
         writeln!(to, "peer: seed {seed}, {calls} calls, no difference")?;
-        writeln!(to, "days {}, further calls to spend the numbers {}", self.days, self.spending_calls)?;
+        writeln!(
+            to,
+            "days {}, further calls to spend the numbers {}",
+            self.days, self.spending_calls
+        )?;
         writeln!(to, "calls    {}", self.counts.line(Group::Calls))?;
         writeln!(to, "answers  {}", self.counts.line(Group::Answers))?;
         writeln!(to, "refusals {}", self.counts.line(Group::Refusals))?;
@@ -325,7 +327,11 @@ impl fmt::Display for Report {
 
 impl fmt::Display for Difference {
     fn fmt(&self, to: &mut fmt::Formatter) -> fmt::Result {
-        writeln!(to, "peer: seed {}, call {} (day {}): difference", self.seed, self.call, self.day)?;
+        writeln!(
+            to,
+            "peer: seed {}, call {} (day {}): difference",
+            self.seed, self.call, self.day
+        )?;
         writeln!(to, "input    {}", String::from_utf8_lossy(&self.line))?;
         for line in &self.expected {
             writeln!(to, "expected {line}")?;
@@ -333,7 +339,7 @@ impl fmt::Display for Difference {
         for line in &self.got {
             writeln!(to, "got      {line}")?;
         }
-        writeln!(to, "the day's lines: {}", self.kept)
+        writeln!(to, "the lines of that day and the one before: {}", self.kept)
     }
 }
 
@@ -343,7 +349,8 @@ mod tests {
 
     #[test]
     fn plans() {
-        let plan = Plan::read(&["--seed", "7", "--calls", "400000", "--console", "x", "y"]).unwrap();
+        let plan =
+            Plan::read(&["--seed", "7", "--calls", "400000", "--console", "x", "y"]).unwrap();
         assert_eq!((plan.seed, plan.calls, plan.spent), (7, 400_000, 4));
         assert_eq!(plan.program, ["x", "y"]);
         assert_eq!(Plan::read(&["--seed", "7", "--console", "x"]), None);

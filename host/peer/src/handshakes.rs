@@ -86,7 +86,11 @@ fn messages(kind: Kind) -> Vec<(&'static str, Vec<u8>)> {
     ]
 }
 
-fn protection(keys: &Keys, server_finished: &[u8], client_finished: &[u8]) -> Vec<(&'static str, Vec<u8>)> {
+fn protection(
+    keys: &Keys,
+    server_finished: &[u8],
+    client_finished: &[u8],
+) -> Vec<(&'static str, Vec<u8>)> {
     let handshake = wire::type_byte(Content::Handshake, true, false);
     let data = wire::type_byte(Content::Data, true, false);
     let record = |writer, bytes: &[u8]| keys.protect(writer, Content::Data, false, 19, bytes);

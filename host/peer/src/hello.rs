@@ -161,7 +161,13 @@ impl<'a> Reader<'a> {
 mod tests {
     use super::*;
 
-    fn body(session: &[u8], ids: &[u8], suites: &[u8], compressions: &[u8], numbering: u8) -> Vec<u8> {
+    fn body(
+        session: &[u8],
+        ids: &[u8],
+        suites: &[u8],
+        compressions: &[u8],
+        numbering: u8,
+    ) -> Vec<u8> {
         let mut body = vec![1];
         body.extend([7; 16]);
         body.push(session.len() as u8);

@@ -12,7 +12,7 @@ pub fn write(bytes: &[u8]) -> String {
 
 /// The bytes, or nothing for an odd count or for anything but lowercase digits.
 pub fn read(text: &[u8]) -> Option<Vec<u8>> {
-    if text.len() % 2 != 0 {
+    if !text.len().is_multiple_of(2) {
         return None;
     }
     text.chunks(2).map(|pair| Some(digit(pair[0])? * 16 + digit(pair[1])?)).collect()

@@ -11,9 +11,10 @@ peer lister                        the lines that the frame lister must write fo
 peer day                           the stored day, as input for the console
 peer long-day                      the day on which the sending numbers run out (refusal 15)
 peer handshakes                    two worked handshakes, one `name hex` to a line
-peer days --seed S --calls N [--spent K] --console PROGRAM [ARGUMENT ..]
+peer days --seed S --calls N [--spent K] [--keep FILE] --console PROGRAM [ARGUMENT ..]
                                    random days through PROGRAM, each line compared; K days on
-                                   which sending numbers run out (else 2 to each 200,000 calls)
+                                   which sending numbers run out (else 2 to each 200,000 calls);
+                                   FILE gets the lines that lead to a difference
 ";
 
 fn main() -> ExitCode {

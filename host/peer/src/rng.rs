@@ -9,7 +9,7 @@ impl Rng {
         Rng { state: seed }
     }
 
-    pub fn next(&mut self) -> u64 {
+    pub fn draw(&mut self) -> u64 {
         self.state = self.state.wrapping_add(0x9e3779b97f4a7c15);
         let mut z = self.state;
         z = (z ^ (z >> 30)).wrapping_mul(0xbf58476d1ce4e5b9);
@@ -19,7 +19,7 @@ impl Rng {
 
     /// A number under `end`, which is at least 1.
     pub fn under(&mut self, end: usize) -> usize {
-        (self.next() % end as u64) as usize
+        (self.draw() % end as u64) as usize
     }
 
     /// A number from `least` to `most`, both included.
@@ -33,7 +33,7 @@ impl Rng {
     }
 
     pub fn byte(&mut self) -> u8 {
-        self.next() as u8
+        self.draw() as u8
     }
 
     pub fn bytes(&mut self, count: usize) -> Vec<u8> {

@@ -73,12 +73,8 @@ fn compress(words: &mut [u32; 5], block: &[u8; 64]) {
     let [mut a, mut b, mut c, mut d, mut e] = *words;
     for (t, w) in schedule.iter().enumerate() {
         let (f, k) = round(t, b, c, d);
-        let turned = a
-            .rotate_left(5)
-            .wrapping_add(f)
-            .wrapping_add(e)
-            .wrapping_add(*w)
-            .wrapping_add(k);
+        let turned =
+            a.rotate_left(5).wrapping_add(f).wrapping_add(e).wrapping_add(*w).wrapping_add(k);
         (a, b, c, d, e) = (turned, a, b.rotate_left(30), c, d);
     }
     for (word, add) in words.iter_mut().zip([a, b, c, d, e]) {

@@ -17,8 +17,8 @@ pub fn acceptable(rng: &mut Rng, session: &[u8]) -> Hello {
 
 fn any_acceptable(rng: &mut Rng, session: &[u8]) -> Hello {
     let kind = rng.pick(&[Kind::Sha80, Kind::Sha]);
-    let refresh = rng.weigh(&[(6, 5), (3, 15), (1, 255)]);
-    let refresh = rng.between(0, refresh) as u8;
+    let any = rng.byte();
+    let refresh = rng.pick(&[0, 1, 2, 3, 4, 5, 6, 8, 10, 14, 15, 16, 17, any]);
     let mut hello = Hello::plain(&rng.bytes(16), session, kind, refresh);
     if rng.percent(50) {
         hello.suites = suites(rng, kind);
@@ -32,15 +32,26 @@ fn any_acceptable(rng: &mut Rng, session: &[u8]) -> Hello {
     hello
 }
 
-/// Pairs that the profile does not have, then the kind's, then anything.
+/// Pairs that the profile does not have, then the kind's, then anything, at times the other kind.
 fn suites(rng: &mut Rng, kind: Kind) -> Vec<u8> {
     let mut suites = Vec::new();
     for _ in 0..rng.under(4) {
-        suites.extend(rng.pick(&[[0, 0], [0, 1], [0, 4], [0, 5], [0, 7], [1, 2], [3, 3], [255, 2]]));
+        suites.extend(rng.pick(&[
+            [0, 0],
+            [0, 1],
+            [0, 4],
+            [0, 5],
+            [0, 7],
+            [1, 2],
+            [3, 3],
+            [255, 2],
+        ]));
     }
     suites.extend([0, kind.number()]);
-    let after = 2 * rng.under(4);
-    suites.extend(rng.bytes(after));
+    for _ in 0..rng.under(4) {
+        let any = [rng.byte(), rng.byte()];
+        suites.extend(rng.pick(&[[0, 2], [0, 3], any]));
+    }
     suites
 }
 
@@ -60,12 +71,15 @@ fn key_id(rng: &mut Rng) -> KeyId {
     let size = rng.under(20);
     let parameters = match rng.percent(30) {
         true => Parameters::Explicit(rng.bytes(size)),
-        false => Parameters::Index(rng.between(0, 254) as u8),
+        false => {
+            let any = rng.between(0, 254) as u8;
+            Parameters::Index(rng.pick(&[0, 1, 254, any]))
+        }
     };
     let size = rng.weigh(&[(5, 1), (5, 7), (1, 60)]);
     let identifier = match rng.under(5) {
         0 => Identifier::Null,
-        1 => Identifier::Text { character_set: rng.next() as u16, name: rng.bytes(size) },
+        1 => Identifier::Text { character_set: rng.draw() as u16, name: rng.bytes(size) },
         2 => Identifier::Binary(rng.bytes(size)),
         3 => Identifier::KeyHash(rng.bytes(20)),
         _ => Identifier::X509Name(rng.bytes(size)),

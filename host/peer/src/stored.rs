@@ -5,10 +5,12 @@
 //! Lines that begin with # are headings. To the console they are bad lines like any other.
 
 use crate::alert;
+use crate::day::word;
 use crate::handshakes::{secret, session};
 use crate::keys::Kind;
 use crate::script::Script;
-use crate::unit::{Identifier, KeyId, Parameters};
+use crate::shore::{Received, Shore, Tally};
+use crate::unit::{Hello, Identifier, KeyId, Parameters};
 use crate::wire::{self, Content};
 
 pub fn day() -> String {
@@ -66,7 +68,9 @@ fn idle(day: &mut Script) {
 }
 
 fn replied(day: &mut Script) {
-    day.heading("the unit says hello with SHA_80 and refresh 3; the reply is lost; it says it again");
+    day.heading(
+        "the unit says hello with SHA_80 and refresh 3; the reply is lost; it says it again",
+    );
     let hello = day.hello_datagram(0x10, Kind::Sha80, 3);
     day.receive(&hello);
     day.receive(&hello);
@@ -116,7 +120,9 @@ fn loss_and_refresh(day: &mut Script) {
 }
 
 fn forged(day: &mut Script) {
-    day.heading("forged: a bit of the code, of the content, of the number; 65535; too short for a code");
+    day.heading(
+        "forged: a bit of the code, of the content, of the number; 65535; too short for a code",
+    );
     let mut record = day.record(Content::Data, 39, b"true");
     let last = record.len() - 1;
     record[last] ^= 1;
@@ -156,7 +162,7 @@ fn unsound_datagrams(day: &mut Script) {
     datagram.extend([0xe4, 0, 1, 0, 2, 9]);
     day.receive(&datagram);
     day.heading("a random of 15 bytes, then a room of 127");
-    let record = word_of(&day.record(Content::Data, 40, b"forty"));
+    let record = word(&day.record(Content::Data, 40, b"forty"));
     day.line(&format!("receive {record} 808182838485868788898a8b8c8d8e 128"));
     day.line(&format!("receive {record} 808182838485868788898a8b8c8d8e8f 127"));
     day.line("receive - 80 0");
@@ -245,7 +251,7 @@ fn hellos(day: &mut Script) {
     day.heading("noon: hellos that are malformed (12) or not acceptable (13)");
     let plain = day.plain(0x20, Kind::Sha, 0);
     let mut wrong = Vec::new();
-    let mut with = |change: &dyn Fn(&mut crate::unit::Hello)| {
+    let mut with = |change: &dyn Fn(&mut Hello)| {
         let mut hello = plain.clone();
         change(&mut hello);
         wrong.push(hello.message());
@@ -273,7 +279,9 @@ fn hellos(day: &mut Script) {
 }
 
 fn acceptable_hellos(day: &mut Script) {
-    day.heading("acceptable ones: every identifier, explicit parameters, 256 bytes; each a new reply");
+    day.heading(
+        "acceptable ones: every identifier, explicit parameters, 256 bytes; each a new reply",
+    );
     let mut hello = day.plain(0x30, Kind::Sha, 16);
     hello.client_key_ids = vec![
         entry(Identifier::Null),
@@ -293,7 +301,9 @@ fn acceptable_hellos(day: &mut Script) {
     largest.client_key_ids.push(explicit(211));
     let datagram = day.unit.say_hello(&largest.message());
     day.receive(&datagram);
-    day.heading("the first of them again is another hello, not a resent one; then the last, 0 refresh");
+    day.heading(
+        "the first of them again is another hello, not a resent one; then the last, 0 refresh",
+    );
     let datagram = day.unit.say_hello(&hello.message());
     day.receive(&datagram);
     day.hello(0x20, Kind::Sha, 0);
@@ -331,7 +341,9 @@ fn clear_alerts(day: &mut Script) {
 }
 
 fn spec(day: &mut Script) {
-    day.heading("Spec: data and change cipher spec 8, a resent hello, a clear warning, the shore's alerts");
+    day.heading(
+        "Spec: data and change cipher spec 8, a resent hello, a clear warning, the shore's alerts",
+    );
     day.hello(0x22, Kind::Sha, 0);
     day.receive(&[0x41, 0, 1, 1]);
     day.data(0, "not yet");
@@ -389,10 +401,10 @@ fn all_in_one_datagram(day: &mut Script) {
     day.heading("a whole handshake in one datagram");
     let hello = day.hello_datagram(0x27, Kind::Sha, 1);
     let message = day.unit.last_hello().to_vec();
-    let mut rehearsal = crate::shore::Shore::fresh(day.session(), &secret()).expect("sizes");
+    let mut rehearsal = Shore::fresh(day.session(), &secret()).expect("sizes");
     let random = day.next_random();
-    let heard = rehearsal.receive(&hello, &random, 128, &mut Default::default());
-    if let crate::shore::Received::Records { out: Some(reply), .. } = heard {
+    let heard = rehearsal.receive(&hello, &random, 128, &mut Tally::default());
+    if let Received::Records { out: Some(reply), .. } = heard {
         day.unit.hear_reply(&reply).expect("the unit reads the model's reply");
     }
     let mut datagram = day.unit.clear(Content::Handshake, true, 0, &message);
@@ -405,10 +417,28 @@ fn all_in_one_datagram(day: &mut Script) {
 fn bad_lines(day: &mut Script) {
     day.heading("bad lines");
     for line in [
-        "", " ", "close ", " close", "close\r", "Close", "stop", "close close", "send 00", "send 0 14",
-        "send 0A 14", "send 00 2049", "send 00 014", "send 00 +14", "send 00 1000000000", "send  14",
-        "receive 00 00", "fresh -", "alert open 1 0 - 9", "alert clear 256 0 - 9",
-        "alert clear 1 256 - 9", "alert clear 01 0 - 9",
+        "",
+        " ",
+        "close ",
+        " close",
+        "close\r",
+        "Close",
+        "stop",
+        "close close",
+        "send 00",
+        "send 0 14",
+        "send 0A 14",
+        "send 00 2049",
+        "send 00 014",
+        "send 00 +14",
+        "send 00 1000000000",
+        "send  14",
+        "receive 00 00",
+        "fresh -",
+        "alert open 1 0 - 9",
+        "alert clear 256 0 - 9",
+        "alert clear 1 256 - 9",
+        "alert clear 01 0 - 9",
     ] {
         day.line(line);
     }
@@ -436,10 +466,6 @@ fn barred(day: &mut Script) {
     day.flight();
     day.data(1, "good night");
     day.line("close");
-}
-
-fn word_of(bytes: &[u8]) -> String {
-    crate::day::word(bytes)
 }
 
 /// A day on which first the clear and then the protected sending numbers are spent: 131,000 lines.

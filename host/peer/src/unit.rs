@@ -1,7 +1,7 @@
 //! The ship's end: the unit says hello, reads the reply, changes the cipher spec, finishes, and
 //! sends data and alerts. It checks all that it hears.
 
-use crate::alert::{self, Alert};
+use crate::alert;
 use crate::finished;
 use crate::hello;
 use crate::keys::{Keys, Kind, Writer};
@@ -24,7 +24,10 @@ pub enum Parameters {
 #[derive(Clone, PartialEq, Eq, Debug)]
 pub enum Identifier {
     Null,
-    Text { character_set: u16, name: Vec<u8> },
+    Text {
+        character_set: u16,
+        name: Vec<u8>,
+    },
     Binary(Vec<u8>),
     KeyHash(Vec<u8>),
     X509Name(Vec<u8>),
@@ -265,10 +268,5 @@ impl Unit {
         }
         connection.last_heard = datagram.to_vec();
         Ok(content.to_vec())
-    }
-
-    /// Reads an alert's content.
-    pub fn read_alert(content: &[u8]) -> Option<Alert> {
-        alert::read(content)
     }
 }

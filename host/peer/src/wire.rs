@@ -143,7 +143,10 @@ mod tests {
     /// Cases K and L.
     #[test]
     fn lister() {
-        assert_eq!(listed("c300000002aabb6400011122"), "records 2\n0 0 3 0 0 5 2\n1 7 4 1 1 10 2\n");
+        assert_eq!(
+            listed("c300000002aabb6400011122"),
+            "records 2\n0 0 3 0 0 5 2\n1 7 4 1 1 10 2\n"
+        );
         assert_eq!(listed("640001"), "refused 4 at 0\n");
         assert_eq!(listed("6400"), "refused 2 at 0\n");
     }

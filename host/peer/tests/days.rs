@@ -15,7 +15,9 @@ fn kinds(lines: &[String]) -> BTreeSet<String> {
         match words[..] {
             ["state", name, ..] => kinds.insert(name.to_string()),
             [_, "refused", number, ..] => kinds.insert(format!("refused {number}")),
-            [first, second, ..] => kinds.insert(format!("{first} {second}")) | kinds.insert(second.to_string()),
+            [first, second, ..] => {
+                kinds.insert(format!("{first} {second}")) | kinds.insert(second.to_string())
+            }
             _ => false,
         };
     }
@@ -26,7 +28,8 @@ fn kinds(lines: &[String]) -> BTreeSet<String> {
 fn the_stored_day_has_everything_but_spent_numbers() {
     let day = stored::written();
     let kinds = kinds(day.output());
-    let mut wanted: Vec<String> = (1..=18).filter(|r| *r != 15).map(|r| format!("refused {r}")).collect();
+    let mut wanted: Vec<String> =
+        (1..=18).filter(|r| *r != 15).map(|r| format!("refused {r}")).collect();
     let answers = "reply resent spec open again data warning critical fatal barred";
     let states = "None Idle Replied Spec Open Closed Barred";
     wanted.extend(answers.split(' ').chain(states.split(' ')).map(str::to_string));
