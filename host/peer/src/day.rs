@@ -138,6 +138,7 @@ impl<'a> Day<'a> {
             16..=18 => self.odd_line(),
             19..=20 => self.odd_receive(),
             21..=24 => self.call_shore(),
+            25 if self.rng.percent(15) => self.fresh(),
             25 => self.wrong_fresh(),
             26 => self.boundary(),
             _ => self.ordinary(),
@@ -639,7 +640,7 @@ impl Day<'_> {
         match self.rng.under(1000) {
             0..=19 => (Content::Data, Vec::new()),
             20..=699 if data => {
-                let length = self.rng.weigh(&[(20, 12), (10, 60), (1, 150)]);
+                let length = self.rng.weigh(&[(200, 12), (100, 60), (10, 150), (3, 1000)]);
                 let length = self.rng.between(1, length);
                 (Content::Data, self.rng.bytes(length))
             }

@@ -4,8 +4,6 @@
 //! program, one reads the program's lines and compares. What is expected is always queued before
 //! the call is, so that the comparer never waits for a line whose call was not yet made.
 
-use std::collections::BTreeMap;
-use std::fmt;
 use std::io::{BufRead, BufReader, BufWriter, Write};
 use std::path::PathBuf;
 use std::process::{Child, ChildStdout, Command, Stdio};
@@ -14,7 +12,9 @@ use std::thread;
 
 use crate::console::Console;
 use crate::day;
+use crate::report::{Counts, Difference, Report};
 use crate::rng::Rng;
+use crate::shrink;
 
 /// What to run.
 #[derive(Clone, Debug, PartialEq, Eq)]
@@ -23,43 +23,9 @@ pub struct Plan {
     pub calls: u64,
     /// Days on which the sending numbers run out, by turns the protected and the clear ones.
     pub spent: u64,
-    /// Where to leave the lines of the day of a difference, and of the day before: some days begin
-    /// with calls to the last one's connection.
+    /// Where to leave the few lines that make a difference.
     pub keep: Option<PathBuf>,
     pub program: Vec<String>,
-}
-
-/// How often each answer, refusal and state was seen.
-#[derive(Default, Debug)]
-pub struct Counts {
-    seen: BTreeMap<(Group, String), u64>,
-}
-
-#[derive(Clone, Copy, PartialEq, Eq, PartialOrd, Ord, Debug)]
-enum Group {
-    Calls,
-    Answers,
-    Refusals,
-    States,
-}
-
-#[derive(Debug)]
-pub struct Report {
-    plan: Plan,
-    days: u64,
-    spending_calls: u64,
-    counts: Counts,
-}
-
-#[derive(Debug)]
-pub struct Difference {
-    seed: u64,
-    day: u64,
-    call: u64,
-    line: Vec<u8>,
-    expected: Vec<String>,
-    got: Vec<String>,
-    kept: String,
 }
 
 /// A call on its way to the comparer.
@@ -107,13 +73,23 @@ pub fn run(plan: &Plan) -> Result<Report, Box<Difference>> {
     let stdout = child.stdout.take().expect("stdout is piped");
     let (expect, expected) = sync_channel::<Expected>(50_000);
     let (write, written) = sync_channel::<Vec<u8>>(1_000);
-    let writer = thread::spawn(move || write_all(BufWriter::new(stdin), &written));
+    let last_newline = plan.seed.is_multiple_of(2);
+    let writer = thread::spawn(move || write_all(BufWriter::new(stdin), &written, last_newline));
     let for_comparer = plan.clone();
     let comparer = thread::spawn(move || compare(&for_comparer, child, stdout, &expected));
     let (days, spending_calls) = make_days(plan, expect, write);
     writer.join().expect("the writer does not panic");
-    let counts = comparer.join().expect("the comparer does not panic")?;
-    Ok(Report { plan: plan.clone(), days, spending_calls, counts })
+    match comparer.join().expect("the comparer does not panic") {
+        Ok(counts) => {
+            let Plan { seed, calls, .. } = *plan;
+            Ok(Report { seed, calls, days, spending_calls, counts })
+        }
+        Err(mut difference) => {
+            difference.few = shrink::shrink(&plan.program, &difference.days_lines);
+            keep(plan, &difference.few);
+            Err(difference)
+        }
+    }
 }
 
 fn start(plan: &Plan) -> std::io::Result<Child> {
@@ -131,7 +107,7 @@ fn make_days(plan: &Plan, expect: SyncSender<Expected>, write: SyncSender<Vec<u8
     let (mut days, mut calls, mut gone) = (0, 0, false);
     let hand_on = |day: u64, line: &[u8], lines: Vec<String>| {
         let sent = expect.send(Expected { day, line: line.to_vec(), lines });
-        sent.is_ok() && write.send([line, b"\n"].concat()).is_ok()
+        sent.is_ok() && write.send(line.to_vec()).is_ok()
     };
     while calls < plan.calls && !gone {
         days += 1;
@@ -156,14 +132,19 @@ fn make_days(plan: &Plan, expect: SyncSender<Expected>, write: SyncSender<Vec<u8
     (days, calls - ordinary)
 }
 
-/// Writes until there is no more, or until the program stops reading.
-fn write_all(mut stdin: impl Write, lines: &Receiver<Vec<u8>>) {
+/// Writes until there is no more, or until the program stops reading. The last line may lack its
+/// newline.
+fn write_all(mut stdin: impl Write, lines: &Receiver<Vec<u8>>, last_newline: bool) {
+    let mut first = true;
     while let Ok(line) = lines.recv() {
-        if stdin.write_all(&line).is_err() {
+        let newline = if first { &b""[..] } else { b"\n" };
+        if stdin.write_all(&[newline, &line].concat()).is_err() {
             return;
         }
+        first = false;
     }
     // A program that has ended shows itself to the comparer.
+    let _ = stdin.write_all(if last_newline { b"\n" } else { b"" });
     let _ = stdin.flush();
 }
 
@@ -189,10 +170,19 @@ fn compare(
             // The child is this thread's own; it may have ended already.
             let _ = child.kill();
             let _ = child.wait();
-            let kept = keep(plan, &[yesterday, today].concat());
+            let days_lines = [yesterday, today].concat();
             let Expected { line, lines: expected, .. } = next;
             let seed = plan.seed;
-            return Err(Box::new(Difference { seed, day, call, line, expected, got, kept }));
+            return Err(Box::new(Difference {
+                seed,
+                day,
+                call,
+                line,
+                expected,
+                got,
+                days_lines,
+                few: Vec::new(),
+            }));
         }
         counts.count(&next.lines);
     }
@@ -242,14 +232,10 @@ fn read_end(output: &mut impl BufRead, child: &mut Child) -> Vec<String> {
     vec![format!("end of output, {status}")]
 }
 
-fn keep(plan: &Plan, lines: &[Vec<u8>]) -> String {
-    let Some(path) = &plan.keep else {
-        return "nowhere; --keep FILE keeps them".to_string();
-    };
-    let text: Vec<u8> = lines.iter().flat_map(|line| [line, &b"\n"[..]].concat()).collect();
-    match std::fs::write(path, text) {
-        Ok(()) => path.display().to_string(),
-        Err(error) => error.to_string(),
+fn keep(plan: &Plan, lines: &[Vec<u8>]) {
+    let Some(path) = &plan.keep else { return };
+    if let Err(error) = std::fs::write(path, shrink::text(lines)) {
+        eprintln!("peer: {}: {error}", path.display());
     }
 }
 
@@ -261,7 +247,8 @@ fn at_the_end(plan: &Plan, day: u64, call: u64, got: Vec<String>) -> Difference 
         line: b"(the end of the input)".to_vec(),
         expected: vec!["end of output, exit status 0".to_string()],
         got,
-        kept: "nowhere".to_string(),
+        days_lines: Vec::new(),
+        few: Vec::new(),
     }
 }
 
@@ -269,78 +256,6 @@ fn could_not_start(plan: &Plan, error: &str) -> Difference {
     let mut difference = at_the_end(plan, 0, 0, vec![error.to_string()]);
     difference.line = b"(the start of the program)".to_vec();
     difference
-}
-
-impl Counts {
-    fn count(&mut self, lines: &[String]) {
-        for line in lines {
-            if let Some((group, name)) = group(line) {
-                *self.seen.entry((group, name)).or_insert(0) += 1;
-            }
-        }
-    }
-
-    fn line(&self, group: Group) -> String {
-        let mut seen: Vec<(&str, u64)> = Vec::new();
-        for ((of, name), count) in &self.seen {
-            if *of == group {
-                seen.push((name, *count));
-            }
-        }
-        seen.sort_by_key(|(name, _)| (name.parse::<u8>().unwrap_or(0), name.to_string()));
-        let words: Vec<String> =
-            seen.iter().map(|(name, count)| format!("{name}:{count}")).collect();
-        words.join(" ")
-    }
-}
-
-/// Which count a line of the console belongs to.
-fn group(line: &str) -> Option<(Group, String)> {
-    let words: Vec<&str> = line.split(' ').collect();
-    match words[..] {
-        ["bad", "line"] => Some((Group::Calls, "bad-line".to_string())),
-        ["state", name, ..] => Some((Group::States, name.to_string())),
-        [_, "refused", number, ..] => Some((Group::Refusals, number.to_string())),
-        [call, "ok"] => Some((Group::Calls, call.to_string())),
-        ["receive", "records", _] => Some((Group::Calls, "receive".to_string())),
-        ["out", _] => None,
-        [_, answer, ..] => Some((Group::Answers, answer.to_string())),
-        _ => None,
-    }
-}
-
-impl fmt::Display for Report {
-    fn fmt(&self, to: &mut fmt::Formatter) -> fmt::Result {
-        let Plan { seed, calls, .. } = self.plan;
-        writeln!(to, "peer: seed {seed}, {calls} calls, no difference")?;
-        writeln!(
-            to,
-            "days {}, further calls to spend the numbers {}",
-            self.days, self.spending_calls
-        )?;
-        writeln!(to, "calls    {}", self.counts.line(Group::Calls))?;
-        writeln!(to, "answers  {}", self.counts.line(Group::Answers))?;
-        writeln!(to, "refusals {}", self.counts.line(Group::Refusals))?;
-        writeln!(to, "states   {}", self.counts.line(Group::States))
-    }
-}
-
-impl fmt::Display for Difference {
-    fn fmt(&self, to: &mut fmt::Formatter) -> fmt::Result {
-        writeln!(
-            to,
-            "peer: seed {}, call {} (day {}): difference",
-            self.seed, self.call, self.day
-        )?;
-        writeln!(to, "input    {}", String::from_utf8_lossy(&self.line))?;
-        for line in &self.expected {
-            writeln!(to, "expected {line}")?;
-        }
-        for line in &self.got {
-            writeln!(to, "got      {line}")?;
-        }
-        writeln!(to, "the lines of that day and the one before: {}", self.kept)
-    }
 }
 
 #[cfg(test)]
@@ -356,17 +271,5 @@ mod tests {
         assert_eq!(Plan::read(&["--seed", "7", "--console", "x"]), None);
         assert_eq!(Plan::read(&["--seed", "x", "--calls", "1", "--console", "x"]), None);
         assert_eq!(Plan::read(&["--calls", "1", "--seed"]), None);
-    }
-
-    #[test]
-    fn groups() {
-        let name = |line: &str| group(line).map(|(group, name)| format!("{group:?} {name}"));
-        assert_eq!(name("0 refused 9").unwrap(), "Refusals 9");
-        assert_eq!(name("receive refused 4 at 7").unwrap(), "Refusals 4");
-        assert_eq!(name("2 data 5 6").unwrap(), "Answers data");
-        assert_eq!(name("0 spec").unwrap(), "Answers spec");
-        assert_eq!(name("start ok").unwrap(), "Calls start");
-        assert_eq!(name("state Open n=1").unwrap(), "States Open");
-        assert_eq!(name("out 00"), None);
     }
 }

@@ -3,7 +3,7 @@
 use std::io::{self, BufWriter, Read, Write};
 use std::process::ExitCode;
 
-use peer::{console, days, handshakes, stored, wire};
+use peer::{console, days, handshakes, lists, stored, wire};
 
 const USAGE: &str = "\
 peer console                       the lines that the console must write for those on stdin
@@ -14,7 +14,9 @@ peer handshakes                    two worked handshakes, one `name hex` to a li
 peer days --seed S --calls N [--spent K] [--keep FILE] --console PROGRAM [ARGUMENT ..]
                                    random days through PROGRAM, each line compared; K days on
                                    which sending numbers run out (else 2 to each 200,000 calls);
-                                   FILE gets the lines that lead to a difference
+                                   FILE gets the few lines that make a difference
+peer lists --seed S --count N --lister PROGRAM [ARGUMENT ..]
+                                   random datagrams through a frame lister
 ";
 
 fn main() -> ExitCode {
@@ -27,6 +29,9 @@ fn main() -> ExitCode {
         ["long-day"] => print(&stored::long_day()),
         ["handshakes"] => print(&handshakes::worked()),
         ["days", ..] => return run_days(&words[1..]),
+        ["lists", "--seed", seed, "--count", count, "--lister", ..] => {
+            return run_lists(seed.parse().ok(), count.parse().ok(), &words[6..])
+        }
         _ => {
             eprint!("{USAGE}");
             return ExitCode::from(2);
@@ -57,6 +62,23 @@ fn run_days(words: &[&str]) -> ExitCode {
         return ExitCode::from(2);
     };
     match days::run(&plan) {
+        Ok(report) => {
+            print!("{report}");
+            ExitCode::SUCCESS
+        }
+        Err(difference) => {
+            print!("{difference}");
+            ExitCode::FAILURE
+        }
+    }
+}
+
+fn run_lists(seed: Option<u64>, count: Option<u64>, program: &[&str]) -> ExitCode {
+    let (Some(seed), Some(count), false) = (seed, count, program.is_empty()) else {
+        eprint!("{USAGE}");
+        return ExitCode::from(2);
+    };
+    match lists::run(seed, count, program) {
         Ok(report) => {
             print!("{report}");
             ExitCode::SUCCESS

@@ -42,6 +42,22 @@ fn the_stored_day_has_everything_but_spent_numbers() {
     assert!((150..=300).contains(&lines), "{lines} lines");
 }
 
+#[test]
+fn the_long_day_spends_both_numbers_and_nothing_closes() {
+    let mut output = Vec::new();
+    peer::console::run(stored::long_day().as_bytes(), &mut output).unwrap();
+    let text = String::from_utf8(output).unwrap();
+    assert_eq!(text.matches("alert refused 15\nstate Replied ").count(), 2);
+    assert_eq!(text.matches("alert refused 15\nstate Open ").count(), 1);
+    assert_eq!(text.matches("send refused 15\nstate Open ").count(), 2);
+    assert!(text.contains(" sent=65536,65536 "));
+    assert!(text
+        .lines()
+        .last()
+        .unwrap()
+        .contains("state Open n=0 marks=00000001 arrived=1 sent=2,2 "));
+}
+
 fn days(seed: u64, calls: u64, console: &[&str]) -> Output {
     Command::new(PEER)
         .args(["days", "--seed", &seed.to_string(), "--calls", &calls.to_string(), "--console"])
@@ -81,6 +97,9 @@ fn differences_are_found() {
         let text = String::from_utf8(run.stdout).unwrap();
         assert_eq!(run.status.code(), Some(1), "{edit}: {text}");
         assert!(text.contains(": difference\ninput "), "{edit}: {text}");
+        assert!(
+            text.contains("input    (the end") || text.contains(" are enough for a difference:\n")
+        );
     }
 }
 
