@@ -97,9 +97,8 @@ fn differences_are_found() {
         let text = String::from_utf8(run.stdout).unwrap();
         assert_eq!(run.status.code(), Some(1), "{edit}: {text}");
         assert!(text.contains(": difference\ninput "), "{edit}: {text}");
-        assert!(
-            text.contains("input    (the end") || text.contains(" are enough for a difference:\n")
-        );
+        let few = text.contains(" are enough for a difference:\nfresh ");
+        assert_eq!(few, edit.starts_with("s/"), "{edit}: {text}");
     }
 }
 
