@@ -197,7 +197,7 @@ fn keep_length(rng: &mut Rng, mut message: Vec<u8>) -> Vec<u8> {
 
 /// Another length of the message, or of one of the key lists.
 fn other_length(rng: &mut Rng, mut message: Vec<u8>) -> Vec<u8> {
-    let place = rng.pick(&[2, 1, 30, 29, 32]);
+    let place = rng.pick(&[2, 1, 30, 29, 32]).min(message.len() - 1);
     let change = rng.pick(&[1, 255, 2, 254, 128]);
     message[place] = message[place].wrapping_add(change);
     message
