@@ -7,7 +7,7 @@ use crate::shore::State;
 use crate::wire::{self, Content};
 
 impl Day<'_> {
-    /// Mostly one record, at times more than eight.
+    /// Mostly one record, at times more than eight, at times with a few bytes too many.
     pub(super) fn records(&mut self) -> Vec<u8> {
         let few = self.rng.between(2, 4);
         let many = self.rng.between(5, 8);
@@ -20,6 +20,10 @@ impl Day<'_> {
                 last = self.record(with_length);
             }
             datagram.extend(&last);
+        }
+        if count >= 8 && self.rng.percent(20) || self.rng.percent(1) {
+            let length = self.rng.between(1, 5);
+            datagram.extend(self.rng.bytes(length));
         }
         datagram
     }
