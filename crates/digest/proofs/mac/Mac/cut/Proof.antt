@@ -1,11 +1,10 @@
 -- `Mac::cut`: the part is as long as the kind says, or the whole.
-use mathlib.Core.Path.{_≡_, sym, ap, _∙_}
-use lib.ListN.{length, take}
-use lib.Seq.{length-take-le, take-all}
-use Prim.Native.Nat.{_≤_}
 use Rattle.digest.specs.Mac.{sizeOf}
 use borrow.Author.Needs.{needs}
 use native.Mathlib.Omega.{arith}
+use mathlib.Core.Path.{_≡_, sym, ap, _∙_}
+use lib.ListN.{length, take}
+use lib.Seq.{length-take-le, take-all}
 use mathlib.Core.Path.{_≡_, refl, sym, ap, _∙_}
 use lib.ListN.{take}
 use Rattle.digest.proofs.mac.Mac.cut.Statement.{statement}
@@ -22,9 +21,7 @@ returns c = ap (λ n. take n (c .before .before .before .before .args .code .now
 
 returns-2 : tie.Need-returns-2
 returns-2 c = let args = c .before .before .before .args in
-    let size = c .before .size in
-    let short : length (args .code .now) ≤ sizeOf (args .self) = omega (arith, size .ensures) in
-    sym (take-all (sizeOf (args .self)) (args .code .now) short)
+    sym (take-all (sizeOf (args .self)) (args .code .now) (omega (arith, c .before .size .ensures)))
 
 pub cut-spec : {M : Type 1} → statement M
 cut-spec = tie.close (tie.spec size-requires slice-aggregate-result returns returns-2)
