@@ -11,6 +11,7 @@ use lib.Bits.{bitAnd, bitOr, bitXor}
 use Rattle.digest.proofs.Picks.{picks}
 use Rattle.digest.specs.Bytes.{wordAt}
 use Rattle.digest.specs.Sha1.{shifted, f, k, inverted, words, round, rounds, schedule, nextWord}
+use Rattle.digest.specs.Midway.{Reached}
 use Rattle.digest.specs.declared.block.State.{State}
 
 -- A store behind the first i elements is one element more.
@@ -143,10 +144,13 @@ unfolding rounds
 rounds-none w h = refl
 
 pub begun-rounds : (m w : List ℕ) (h g : State) → length m ≡ 16 → take 16 w ≡ m → (h ≡ rounds w 0 h → g ≡ rounds w 16 h)
-    → (take (0 + 16) w ≡ schedule m 0) × (g ≡ rounds (schedule m 64) (0 + 16) h)
+    → Reached m h 0 (record { state = g; words = w })
 begun-rounds m w h g l e p =
     let first : take (0 + 16) w ≡ schedule m 0 = e ∙ sym (schedule-none m) in
-    (first, p (rounds-none w h) ∙ rounds-within m w 0 16 h l (omega arith) (omega arith) first)
+    record {
+      words-are = first;
+      state-is = p (rounds-none w h) ∙ rounds-within m w 0 16 h l (omega arith) (omega arith) first;
+    }
 
 -- one word of the schedule and one round more:
 last-word : (m : List ℕ) (t : ℕ) → length m ≡ 16 → getD (schedule m (suc t)) (t + 16) 0 ≡ nextWord (schedule m t) (16 + t)
@@ -162,17 +166,20 @@ word-of m t l h =
     ∙ ap (λ n. getD (schedule m n) (t + 16) 0) whole
 
 pub late-more : (m v : List ℕ) (t x : ℕ) (h g r : State) → length m ≡ 16 → length v ≡ 80 → t < 64
-    → (take (t + 16) v ≡ schedule m t) × (g ≡ rounds (schedule m 64) (t + 16) h)
+    → Reached m h t (record { state = g; words = v })
     → (take (t + 16) v ≡ schedule m t → x ≡ nextWord (schedule m t) (16 + t)) → r ≡ round (t + 16) x g
-    → (take (t + 1 + 16) (set v (t + 16) x) ≡ schedule m (t + 1)) × (r ≡ rounds (schedule m 64) (t + 1 + 16) h)
+    → Reached m h (t + 1) (record { state = r; words = set v (t + 16) x })
 unfolding schedule
 late-more m v t x h g r l lv b p next e =
-    let word = next (p .0) in
-    let one : t + 1 + 16 ≡ t + 16 + 1 = omega arith in (
-      ap (λ n. take n (set v (t + 16) x)) one
-          ∙ fill-step v (schedule m t) (t + 16) x (omega arith) (p .0)
+    let word = next (p .words-are) in
+    let one : t + 1 + 16 ≡ t + 16 + 1 = omega arith in
+    record {
+      words-are =
+          ap (λ n. take n (set v (t + 16) x)) one
+          ∙ fill-step v (schedule m t) (t + 16) x (omega arith) (p .words-are)
           ∙ ap (λ y. schedule m t ++ (y ∷ [])) word
-          ∙ sym (ap (schedule m) (add-one t)),
-      round-more (schedule m 64) (t + 16) h g r (e ∙ ap (λ y. round (t + 16) y g) (word ∙ word-of m t l b)) (p .1)
-          ∙ ap (λ n. rounds (schedule m 64) n h) (sym one),
-    )
+          ∙ sym (ap (schedule m) (add-one t));
+      state-is =
+          round-more (schedule m 64) (t + 16) h g r (e ∙ ap (λ y. round (t + 16) y g) (word ∙ word-of m t l b)) (p .state-is)
+          ∙ ap (λ n. rounds (schedule m 64) n h) (sym one);
+    }

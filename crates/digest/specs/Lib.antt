@@ -2,6 +2,7 @@
 pub mod Pick
 pub mod Bytes
 pub mod Sha1
+pub mod Midway
 pub mod Hasher
 pub mod Hmac
 pub mod Expansion

@@ -1,15 +1,16 @@
 // One block of SHA-1 (FIPS 180-1 sections 3 to 7): the eighty-word schedule and the four phases of twenty rounds.
 //
 // Small loops with run-time ends, each called with constants: the compiler then unrolls each whole, and the
-// schedule lives in registers.
+// schedule lives in registers. Behind the block's own sixteen each word is made just before its round, so that few
+// wait (docs/SPEED.md).
 ghost use Prim.Native.Nat.{ℕ, _+_, _*_, _<_, _≤_};
 ghost use mathlib.Core.Path.{_≡_};
 ghost use mathlib.Core.List.{List};
 ghost use lib.ListN.{length, take, drop};
 ghost use lib.Bits.{bitAnd, bitOr, bitXor};
 ghost use Rattle.digest.specs.Bytes.{wordAt};
-ghost use Rattle.digest.specs.Sha1 as Sha1;
-ghost use Rattle.digest.specs.Sha1.{shifted, f, k, initialState, nextWord, schedule, round, rounds, joined, compress, absorb};
+ghost use Rattle.digest.specs.Midway.{Reached};
+ghost use Rattle.digest.specs.Sha1.{shifted, f, k, initialState, words, nextWord, schedule, round, rounds, joined, compress, absorb};
 use std::num::wrapping_add_u32;
 
 // The five words of FIPS 180-1 section 7.
@@ -85,7 +86,7 @@ fn added(g: State, h: State) -> State
 // Step a: the block's sixteen words, with room for the others.
 fn loaded(s: &[u8], at: usize) -> [u32; 80]
     requires { ⌜ at + 64 ≤ length (now s) ⌝ }
-    ensures { λ r. ⌜ (length r ≡ 80) × (take 16 r ≡ Sha1.words (take 64 (drop at (now (s .entry)))) 16) ⌝ }
+    ensures { λ r. ⌜ (length r ≡ 80) × (take 16 r ≡ words (take 64 (drop at (now (s .entry)))) 16) ⌝ }
 {
     let mut w = [0u32; 80];
     let mut i: usize = 0;
@@ -135,7 +136,7 @@ fn next(w: [u32; 80], t: usize) -> u32
 // The last of the first twenty rounds, each with its word: from + 16 to end + 16.
 fn late1(p: Midway, from: usize, end: usize) -> Midway
     requires { ⌜ (from ≤ end) × (end ≤ 4) ⌝ }
-    ensures { λ r. ⌜ ((m : List ℕ) (h : State) → length m ≡ 16 → take (from + 16) (p .words) ≡ schedule m from → p .state ≡ rounds (schedule m 64) (from + 16) h → (take (end + 16) (r .words) ≡ schedule m end) × (r .state ≡ rounds (schedule m 64) (end + 16) h)) ⌝ }
+    ensures { λ r. ⌜ ((m : List ℕ) (h : State) → length m ≡ 16 → Reached m h from p → Reached m h end r) ⌝ }
 {
     let mut g = p.state;
     let mut w = p.words;
@@ -152,7 +153,7 @@ fn late1(p: Midway, from: usize, end: usize) -> Midway
 // Rounds of the second twenty, each with its word: from + 16 to end + 16.
 fn late2(p: Midway, from: usize, end: usize) -> Midway
     requires { ⌜ (4 ≤ from) × (from ≤ end) × (end ≤ 24) ⌝ }
-    ensures { λ r. ⌜ ((m : List ℕ) (h : State) → length m ≡ 16 → take (from + 16) (p .words) ≡ schedule m from → p .state ≡ rounds (schedule m 64) (from + 16) h → (take (end + 16) (r .words) ≡ schedule m end) × (r .state ≡ rounds (schedule m 64) (end + 16) h)) ⌝ }
+    ensures { λ r. ⌜ ((m : List ℕ) (h : State) → length m ≡ 16 → Reached m h from p → Reached m h end r) ⌝ }
 {
     let mut g = p.state;
     let mut w = p.words;
@@ -169,7 +170,7 @@ fn late2(p: Midway, from: usize, end: usize) -> Midway
 // Rounds of the third twenty, each with its word: from + 16 to end + 16.
 fn late3(p: Midway, from: usize, end: usize) -> Midway
     requires { ⌜ (24 ≤ from) × (from ≤ end) × (end ≤ 44) ⌝ }
-    ensures { λ r. ⌜ ((m : List ℕ) (h : State) → length m ≡ 16 → take (from + 16) (p .words) ≡ schedule m from → p .state ≡ rounds (schedule m 64) (from + 16) h → (take (end + 16) (r .words) ≡ schedule m end) × (r .state ≡ rounds (schedule m 64) (end + 16) h)) ⌝ }
+    ensures { λ r. ⌜ ((m : List ℕ) (h : State) → length m ≡ 16 → Reached m h from p → Reached m h end r) ⌝ }
 {
     let mut g = p.state;
     let mut w = p.words;
@@ -186,7 +187,7 @@ fn late3(p: Midway, from: usize, end: usize) -> Midway
 // Rounds of the last twenty, each with its word: from + 16 to end + 16.
 fn late4(p: Midway, from: usize, end: usize) -> Midway
     requires { ⌜ (44 ≤ from) × (from ≤ end) × (end ≤ 64) ⌝ }
-    ensures { λ r. ⌜ ((m : List ℕ) (h : State) → length m ≡ 16 → take (from + 16) (p .words) ≡ schedule m from → p .state ≡ rounds (schedule m 64) (from + 16) h → (take (end + 16) (r .words) ≡ schedule m end) × (r .state ≡ rounds (schedule m 64) (end + 16) h)) ⌝ }
+    ensures { λ r. ⌜ ((m : List ℕ) (h : State) → length m ≡ 16 → Reached m h from p → Reached m h end r) ⌝ }
 {
     let mut g = p.state;
     let mut w = p.words;

@@ -3,32 +3,35 @@ ghost use mathlib.Core.Path.{_≡_};
 ghost use mathlib.Core.List.{List, _++_};
 ghost use lib.ListN.{length};
 ghost use Prim.Native.Nat.{ℕ};
+ghost use Rattle.digest.specs.Bytes.{laidWithin};
 ghost use Rattle.digest.specs.Sha1.{sha1};
 ghost use Rattle.digest.specs.Hmac.{hmac, keyOf};
 ghost use Rattle.digest.specs.Expansion.{prf};
-ghost use Rattle.speed.specs.Placed.{placed};
 use digest::Key;
+use digest::put;
 
 // The digest of s, in the first twenty bytes of `out`. A shorter `out` is left as it is.
 #[no_mangle]
 pub extern "C" fn speed_sha1(s: &[u8], out: &mut [u8])
-    ensures { λ _. ⌜ now (out .exit) ≡ placed (now (out .entry)) (sha1 (now (s .entry))) ⌝ }
+    ensures { λ _. ⌜ now (out .exit) ≡ laidWithin (now (out .entry)) 0 (sha1 (now (s .entry))) ⌝ }
 {
-    put(out, digest::sha1(s));
+    let d = digest::sha1(s);
+    put(out, 0, &d);
 }
 
 // The code of a message under a key that is set up for it.
 #[no_mangle]
 pub extern "C" fn speed_hmac(key: &[u8], message: &[u8], out: &mut [u8])
-    ensures { λ _. ⌜ now (out .exit) ≡ placed (now (out .entry)) (hmac (now (key .entry)) (now (message .entry))) ⌝ }
+    ensures { λ _. ⌜ now (out .exit) ≡ laidWithin (now (out .entry)) 0 (hmac (now (key .entry)) (now (message .entry))) ⌝ }
 {
-    put(out, code(Key::new(key), message));
+    let c = code(Key::new(key), message);
+    put(out, 0, &c);
 }
 
 // The same code, made n times (once, if n is 0) under a key that is set up once.
 #[no_mangle]
 pub extern "C" fn speed_codes(key: &[u8], message: &[u8], n: usize, out: &mut [u8])
-    ensures { λ _. ⌜ now (out .exit) ≡ placed (now (out .entry)) (hmac (now (key .entry)) (now (message .entry))) ⌝ }
+    ensures { λ _. ⌜ now (out .exit) ≡ laidWithin (now (out .entry)) 0 (hmac (now (key .entry)) (now (message .entry))) ⌝ }
 {
     let k = Key::new(key);
     let mut c = code(k, message);
@@ -37,7 +40,7 @@ pub extern "C" fn speed_codes(key: &[u8], message: &[u8], n: usize, out: &mut [u
         c = code(k, message);
         i += 1;
     }
-    put(out, c);
+    put(out, 0, &c);
 }
 
 // The pseudo-random function, over all of `out`.
@@ -60,18 +63,4 @@ fn code(key: Key, message: &[u8]) -> [u8; 20]
     ensures { λ r. ⌜ ((k : List ℕ) → key ≡ keyOf k → r ≡ hmac k (now (message .entry))) ⌝ }
 {
     key.end(key.begin().update(message))
-}
-
-// The twenty bytes of a result at the front of `out`, where it has room for them.
-fn put(out: &mut [u8], result: [u8; 20])
-    ensures { λ _. ⌜ now (out .exit) ≡ placed (now (out .entry)) result ⌝ }
-{
-    if out.len() < 20 {
-        return;
-    }
-    let mut i: usize = 0;
-    while i < 20 {
-        out[i] = result[i];
-        i += 1;
-    }
 }

@@ -53,14 +53,14 @@ returns c = let c₆₄ = c .before .before in
     let m = words block 16 in
     let l = length-words block 16 in
     let p₀ = begun-rounds m (c₀ .before .loaded .result) h (c₀ .phase1 .result) l (c₀ .before .loaded .ensures .1) (c₀ .phase1 .ensures h) in
-    let p₄ = c₄ .late1 .ensures m h l (p₀ .0) (p₀ .1) in
-    let p₁₄ = c₁₄ .late2 .ensures m h l (p₄ .0) (p₄ .1) in
-    let p₂₄ = c₂₄ .late22 .ensures m h l (p₁₄ .0) (p₁₄ .1) in
-    let p₃₄ = c₃₄ .late3 .ensures m h l (p₂₄ .0) (p₂₄ .1) in
-    let p₄₄ = c₄₄ .late32 .ensures m h l (p₃₄ .0) (p₃₄ .1) in
-    let p₅₄ = c₅₄ .late4 .ensures m h l (p₄₄ .0) (p₄₄ .1) in
-    let p₆₄ = c₆₄ .late42 .ensures m h l (p₅₄ .0) (p₅₄ .1) in
-    c .added .ensures ∙ ap (joined h) (p₆₄ .1)
+    let p₄ = c₄ .late1 .ensures m h l p₀ in
+    let p₁₄ = c₁₄ .late2 .ensures m h l p₄ in
+    let p₂₄ = c₂₄ .late22 .ensures m h l p₁₄ in
+    let p₃₄ = c₃₄ .late3 .ensures m h l p₂₄ in
+    let p₄₄ = c₄₄ .late32 .ensures m h l p₃₄ in
+    let p₅₄ = c₅₄ .late4 .ensures m h l p₄₄ in
+    let p₆₄ = c₆₄ .late42 .ensures m h l p₅₄ in
+    c .added .ensures ∙ ap (joined h) (p₆₄ .state-is)
 
 pub compressed-spec : {M : Type 1} → statement M
 compressed-spec =

@@ -2,8 +2,8 @@
 use Prim.Native.Nat.{ℕ, _+_, _-_, _≤_}
 use mathlib.Core.Path.{_≡_, _∙_}
 use mathlib.Core.List.{List}
-use lib.ListN.{length, take, length-set}
-use Rattle.digest.specs.Sha1.{schedule, rounds}
+use lib.ListN.{length, length-set}
+use Rattle.digest.specs.Midway.{Reached}
 use Rattle.digest.specs.declared.block.State.{State}
 use Rattle.digest.proofs.Rounds.{late-more, f-third, k-third}
 use borrow.Author.Needs.{needs}
@@ -16,14 +16,13 @@ Inv-loop from end g₀ w₀ t₀ g w t =
     (from ≤ t)
     × (t ≤ end)
     × (length w ≡ 80)
-    × ((m : List ℕ) (h : State) → length m ≡ 16 → take (from + 16) w₀ ≡ schedule m from → g₀ ≡ rounds (schedule m 64) (from + 16) h
-    → (take (t + 16) w ≡ schedule m t) × (g ≡ rounds (schedule m 64) (t + 16) h))
+    × ((m : List ℕ) (h : State) → length m ≡ 16 → Reached m h from (record { state = g₀; words = w₀ }) → Reached m h t (record { state = g; words = w }))
 
 abbrev μ-loop : tie.MeasureT-loop
 μ-loop from end g₀ w₀ t₀ g w t = end - t
 
 loop-holds : tie.Need-loop-holds Inv-loop μ-loop
-loop-holds c = (omega arith, omega arith, search needs, λ m h l e p. (e, p))
+loop-holds c = (omega arith, omega arith, search needs, λ m h l p. p)
 
 next-requires : tie.Need-next-requires Inv-loop μ-loop
 next-requires c κs = search needs
@@ -52,15 +51,15 @@ loop-again c = let at = c .before .before .before .before .before .before .loop 
       omega arith,
       omega arith,
       length-set (at .w) (at .t + 16) (x .result) ∙ at .inv .2,
-      λ m h l e p.
-          late-more m (at .w) (at .t) (x .result) h (at .g) (c .turned .result) l (at .inv .2) (omega arith) (at .inv .3 m h l e p) (x .ensures m)
+      λ m h l p.
+          late-more m (at .w) (at .t) (x .result) h (at .g) (c .turned .result) l (at .inv .2) (omega arith) (at .inv .3 m h l p) (x .ensures m)
           (c .turned .ensures (at .t + 16) (f-third (at .t + 16) _ _ _ (omega arith) (omega arith)) (k-third (at .t + 16) (omega arith) (omega arith))),
     )
 
 returns : tie.Need-returns Inv-loop μ-loop
-returns c = λ m h l e p.
+returns c = λ m h l p.
     let last : c .before .loop .t ≡ c .before .before .before .before .args .end = omega arith in
-    rw last at (c .before .loop .inv .3 m h l e p)
+    rw last at (c .before .loop .inv .3 m h l p)
 
 pub late3-spec : {M : Type 1} → statement M
 late3-spec =
