@@ -1,5 +1,5 @@
 /* SHA-1 and HMAC of four makers, timed side by side: the crate digest, plain C, BearSSL and OpenSSL.
-   Each repetition times all four, one after the other, on the same work; the ratios are of one repetition, and what is
+   Each repetition times all four, one after the other, at each kind of work; a ratio is of one repetition, and what is
    printed is the median over all. Nothing fails on speed. Status 1: the four do not agree. */
 #include <stdio.h>
 #include <stdlib.h>
@@ -149,31 +149,42 @@ static double median(double *v, int n) {
     return n % 2 ? v[n / 2] : (v[n / 2 - 1] + v[n / 2]) / 2;
 }
 
-static void compare(const char *title, void (*work)(int, int), int batch, int repetitions) {
-    double *took[MAKERS], *ratio = malloc(sizeof(double) * (size_t)repetitions), began;
-    int m, r, i;
-    for (m = 0; m < MAKERS; m++) {
-        took[m] = malloc(sizeof(double) * (size_t)repetitions);
-        work(m, batch);
-    }
-    for (r = 0; r < repetitions; r++)
-        for (i = 0; i < MAKERS; i++) {
-            m = (i + r) % MAKERS; /* each maker is first in turn */
-            began = now();
-            work(m, batch);
-            took[m][r] = (now() - began) / batch;
-        }
-    printf("\n%s\n  %-26s %12s %14s\n", title, "", "ns", "ours/theirs");
-    for (m = PLAIN; m <= MAKERS; m++) {
-        int shown = m % MAKERS; /* ours last: its times are needed in order until then */
-        for (r = 0; r < repetitions; r++) ratio[r] = took[shown][r] / took[OURS][r];
-        double speed = median(ratio, repetitions);
-        printf("  %-26s %12.0f", maker[shown], median(took[shown], repetitions));
-        if (shown != OURS) printf(" %14.2f", speed);
+static const struct {
+    const char *title;
+    void (*work)(int, int);
+    int batch;
+} kind[] = {
+    {"SHA-1 over 64 KiB", digests, 1},
+    {"HMAC over 69 bytes, 20-byte key, with key setup", codes_with_setup, 100},
+    {"HMAC over 69 bytes, 20-byte key, key set up once for 200 codes", codes_alone, 200},
+};
+enum { KINDS = sizeof kind / sizeof kind[0] };
+
+/* The time of each maker at each kind of work, one row for each repetition. */
+static double (*took)[KINDS][MAKERS];
+
+static void repeat(int repetitions) {
+    for (int r = 0; r < repetitions; r++)
+        for (int k = 0; k < KINDS; k++)
+            for (int i = 0; i < MAKERS; i++) {
+                int m = (i + r) % MAKERS; /* each maker is first in turn */
+                double began = now();
+                kind[k].work(m, kind[k].batch);
+                took[r][k][m] = (now() - began) / kind[k].batch;
+            }
+}
+
+static void show(int k, int repetitions) {
+    double *v = malloc(sizeof *v * (size_t)repetitions);
+    printf("\n%s\n  %-26s %12s %14s\n", kind[k].title, "", "ns", "ours/theirs");
+    for (int m = 0; m < MAKERS; m++) {
+        for (int r = 0; r < repetitions; r++) v[r] = took[r][k][m];
+        printf("  %-26s %12.0f", maker[m], median(v, repetitions));
+        for (int r = 0; r < repetitions; r++) v[r] = took[r][k][m] / took[r][k][OURS];
+        if (m != OURS) printf(" %14.2f", median(v, repetitions));
         printf("\n");
     }
-    for (m = 0; m < MAKERS; m++) free(took[m]);
-    free(ratio);
+    free(v);
 }
 
 int main(int count, char **words) {
@@ -186,8 +197,10 @@ int main(int count, char **words) {
     if (off == NULL || strcmp(off, "0:0") != 0) printf("OPENSSL_ia32cap is not 0:0, so (c) may use the processor's SHA instructions.\n");
     if (!agree()) return 1;
     printf("All four agree. Medians of %d repetitions; ours/theirs: how many times as fast ours is.\n", repetitions);
-    compare("SHA-1 over 64 KiB", digests, 1, repetitions);
-    compare("HMAC over 69 bytes, 20-byte key, with key setup", codes_with_setup, 100, repetitions);
-    compare("HMAC over 69 bytes, 20-byte key, key set up once for 200 codes", codes_alone, 200, repetitions);
+    took = malloc(sizeof *took * (size_t)repetitions);
+    if (took == NULL) return printf("no memory for %d repetitions\n", repetitions), 1;
+    repeat(1); /* to warm up */
+    repeat(repetitions);
+    for (int k = 0; k < KINDS; k++) show(k, repetitions);
     return 0;
 }
