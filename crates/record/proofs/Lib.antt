@@ -1,0 +1,4 @@
+-- Laws that belong to no one function, and theorems about the definitions.
+pub mod TypeByte
+pub mod Standing
+pub mod Walking

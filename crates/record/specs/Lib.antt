@@ -1,0 +1,4 @@
+-- The definitions of layer 2, framing and window.
+pub mod Header
+pub mod Reader
+pub mod Datagram
