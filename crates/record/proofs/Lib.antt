@@ -2,3 +2,5 @@
 pub mod TypeByte
 pub mod Standing
 pub mod Walking
+pub mod Marks
+pub mod Histories

@@ -2,3 +2,7 @@
 pub mod Header
 pub mod Reader
 pub mod Datagram
+pub mod Window
+pub mod History
+pub mod Keys
+pub mod Checksum
