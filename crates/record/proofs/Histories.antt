@@ -13,7 +13,7 @@ use lib.Dec.{lit<, lit≤, eqb, leb, ltb}
 use lib.Pow.{shr-shr, shl-shr, mod-pow-add}
 use borrow.Author.Tests.{eq-eqb, ne-eqb, le-leb, lt-leb, lt-ltb, le-ltb, eqb-true, leb-true, leb-false, ltb-true, ltb-false}
 use Rattle.digest.specs.Pick.{pick}
-use Rattle.record.specs.Window.{acceptBy, acceptOf, arrivedAt, tooOld}
+use Rattle.record.specs.Window.{freshWindow, acceptBy, acceptOf, arrivedAt}
 use Rattle.record.specs.History.{accepted, highestOf, markOf, marksFrom, countFrom, windowOf, arrivedOf, judgedOf}
 use Rattle.record.specs.declared.window.Window.{Window}
 use Rattle.record.specs.declared.window.Acceptance.{Acceptance}
@@ -310,3 +310,28 @@ judged w p (t ∷ h) s =
 -- that of the history with s, and the count is how many of its newest numbers have arrived.
 pub meaning : (w : ℕ) → 0 < w → (h : List ℕ) (s : ℕ) → acceptOf w (windowOf w h) s ≡ judgedOf w h s
 meaning w p h s = ap (λ (m : ℕ). acceptBy w (highestOf h) m s) (mod-eq-of-lt (marks-lt h (highestOf h) w 0)) ∙ judged w p h s
+
+-- a fresh window is that of no number
+pub fresh-means : (w : ℕ) → freshWindow ≡ windowOf w []
+fresh-means w =
+    let m : marksFrom [] 0 w 0 ≡ 0 =
+      marks-zero [] 0 w 0
+      (λ i l. decide (leb i 0) (λ e. mark-in [] 0 i false (leb-true i 0 e) (none (0 - i))) (λ e. mark-out [] 0 i (leb-false i 0 e))) in
+    rw (lowest, m)
+
+-- of the newest numbers at least the highest has arrived, and at most all
+pub arrived-some : (w s : ℕ) (h : List ℕ) → 0 < w → 0 < arrivedOf w (s ∷ h)
+unfolding countFrom
+arrived-some zero s h p = absurd (omega arith)
+arrived-some (suc w) s h p =
+    let n : ℕ = highestOf (s ∷ h) in
+    let one : markOf (s ∷ h) n 0 ≡ 1 = mark-in (s ∷ h) n 0 true (omega arith) (ap (accepted (s ∷ h)) (omega arith) ∙ highest-in s h) in
+    omega (arith, one)
+
+count-le : (h : List ℕ) (n w j : ℕ) → countFrom h n w j ≤ w
+unfolding countFrom
+count-le h n zero j = lit≤ tt
+count-le h n (suc w) j = omega (arith, mark-le h n j, count-le h n w (suc j))
+
+pub arrived-most : (w : ℕ) (h : List ℕ) → arrivedOf w h ≤ w
+arrived-most w h = count-le h (highestOf h) w 0

@@ -4,3 +4,4 @@ pub mod Standing
 pub mod Walking
 pub mod Marks
 pub mod Histories
+pub mod Blocks

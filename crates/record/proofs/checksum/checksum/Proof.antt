@@ -1,87 +1,87 @@
+-- `checksum`: the loop keeps `Summed`, and the last block ends it.
+use denote.Ref.{now}
+use mathlib.Core.Path.{ap, _∙_}
+use Prim.Native.Nat.{ℕ, _-_}
+use mathlib.Core.List.{List}
+use native.Mathlib.Omega.{arith}
+use lib.ListN.{length, length-drop}
+use lib.Bits.{bitXor}
+use Rattle.digest.specs.Bytes.{wordAt}
+use Rattle.record.specs.Checksum.{padded}
+use Rattle.record.proofs.Blocks.{Summed, begun, go-on, done}
+use Rattle.record.proofs.Walking.{part-on}
+use borrow.Author.Needs.{needs}
 use Rattle.record.proofs.checksum.checksum.Statement.{statement}
 use Rattle.record.proofs.checksum.checksum.Tie as tie
-use Rattle.record.proofs.checksum.checksum.Reads as reads
-use Rattle.record.proofs.checksum.checksum.Lts as lts
-use Rattle.record.proofs.checksum.last.Reads as last-reads
-use Rattle.record.proofs.checksum.word.Reads as word-reads
 
 abbrev Inv-loop : tie.InvT-loop
-Inv-loop s sum₀ i₀ sum i = ?
+Inv-loop s sum₀ i₀ sum i = Summed s sum i
 
 abbrev μ-loop : tie.MeasureT-loop
-μ-loop s sum₀ i₀ sum i = ?
+μ-loop s sum₀ i₀ sum i = length s - i
 
--- src/checksum.rt:14:5
 loop-holds : tie.Need-loop-holds Inv-loop μ-loop
-loop-holds c = ?
+loop-holds c = begun _
 
--- src/checksum.rt:14:16
 sub-loop : tie.Need-sub-loop Inv-loop μ-loop
-sub-loop c = ?
+sub-loop c = search needs
 
--- src/checksum.rt:15:21
 shared-slice-read-word : tie.Need-shared-slice-read-word Inv-loop μ-loop
-shared-slice-read-word c = ?
+shared-slice-read-word c = search needs
 
--- src/checksum.rt:15:29
 add-word : tie.Need-add-word Inv-loop μ-loop
-add-word c = ?
+add-word c = search needs
 
--- src/checksum.rt:15:27
 shared-slice-read-word-2 : tie.Need-shared-slice-read-word-2 Inv-loop μ-loop
-shared-slice-read-word-2 c = ?
+shared-slice-read-word-2 c = search needs
 
--- src/checksum.rt:15:39
 add-word-2 : tie.Need-add-word-2 Inv-loop μ-loop
-add-word-2 c = ?
+add-word-2 c = search needs
 
--- src/checksum.rt:15:37
 shared-slice-read-word-3 : tie.Need-shared-slice-read-word-3 Inv-loop μ-loop
-shared-slice-read-word-3 c = ?
+shared-slice-read-word-3 c = search needs
 
--- src/checksum.rt:15:49
 add-word-3 : tie.Need-add-word-3 Inv-loop μ-loop
-add-word-3 c = ?
+add-word-3 c = search needs
 
--- src/checksum.rt:15:47
 shared-slice-read-word-4 : tie.Need-shared-slice-read-word-4 Inv-loop μ-loop
-shared-slice-read-word-4 c = ?
+shared-slice-read-word-4 c = search needs
 
--- src/checksum.rt:15:16
 word-requires : tie.Need-word-requires Inv-loop μ-loop
-word-requires c κs = ?
+word-requires c κs = search needs
 
--- src/checksum.rt:16:9
 add-i : tie.Need-add-i Inv-loop μ-loop
-add-i c = ?
+add-i c = search needs
 
--- src/checksum.rt:14:5
 loop-less : tie.Need-loop-less Inv-loop μ-loop
-loop-less c = ?
+loop-less c = search needs
 
--- src/checksum.rt:14:5
 loop-again : tie.Need-loop-again Inv-loop μ-loop
-loop-again c = ?
+loop-again c =
+    rw (c .word .ensures)
+    (go-on (now (c .before .before .before .before .before .before .before .before .args .s)) _ _ (c .before .before .before .before .before .before .loop .inv) (c .before .before .before .before .before .loop-test .taken) (λ k. omega (arith, c .before .before .before .before .before .before .before .shared-slice-known .given k)))
 
--- src/checksum.rt:18:16
 sub-last : tie.Need-sub-last Inv-loop μ-loop
-sub-last c = ?
+sub-last c = search needs
 
--- src/checksum.rt:18:16
 part-last-start : tie.Need-part-last-start Inv-loop μ-loop
-part-last-start c = ?
+part-last-start c = search needs
 
--- src/checksum.rt:18:16
 part-last-end : tie.Need-part-last-end Inv-loop μ-loop
-part-last-end c = ?
+part-last-end c = search needs
 
--- src/checksum.rt:18:11
 last-requires : tie.Need-last-requires Inv-loop μ-loop
-last-requires c κs = ?
+last-requires c κs =
+    let s : List ℕ = now (c .before .before .before .before .args .s) in
+    let i : ℕ = c .before .before .loop .i in
+    omega (arith, ap length (part-on s i), length-drop i s, c .before .loop-test .left)
 
--- src/checksum.rt:9:1
 returns : tie.Need-returns Inv-loop μ-loop
-returns c = ?
+returns c =
+    let s : List ℕ = now (c .before .before .before .before .before .args .s) in
+    let i : ℕ = c .before .before .before .loop .i in
+    ap (bitXor (c .before .before .before .loop .sum)) (c .last .ensures ∙ ap (λ (x : List ℕ). wordAt (padded x) 0) (part-on s i))
+    ∙ done s _ i (c .before .before .before .loop .inv) (omega (arith, length-drop i s, c .before .before .loop-test .left)) (λ k. omega (arith, c .before .before .before .before .shared-slice-known .given k))
 
 pub checksum-spec : {M : Type 1} → statement M
 checksum-spec =
