@@ -5,3 +5,4 @@ pub mod Walking
 pub mod Marks
 pub mod Histories
 pub mod Blocks
+pub mod Fronts

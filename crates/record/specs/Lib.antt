@@ -6,3 +6,4 @@ pub mod Window
 pub mod History
 pub mod Keys
 pub mod Checksum
+pub mod Written

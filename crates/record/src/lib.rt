@@ -7,3 +7,4 @@ pub mod datagram;
 pub mod window;
 pub mod keys;
 pub mod checksum;
+pub mod written;
