@@ -23,8 +23,8 @@ pub xor-spelled : (a b c d p q r s : ℕ) → b < 256 → c < 256 → d < 256 �
 xor-spelled a b c d p q r s hb hc hd hq hr hs =
     xor-block 8 ((a * 256 + b) * 256 + c) ((p * 256 + q) * 256 + r) d s hd hs
     ∙ ap (λ (x : ℕ). x * 256 + bitXor d s)
-      (xor-block 8 (a * 256 + b) (p * 256 + q) c r hc hr
-        ∙ ap (λ (x : ℕ). x * 256 + bitXor c r) (xor-block 8 a p b q hb hq))
+    (xor-block 8 (a * 256 + b) (p * 256 + q) c r hc hr
+    ∙ ap (λ (x : ℕ). x * 256 + bitXor c r) (xor-block 8 a p b q hb hq))
 
 -- where the loop stands: the sum is that of a block, and the blocks from i on are to be XORed onto it
 pub record Summed (s : List ℕ) (sum i : ℕ) : Type 0 where
@@ -60,10 +60,10 @@ drop-four : (s : List ℕ) (i : ℕ) → i + 4 ≤ length s → drop i s ≡ get
 drop-four s i h =
     drop-one s i (i + 1) refl (omega arith)
     ∙ ap (λ (x : List ℕ). getD s i 0 ∷ x)
-      (drop-one s (i + 1) (i + 2) (omega arith) (omega arith)
-        ∙ ap (λ (x : List ℕ). getD s (i + 1) 0 ∷ x)
-          (drop-one s (i + 2) (i + 3) (omega arith) (omega arith)
-            ∙ ap (λ (x : List ℕ). getD s (i + 2) 0 ∷ x) (drop-one s (i + 3) (i + 4) (omega arith) (omega arith))))
+    (drop-one s (i + 1) (i + 2) (omega arith) (omega arith)
+    ∙ ap (λ (x : List ℕ). getD s (i + 1) 0 ∷ x)
+    (drop-one s (i + 2) (i + 3) (omega arith) (omega arith)
+    ∙ ap (λ (x : List ℕ). getD s (i + 2) 0 ∷ x) (drop-one s (i + 3) (i + 4) (omega arith) (omega arith))))
 
 pub go-on : (s : List ℕ) (sum i : ℕ) → Summed s sum i → 4 ≤ length s - i → ((k : ℕ) → getD s k 0 < 256) → Summed s (bitXor sum (spelled (getD s i 0) (getD s (i + 1) 0) (getD s (i + 2) 0) (getD s (i + 3) 0))) (i + 4)
 unfolding xorBlocks xorBlock
@@ -82,13 +82,14 @@ go-on s sum i w h small =
       small-c = xor-lt 8 (w .c) r (w .small-c) (small (i + 2));
       small-d = xor-lt 8 (w .d) t (w .small-d) (small (i + 3));
       spells =
-        ap (λ (x : ℕ). bitXor x (spelled p q r t)) (w .spells)
-        ∙ xor-spelled (w .a) (w .b) (w .c) (w .d) p q r t (w .small-b) (w .small-c) (w .small-d) (small (i + 1)) (small (i + 2)) (small (i + 3));
+          ap (λ (x : ℕ). bitXor x (spelled p q r t)) (w .spells)
+          ∙ xor-spelled (w .a) (w .b) (w .c) (w .d) p q r t (w .small-b) (w .small-c) (w .small-d) (small (i + 1)) (small (i + 2)) (small (i + 3));
       inside = omega (arith, w .inside);
       so-far =
-        w .so-far
-        ∙ ap (xorBlocks (block (w .a) (w .b) (w .c) (w .d)))
-          (ap padded (drop-four s i (omega (arith, w .inside))) ∙ padded-four p q r t (drop (i + 4) s)) }
+          w .so-far
+          ∙ ap (xorBlocks (block (w .a) (w .b) (w .c) (w .d)))
+          (ap padded (drop-four s i (omega (arith, w .inside))) ∙ padded-four p q r t (drop (i + 4) s));
+    }
 
 -- what is left is less than a block: padded it is none or one
 one-block : (a b c d : ℕ) → a < 256 → b < 256 → c < 256 → d < 256 → (t : List ℕ) → length t < 4 → ((k : ℕ) → getD t k 0 < 256) → wordAt (xorBlocks (block a b c d) (padded t)) 0 ≡ bitXor (spelled a b c d) (wordAt (padded t) 0)

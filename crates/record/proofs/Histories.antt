@@ -61,7 +61,7 @@ highest-in t (u ∷ h) =
     decide (leb (highestOf (u ∷ h)) t)
     (λ e. ap (accepted (t ∷ u ∷ h)) (omega (arith, leb-true (highestOf (u ∷ h)) t e)) ∙ accepted-here t (u ∷ h))
     (λ e. ap (accepted (t ∷ u ∷ h)) (omega (arith, leb-false (highestOf (u ∷ h)) t e))
-      ∙ accepted-still t (highestOf (u ∷ h)) (u ∷ h) (highest-in u h))
+    ∙ accepted-still t (highestOf (u ∷ h)) (u ∷ h) (highest-in u h))
 
 -- ---- marks
 
@@ -154,17 +154,17 @@ module _ (k h : List ℕ) (m n : ℕ) where
   marks-set p zero j l free full e = absurd (omega arith)
   marks-set zero (suc w) j l free full e =
       let rest : marksFrom k m w (suc j) ≡ marksFrom h n w (suc j) =
-        marks-same w (suc j) (suc j) (λ i. ap (markOf k m) (omega arith) ∙ e (suc i) (λ z. omega arith) ∙ ap (markOf h n) (omega arith)) in
+      marks-same w (suc j) (suc j) (λ i. ap (markOf k m) (omega arith) ∙ e (suc i) (λ z. omega arith) ∙ ap (markOf h n) (omega arith)) in
       let a : markOf k m j ≡ 1 = ap (markOf k m) (sym (add-zero j)) ∙ full in
       let b : markOf h n j ≡ 0 = ap (markOf h n) (sym (add-zero j)) ∙ free in
       omega (arith, rest, a, b)
   marks-set (suc p) (suc w) j l free full e =
       let go : (x : ℕ) → j + suc x ≡ suc j + x = λ x. omega arith in
       let rest : marksFrom k m w (suc j) ≡ marksFrom h n w (suc j) + 2 ^ p =
-        marks-set p w (suc j) (omega arith) (ap (markOf h n) (sym (go p)) ∙ free) (ap (markOf k m) (sym (go p)) ∙ full)
-        (λ i d. ap (markOf k m) (sym (go i)) ∙ e (suc i) (λ z. d (omega arith)) ∙ ap (markOf h n) (go i)) in
+      marks-set p w (suc j) (omega arith) (ap (markOf h n) (sym (go p)) ∙ free) (ap (markOf k m) (sym (go p)) ∙ full)
+      (λ i d. ap (markOf k m) (sym (go i)) ∙ e (suc i) (λ z. d (omega arith)) ∙ ap (markOf h n) (go i)) in
       let a : markOf k m j ≡ markOf h n j =
-        ap (markOf k m) (sym (add-zero j)) ∙ e 0 (λ z. omega arith) ∙ ap (markOf h n) (add-zero j) in
+      ap (markOf k m) (sym (add-zero j)) ∙ e 0 (λ z. omega arith) ∙ ap (markOf h n) (add-zero j) in
       omega (arith, rest, a, pow-suc 2 p)
 
   -- all marks d places on, with none in the places that come free, cut to the width
@@ -178,8 +178,8 @@ module _ (k h : List ℕ) (m n : ℕ) where
       let x : ℕ = marksFrom h n v 0 in
       let go : (y : ℕ) → suc j + y ≡ j + suc y = λ y. omega arith in
       let rest : marksFrom k m w (suc j) ≡ x * 2 ^ d % 2 ^ w =
-        marks-moved d w v (suc j) (omega arith) (λ i q. ap (markOf k m) (go i) ∙ none (suc i) (omega arith))
-        (λ i. ap (markOf k m) (omega arith) ∙ e i) in
+      marks-moved d w v (suc j) (omega arith) (λ i q. ap (markOf k m) (go i) ∙ none (suc i) (omega arith))
+      (λ i. ap (markOf k m) (omega arith) ∙ e i) in
       let first : markOf k m j ≡ 0 = ap (markOf k m) (sym (add-zero j)) ∙ none 0 (omega arith) in
       ap₂ (λ (a b : ℕ). a * 2 + b) rest first ∙ add-zero (x * 2 ^ d % 2 ^ w * 2) ∙ sym (doubled (x * 2 ^ d) w)
       ∙ ap (λ (y : ℕ). y % 2 ^ suc w) (mul-assoc x (2 ^ d) 2 ∙ ap (λ (y : ℕ). x * y) (sym (pow-suc 2 d)))
@@ -196,11 +196,11 @@ unfolding marksFrom
 first-marks zero s p = absurd (omega arith)
 first-marks (suc w) s p =
     let rest : marksFrom (s ∷ []) s w 1 ≡ 0 =
-      marks-zero (s ∷ []) s w 1
-      (λ i l. decide (leb i s)
-        (λ e. let q : i ≤ s = leb-true i s e in
-          mark-in (s ∷ []) s i false q (accepted-other s (s - i) [] (λ z. omega arith) ∙ none (s - i)))
-        (λ e. mark-out (s ∷ []) s i (leb-false i s e))) in
+    marks-zero (s ∷ []) s w 1
+    (λ i l. decide (leb i s)
+    (λ e. let q : i ≤ s = leb-true i s e in
+    mark-in (s ∷ []) s i false q (accepted-other s (s - i) [] (λ z. omega arith) ∙ none (s - i)))
+    (λ e. mark-out (s ∷ []) s i (leb-false i s e))) in
     let own : markOf (s ∷ []) s 0 ≡ 1 = mark-in (s ∷ []) s 0 true (omega arith) (ap (accepted (s ∷ [])) (omega arith) ∙ accepted-here s []) in
     rw (rest, own)
 
@@ -209,11 +209,11 @@ mark-same : (k h : List ℕ) (m n i j : ℕ) → m - i ≡ n - j → (i ≤ m �
 mark-same k h m n i j e to fro same =
     decide (leb j n)
     (λ f. let q : j ≤ n = leb-true j n f in
-      mark-in k m i (accepted k (n - j)) (fro q) (ap (accepted k) e)
-      ∙ ap (λ (b : Bool). pick b 1 0) (same q) ∙ sym (mark-in h n j (accepted h (n - j)) q refl))
+    mark-in k m i (accepted k (n - j)) (fro q) (ap (accepted k) e)
+    ∙ ap (λ (b : Bool). pick b 1 0) (same q) ∙ sym (mark-in h n j (accepted h (n - j)) q refl))
     (λ f. let q : n < j = leb-false j n f in
-      let o : m < i = decide (leb i m) (λ g. absurd (omega (arith, to (leb-true i m g)))) (leb-false i m) in
-      mark-out k m i o ∙ sym (mark-out h n j q))
+    let o : m < i = decide (leb i m) (λ g. absurd (omega (arith, to (leb-true i m g)))) (leb-false i m) in
+    mark-out k m i o ∙ sym (mark-out h n j q))
 
 -- a number above the highest
 newer-marks : (w s : ℕ) (h : List ℕ) → 0 < w → highestOf h < s → marksFrom (s ∷ h) s w 0 ≡ marksFrom h (highestOf h) w 0 * 2 ^ (s - highestOf h) % 2 ^ w + 1
@@ -225,16 +225,16 @@ newer-marks (suc w) s h p l =
     let d : ℕ = s - n - 1 in
     let own : markOf (s ∷ h) s 0 ≡ 1 = mark-in (s ∷ h) s 0 true (omega arith) (ap (accepted (s ∷ h)) (omega arith) ∙ accepted-here s h) in
     let rest : marksFrom (s ∷ h) s w 1 ≡ x * 2 ^ d % 2 ^ w =
-      marks-moved (s ∷ h) h s n d w (suc w) 1 (omega arith)
-      (λ i q. mark-in (s ∷ h) s (1 + i) false (omega arith)
-        (accepted-other s (s - (1 + i)) h (λ z. omega arith) ∙ above h (s - (1 + i)) (omega arith)))
-      (λ i. mark-same (s ∷ h) h s n (1 + (d + i)) i (omega arith) (λ q. omega arith) (λ q. omega arith)
-        (λ q. accepted-other s (n - i) h (λ z. omega arith))) in
+    marks-moved (s ∷ h) h s n d w (suc w) 1 (omega arith)
+    (λ i q. mark-in (s ∷ h) s (1 + i) false (omega arith)
+    (accepted-other s (s - (1 + i)) h (λ z. omega arith) ∙ above h (s - (1 + i)) (omega arith)))
+    (λ i. mark-same (s ∷ h) h s n (1 + (d + i)) i (omega arith) (λ q. omega arith) (λ q. omega arith)
+    (λ q. accepted-other s (n - i) h (λ z. omega arith))) in
     ap₂ (λ (a b : ℕ). a * 2 + b) rest own
     ∙ ap (λ (y : ℕ). y + 1)
-      (sym (doubled (x * 2 ^ d) w)
-        ∙ ap (λ (y : ℕ). y % 2 ^ suc w) (mul-assoc x (2 ^ d) 2 ∙ ap (λ (y : ℕ). x * y) (sym (pow-suc 2 d)))
-        ∙ ap (λ (y : ℕ). x * 2 ^ y % 2 ^ suc w) (omega arith))
+    (sym (doubled (x * 2 ^ d) w)
+    ∙ ap (λ (y : ℕ). y % 2 ^ suc w) (mul-assoc x (2 ^ d) 2 ∙ ap (λ (y : ℕ). x * y) (sym (pow-suc 2 d)))
+    ∙ ap (λ (y : ℕ). x * 2 ^ y % 2 ^ suc w) (omega arith))
 
 -- a number below the highest, and not accepted
 older-marks : (w s : ℕ) (h : List ℕ) → s ≤ highestOf h → highestOf h < s + w → accepted h s ≡ false → marksFrom (s ∷ h) (highestOf h) w 0 ≡ marksFrom h (highestOf h) w 0 + 2 ^ (highestOf h - s)
@@ -246,7 +246,7 @@ older-marks w s h l q e =
     (mark-in h n (0 + p) false (omega arith) (ap (accepted h) back ∙ e))
     (mark-in (s ∷ h) n (0 + p) true (omega arith) (ap (accepted (s ∷ h)) back ∙ accepted-here s h))
     (λ i d. mark-same (s ∷ h) h n n (0 + i) (0 + i) refl (λ z. z) (λ z. z)
-      (λ z. accepted-other s (n - (0 + i)) h (λ y. d (omega arith))))
+    (λ z. accepted-other s (n - (0 + i)) h (λ y. d (omega arith))))
 
 -- a window with a mark: the highest number of a history that is not empty has one
 marked-some : (w t : ℕ) (h : List ℕ) → 0 < w → marksFrom (t ∷ h) (highestOf (t ∷ h)) w 0 ≡ 0 → ⊥
@@ -274,25 +274,25 @@ not-newer w p t h s l =
     decide (leb (s + w) n)
     (λ old. rw (ne-eqb m 0 (marked-some w t h p), le-ltb n s l, old))
     (λ young.
-      let q : n < s + w = leb-false (s + w) n young in
-      let j : ℕ = n - s in
-      let digit : m / 2 ^ j % 2 ≡ markOf g n (0 + j) = marks-digit g n j w 0 (omega arith) in
-      decide (accepted g s)
-      (λ in-it.
-        let set-bit : m / 2 ^ j % 2 ≡ 1 = digit ∙ mark-in g n (0 + j) true (omega arith) (ap (accepted g) (omega arith) ∙ in-it) in
-        rw (ne-eqb m 0 (marked-some w t h p), le-ltb n s l, young, in-it, set-bit))
-      (λ not-in.
-        let clear-bit : m / 2 ^ j % 2 ≡ 0 = digit ∙ mark-in g n (0 + j) false (omega arith) (ap (accepted g) (omega arith) ∙ not-in) in
-        rw (ne-eqb m 0 (marked-some w t h p), le-ltb n s l, young, not-in, clear-bit)
-        (taken w s n (m + 2 ^ j) g (highest-of s n g refl ∙ omega arith) (older-marks w s g l q not-in))))
+    let q : n < s + w = leb-false (s + w) n young in
+    let j : ℕ = n - s in
+    let digit : m / 2 ^ j % 2 ≡ markOf g n (0 + j) = marks-digit g n j w 0 (omega arith) in
+    decide (accepted g s)
+    (λ in-it.
+    let set-bit : m / 2 ^ j % 2 ≡ 1 = digit ∙ mark-in g n (0 + j) true (omega arith) (ap (accepted g) (omega arith) ∙ in-it) in
+    rw (ne-eqb m 0 (marked-some w t h p), le-ltb n s l, young, in-it, set-bit))
+    (λ not-in.
+    let clear-bit : m / 2 ^ j % 2 ≡ 0 = digit ∙ mark-in g n (0 + j) false (omega arith) (ap (accepted g) (omega arith) ∙ not-in) in
+    rw (ne-eqb m 0 (marked-some w t h p), le-ltb n s l, young, not-in, clear-bit)
+    (taken w s n (m + 2 ^ j) g (highest-of s n g refl ∙ omega arith) (older-marks w s g l q not-in))))
 
 judged : (w : ℕ) → 0 < w → (h : List ℕ) (s : ℕ) → acceptBy w (highestOf h) (marksFrom h (highestOf h) w 0) s ≡ judgedOf w h s
 unfolding acceptBy judgedOf
 judged w p [] s =
     let n : ℕ = highestOf [] in
     let m : marksFrom [] n w 0 ≡ 0 =
-      marks-zero [] n w 0
-      (λ i l. decide (leb i n) (λ e. mark-in [] n i false (leb-true i n e) (none (n - i))) (λ e. mark-out [] n i (leb-false i n e))) in
+    marks-zero [] n w 0
+    (λ i l. decide (leb i n) (λ e. mark-in [] n i false (leb-true i n e) (none (n - i))) (λ e. mark-out [] n i (leb-false i n e))) in
     rw (m, lt-leb (s + w) n (omega (arith, lowest)), none s)
     (taken w s s 1 [] (highest-of s 0 [] lowest ∙ omega arith) (first-marks w s p))
 judged w p (t ∷ h) s =
@@ -301,9 +301,9 @@ judged w p (t ∷ h) s =
     let m : ℕ = marksFrom g n w 0 in
     decide (ltb n s)
     (λ e.
-      let l : n < s = ltb-true n s e in
-      rw (ne-eqb m 0 (marked-some w t h p), e, lt-leb (s + w) n (omega arith), above g s l)
-      (taken w s s (m * 2 ^ (s - n) % 2 ^ w + 1) g (highest-of s n g refl ∙ omega arith) (newer-marks w s g p l)))
+    let l : n < s = ltb-true n s e in
+    rw (ne-eqb m 0 (marked-some w t h p), e, lt-leb (s + w) n (omega arith), above g s l)
+    (taken w s s (m * 2 ^ (s - n) % 2 ^ w + 1) g (highest-of s n g refl ∙ omega arith) (newer-marks w s g p l)))
     (λ e. not-newer w p t h s (ltb-false n s e))
 
 -- The window of a history answers as the history does: number s is too old, repeated, or new; and if new, the window is
@@ -315,8 +315,8 @@ meaning w p h s = ap (λ (m : ℕ). acceptBy w (highestOf h) m s) (mod-eq-of-lt 
 pub fresh-means : (w : ℕ) → freshWindow ≡ windowOf w []
 fresh-means w =
     let m : marksFrom [] 0 w 0 ≡ 0 =
-      marks-zero [] 0 w 0
-      (λ i l. decide (leb i 0) (λ e. mark-in [] 0 i false (leb-true i 0 e) (none (0 - i))) (λ e. mark-out [] 0 i (leb-false i 0 e))) in
+    marks-zero [] 0 w 0
+    (λ i l. decide (leb i 0) (λ e. mark-in [] 0 i false (leb-true i 0 e) (none (0 - i))) (λ e. mark-out [] 0 i (leb-false i 0 e))) in
     rw (lowest, m)
 
 -- of the newest numbers at least the highest has arrived, and at most all

@@ -6,3 +6,4 @@ pub mod Marks
 pub mod Histories
 pub mod Blocks
 pub mod Fronts
+pub mod Sealed

@@ -37,7 +37,7 @@ lowest-set m by w h k =
     let x : ℕ = m * 2 ^ by % 2 ^ w in
     let e : w ≡ w - 1 + 1 = omega arith in
     let even : x % 2 ^ 1 ≡ 0 =
-      ap (λ (v : ℕ). m * 2 ^ by % 2 ^ v % 2 ^ 1) e ∙ mod-mod-pow (m * 2 ^ by) (w - 1) 1 ∙ moved-out m by 1 h in
+    ap (λ (v : ℕ). m * 2 ^ by % 2 ^ v % 2 ^ 1) e ∙ mod-mod-pow (m * 2 ^ by) (w - 1) 1 ∙ moved-out m by 1 h in
     let twice : x / 2 ^ 1 * 2 ^ 1 ≡ x = omega (arith, split x 1, even) in
     ap (λ (v : ℕ). bitOr v 1) (sym twice) ∙ or-shifted (x / 2 ^ 1) 1 1 (lit< tt) ∙ ap (λ (v : ℕ). v + 1) twice
 

@@ -7,3 +7,4 @@ pub mod History
 pub mod Keys
 pub mod Checksum
 pub mod Written
+pub mod Code

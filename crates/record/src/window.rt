@@ -74,10 +74,7 @@ impl Window {
 fn arrived(highest: u16, marks: u64) -> Acceptance
     ensures { λ r. ⌜ r ≡ arrivedAt highest marks ⌝ }
 {
-    let window = Window {
-        highest,
-        marks,
-    };
+    let window = Window { highest, marks };
     Acceptance::New(window, u64::count_ones(marks))
 }
 

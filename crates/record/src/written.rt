@@ -14,7 +14,13 @@ use crate::header::number_of;
 
 // A clear record with this fragment. Answers how many bytes it wrote: the whole record, or none
 // where the room is too small.
-pub fn write_clear(long: bool, content: Content, number: u16, fragment: &[u8], out: &mut [u8]) -> usize
+pub fn write_clear(
+    long: bool,
+    content: Content,
+    number: u16,
+    fragment: &[u8],
+    out: &mut [u8],
+) -> usize
     ensures count { λ r. ⌜ r ≡ countOf (now (out .entry)) (recordOf long false content number (now (fragment .entry))) ⌝ }
     ensures bytes { λ _. ⌜ now (out .exit) ≡ writtenOf (now (out .entry)) (recordOf long false content number (now (fragment .entry))) ⌝ }
 {
@@ -46,7 +52,14 @@ pub(crate) fn write(
     if out.len() - next < second.len() {
         return 0;
     }
-    write_header(long, protected, content, number, first.len() + second.len(), out);
+    write_header(
+        long,
+        protected,
+        content,
+        number,
+        first.len() + second.len(),
+        out,
+    );
     put(out, head, first);
     put(out, next, second);
     next + second.len()

@@ -15,7 +15,7 @@ shl-result : tie.Need-shl-result
 shl-result c = search needs
 
 returns : tie.Need-returns
-returns c = 
+returns c =
     let j : ℕ = c .args .place in
     ap (bitOr (c .args .marks)) (shl-exact {a = 1} 1 j 64 (search needs) (omega arith) ∙ one-mul (2 ^ j))
     ∙ mark-added (c .args .marks) j (c .pre .1)

@@ -17,7 +17,7 @@ cut-requires : tie.Need-cut-requires
 cut-requires c κs = search needs
 
 returns-2 : tie.Need-returns-2
-returns-2 c = 
+returns-2 c =
     let a = c .before .before .args in
     let pre = c .before .before .pre in
     ap (λ (x : ℕ). bitOr x 1) (c .cut .ensures ∙ shift-cut (a .marks) (a .by) (a .width) (pre .1 .1))

@@ -37,21 +37,24 @@ loop-less : tie.Need-loop-less Inv-loop μ-loop
 loop-less c = search needs
 
 loop-again : tie.Need-loop-again Inv-loop μ-loop
-loop-again c = 
+loop-again c =
     let l = c .before .before .loop in
     let a = c .before .before .before .args in
-    let v = getD (now (a .s)) (l .i) 0 in
-    (omega arith,
-      (length-set (l .d) (a .at + l .i) v ∙ l .inv .1 .0,
+    let v = getD (now (a .s)) (l .i) 0 in (
+      omega arith,
+      (
+        length-set (l .d) (a .at + l .i) v ∙ l .inv .1 .0,
         ap (λ (x : List ℕ). set x (a .at + l .i) v) (l .inv .1 .1)
-        ∙ paste-suc (now (a .d)) (a .at) (now (a .s)) (l .i) 0 (omega arith) (omega arith)
-        ∙ ap (paste (now (a .d)) (a .at) (now (a .s))) (sym (add-one (l .i)))))
+            ∙ paste-suc (now (a .d)) (a .at) (now (a .s)) (l .i) 0 (omega arith) (omega arith)
+            ∙ ap (paste (now (a .d)) (a .at) (now (a .s))) (sym (add-one (l .i))),
+      ),
+    )
 
 same-length : tie.Need-same-length Inv-loop μ-loop
 same-length c = c .before .loop .inv .1 .0
 
 returns : tie.Need-returns Inv-loop μ-loop
-returns c = 
+returns c =
     let a = c .before .before .args in
     let last : c .before .loop .i ≡ length (now (a .s)) = omega arith in
     c .before .loop .inv .1 .1 ∙ ap (paste (now (a .d)) (a .at) (now (a .s))) last ∙ laid-paste (now (a .d)) (a .at) (now (a .s))

@@ -75,7 +75,7 @@ returns-4 c =
     room (now (a .out)) (recordOf (a .long) (a .protected) (a .content) (a .number) (first ++ second)) _ _
     (omega (arith, size, c .before .before .before .before .before .before .before .before .before .before .before .before)) (sym size)
     (laid-three (a .long) (a .protected) (a .content) (a .number) _ (now (a .out)) first second _ _ _ head
-      (c .before .before .before .before .before .before .before .before .before .before .write-header .ensures) (c .before .before .before .before .before .before .put .ensures) (c .before .before .put2 .ensures))
+    (c .before .before .before .before .before .before .before .before .before .before .write-header .ensures) (c .before .before .before .before .before .before .put .ensures) (c .before .before .put2 .ensures))
 
 pub write-spec : {M : Type 1} → statement M
 write-spec =

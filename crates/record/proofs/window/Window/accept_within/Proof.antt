@@ -49,13 +49,13 @@ shr-if4 c = search needs
 
 returns-4 : tie.Need-returns-4
 unfolding acceptBy
-returns-4 c = 
+returns-4 c =
     let m : ℕ = c .before .before .before .before .cut .result in
     rw (sym (c .before .before .before .before .cut .ensures), sym (and-mask (m / 2 ^ (c .before .before .before .before .before .args .self .highest - c .before .before .before .before .before .args .number)) 1)) (search picks)
 
 marked-requires : tie.Need-marked-requires
 unfolding acceptBy
-marked-requires c κs = 
+marked-requires c κs =
     let x : ℕ = c .before .before .before .before .cut .result / 2 ^ (c .before .before .before .before .before .args .self .highest - c .before .before .before .before .before .args .number) in
     (omega arith, omega (arith, mod-lt x {m = 2} (lit< tt), and-mask x 1, c .if4 .left))
 
@@ -64,7 +64,7 @@ arrived-requires-3 c κs = search needs
 
 returns-5 : tie.Need-returns-5
 unfolding acceptBy
-returns-5 c = 
+returns-5 c =
     let x : ℕ = c .before .before .before .before .before .before .cut .result / 2 ^ (c .before .before .before .before .before .before .before .args .self .highest - c .before .before .before .before .before .before .before .args .number) in
     rw (sym (c .before .before .before .before .before .before .cut .ensures), sym (c .before .marked .ensures), sym (and-mask x 1)) (search picks)
 
