@@ -7,3 +7,6 @@ pub mod Histories
 pub mod Blocks
 pub mod Fronts
 pub mod Sealed
+pub mod Covering
+pub mod RoundTrip
+pub mod CasesHold

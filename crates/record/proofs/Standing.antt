@@ -25,6 +25,7 @@ pub record Stands (s : List ℕ) (r : Record) : Type 0 where
   pub content : r .content ≡ contentOf (kindOf (getD s 0 0) .content)
   pub protected : r .protected ≡ kindOf (getD s 0 0) .protected
   pub number : r .number ≡ pairAt s 1
+  pub start : r .start ≡ 0
   pub head : r .head ≡ headOf (kindOf (getD s 0 0))
   pub size : r .size ≡ sizeOf s (kindOf (getD s 0 0))
   pub used : r .used ≡ r .head + r .size
@@ -72,7 +73,7 @@ stands s r e =
     let two = read-sound s byte kind r (one .1) in
     let three = framed-sound byte kind (pairAt s 1) (headOf kind) (sizeOf s kind) (length s - headOf kind) r (two .2) in
     let same : made byte kind (pairAt s 1) (headOf kind) (sizeOf s kind) ≡ r = three .2 in
-    rw (sym same) (record { kind = two .0; byte = refl; content = refl; protected = refl; number = refl; head = refl; size = refl; used = refl; inside = omega (arith, two .1, three .1); some = three .0 })
+    rw (sym same) (record { kind = two .0; byte = refl; content = refl; protected = refl; number = refl; start = refl; head = refl; size = refl; used = refl; inside = omega (arith, two .1, three .1); some = three .0 })
 
 -- a record takes at least one byte, and none past the end
 pub takes : (s : List ℕ) (r : Record) → readOf s ≡ Sound r → (0 < r .used) × (r .used ≤ length s)

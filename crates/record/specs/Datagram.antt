@@ -1,4 +1,5 @@
 -- The walk over a whole datagram (01, "The record on the wire" and "Refusal numbers").
+use mathlib.Core.Path.{_≡_}
 use mathlib.Core.Bool.{Bool, true, false}
 use mathlib.Core.List.{List, [], _∷_, _++_}
 use Prim.Native.Nat.{ℕ, zero, suc, _+_, _-_}
@@ -69,3 +70,10 @@ answered (faulty fault at) = refusedAt fault at
 
 abbrev pub walkOf : List ℕ → Walk
 walkOf d = answered (framingOf d)
+
+-- The records lie one behind the other from `at` on, each read from the part of d where it begins, and end where d ends:
+-- inside the datagram, in order, without overlap, and covering it exactly.
+unfoldable pub CoversFrom : List ℕ → ℕ → List Record → Type 0
+CoversFrom d at [] = at ≡ length d
+CoversFrom d at (r ∷ rs) =
+    (r .start ≡ at) × ((readOf (drop at d) ≡ R.Sound (placedAt r 0)) × CoversFrom d (at + r .used) rs)

@@ -8,3 +8,4 @@ pub mod Keys
 pub mod Checksum
 pub mod Written
 pub mod Code
+pub mod Cases
