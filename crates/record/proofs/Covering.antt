@@ -1,23 +1,24 @@
 -- The records of a soundly framed datagram cover it exactly, and each is found in its place of the walk's answer. The idea:
 -- each step of the framing reads one record and goes on behind it, so a framing that ends without a fault has passed over
 -- every byte.
-use mathlib.Core.Path.{_≡_, refl, sym, ap, _∙_}
+use mathlib.Core.Path.{_≡_, refl, sym, ap, subst, _∙_}
 use mathlib.Core.Bool.{Bool, true, false}
 use mathlib.Core.List.{List, [], _∷_, _++_}
 use Prim.Native.Nat.{ℕ, zero, suc, _+_, _-_, _≤_, _<_}
 use native.Mathlib.Omega.{arith}
 use lib.ListN.{length, getD, drop, replicate, length-append, length-drop, length-replicate, List·getD-append}
 use lib.Seq.{drop-drop}
-use lib.Dec.{eqb, ltb}
+use lib.Dec.{eqb, ltb, lit≤}
 use borrow.Author.Tests.{eqb-true, eqb-false, ltb-false}
 use Rattle.digest.specs.Pick.{pick}
 use Rattle.record.specs.Reader.{readOf}
-use Rattle.record.specs.Datagram.{Framing, framed, faulty, after, ahead, placedAt, framingFrom, framingOf, blank, foundAll, answered, walkOf, CoversFrom}
+use Rattle.record.specs.Datagram.{Framing, framed, faulty, after, ahead, placedAt, framingFrom, framingOf, blank, foundAll, refusedAt, answered, walkOf, CoversFrom}
 use Rattle.record.specs.declared.reader.Record.{Record}
 use Rattle.record.specs.declared.reader.Fault.{Fault}
 use Rattle.record.specs.declared.reader.Fault.the-variants as F
 use Rattle.record.specs.declared.reader.Reading.{Reading}
 use Rattle.record.specs.declared.reader.Reading.the-variants.{Sound, Refused}
+use Rattle.record.specs.declared.datagram.Walk.{Walk}
 use Rattle.record.proofs.Standing.{Stands, stands, takes}
 
 faulty-never : {P : Type 0} (f : Fault) (at : ℕ) (rs : List Record) → faulty f at ≡ framed rs → P
@@ -116,3 +117,38 @@ pub found-eight : (rs : List Record) → length rs ≤ 8 → length (foundAll rs
 unfolding foundAll
 found-eight rs h =
     length-append rs (replicate (8 - length rs) blank) ∙ ap (λ (n : ℕ). length rs + n) (length-replicate (8 - length rs) blank) ∙ omega arith
+
+-- ---- whatever the datagram: at most eight records in eight places, and each that is counted lies in the datagram
+
+module _ (d : List ℕ) where
+  by-framing : (P : Framing → Type 0) → ((rs : List Record) → framingOf d ≡ framed rs → P (framed rs)) → ((f : Fault) (at : ℕ) → P (faulty f at)) → (x : Framing) → framingOf d ≡ x → P x
+  by-framing P p q (framed rs) e = p rs e
+  by-framing P p q (faulty f at) e = q f at
+
+  pub walk-count : walkOf d .count ≤ 8
+  unfolding foundAll refusedAt
+  walk-count =
+      by-framing (λ x. answered x .count ≤ 8) (λ rs e. covers d rs e .4) (λ f at. lit≤ tt) (framingOf d) refl
+
+  pub walk-eight : length (walkOf d .records) ≡ 8
+  unfolding foundAll refusedAt
+  walk-eight =
+      by-framing (λ x. length (answered x .records) ≡ 8) (λ rs e. found-eight rs (covers d rs e .4)) (λ f at. refl) (framingOf d) refl
+
+  pub walk-lies : (i : ℕ) → i < walkOf d .count → Lies d (getD (walkOf d .records) i blank)
+  unfolding foundAll refusedAt
+  walk-lies i =
+      by-framing (λ x. i < answered x .count → Lies d (getD (answered x .records) i blank))
+      (λ rs e h. subst (Lies d) (sym (found-at rs i h)) (lies-at rs i d 0 (omega arith) (covers d rs e .0) h))
+      (λ f at h. absurd (omega arith)) (framingOf d) refl
+
+-- what a caller needs of the walk's answer to go through its records
+pub record Walkable (d : List ℕ) (count : ℕ) (records : List Record) : Type 0 where
+  pub few : count ≤ 8
+  pub eight : length records ≡ 8
+  pub each : (i : ℕ) → i < count → Lies d (getD records i blank)
+
+pub walkable : (d : List ℕ) (w : Walk) → w ≡ walkOf d → Walkable d (w .count) (w .records)
+walkable d w e =
+    subst (λ (x : Walk). Walkable d (x .count) (x .records)) (sym e)
+    (record { few = walk-count d; eight = walk-eight d; each = walk-lies d })

@@ -3,7 +3,7 @@
 ghost use mathlib.Core.Path.{_≡_};
 ghost use Prim.Native.Nat.{_+_, _*_, _^_, _≤_, _<_};
 ghost use lib.ListN.{length};
-ghost use Rattle.record.specs.Reader.{readOf, readAs, headOf, sizeOf, framedOf};
+ghost use Rattle.record.specs.Reader.{faultNumber, readOf, readAs, headOf, sizeOf, framedOf};
 use crate::header::Content;
 use crate::header::Kind;
 use crate::header::content_of;
@@ -17,6 +17,19 @@ pub enum Fault {
     Kind,
     Fragment,
     Ninth,
+}
+
+// The refusal number of a fault.
+pub fn fault_number(fault: Fault) -> u8
+    ensures { λ r. ⌜ r ≡ faultNumber fault ⌝ }
+{
+    match fault {
+        Fault::Size => 1,
+        Fault::Header => 2,
+        Fault::Kind => 3,
+        Fault::Fragment => 4,
+        Fault::Ninth => 5,
+    }
 }
 
 // A record, its places counted from its type byte.
