@@ -10,3 +10,4 @@ pub mod Sealed
 pub mod Covering
 pub mod RoundTrip
 pub mod CasesHold
+pub mod Coincide

@@ -5,15 +5,21 @@ use mathlib.Core.Bool.{Bool, true, false}
 use mathlib.Core.List.{List, [], _∷_, _++_, append-assoc, append-nil}
 use Prim.Native.Nat.{ℕ, suc, _+_, _-_, _*_, _/_, _%_, _^_, _≤_, _<_}
 use native.Mathlib.Omega.{arith}
-use lib.ListN.{length, getD, length-append}
+use lib.ListN.{length, getD, take, drop, length-append}
+use lib.Seq.{take-append-seam}
 use lib.Pow.{recompose}
 use lib.Dec.{eqb, ltb}
 use borrow.Author.Tests.{ne-eqb, le-ltb}
 use Rattle.digest.specs.Pick.{pick}
 use Rattle.digest.specs.Bytes.{bytes2}
+use Rattle.digest.specs.Hmac.{hmac}
+use Rattle.digest.specs.Mac.{sizeOf as codeSize}
+use Rattle.digest.specs.declared.mac.Mac.{Mac}
 use Rattle.record.specs.Header.{kindOf, byteOf, soundKind, contentOf, numberOf}
 use Rattle.record.specs.Reader.{readOf, readAs, framedOf, headOf, sizeOf, pairAt}
 use Rattle.record.specs.Written.{byteFor, headerOf, headerSize, recordOf}
+use Rattle.record.specs.Code.{fragmentBy, protectedBy}
+use Rattle.record.proofs.Sealed.{sealed-length, size-some}
 use Rattle.record.specs.declared.header.Kind.{Kind}
 use Rattle.record.specs.declared.header.Content.{Content}
 use Rattle.record.specs.declared.header.Content.the-variants.{ChangeCipherSpec, Alert, Handshake, Data}
@@ -99,3 +105,18 @@ unfolding recordOf headerOf
 read-short protected content number fragment hn h =
     read-by false protected content number (length fragment) (recordOf false protected content number fragment) refl
     (pair-back number hn) (omega arith) (omega arith) h
+
+-- the fragment stands behind the header
+pub fragment-back : (long protected : Bool) (content : Content) (number : ℕ) (fragment tail : List ℕ) → take (length fragment) (drop (headerSize long) (recordOf long protected content number fragment ++ tail)) ≡ fragment
+unfolding recordOf headerOf
+fragment-back true protected content number fragment tail = take-append-seam fragment tail
+fragment-back false protected content number fragment tail = take-append-seam fragment tail
+
+-- a protected record of ours is read back, and its fragment is genuine
+pub read-protected : (k : List ℕ) (mac : Mac) (content : Content) (number : ℕ) (body : List ℕ) → number < 65536 → readOf (protectedBy (hmac k) (codeSize mac) false content number body) ≡ Sound (readBack false true content number (length body + codeSize mac))
+unfolding protectedBy
+read-protected k mac content number body h =
+    let byte : ℕ = byteFor false true content in
+    let size = sealed-length k mac number byte body in
+    read-short true content number (fragmentBy (hmac k) (codeSize mac) number byte body) h (omega (arith, size, size-some mac))
+    ∙ ap (λ (n : ℕ). Sound (readBack false true content number n)) size

@@ -7,7 +7,7 @@ use Prim.Native.Nat.{ℕ, _+_, _-_, _/_, _%_, _≤_, _<_}
 use native.Mathlib.Omega.{arith}
 use lib.ListN.{length, take, drop, length-append, length-take, length-drop, take-append-drop}
 use lib.Seq.{length-take-le, take-at, drop-at, take-all}
-use lib.Dec.{lit≤, ltb}
+use lib.Dec.{lit<, lit≤, ltb}
 use borrow.Author.Tests.{lt-ltb, le-ltb, ltb-true, ltb-false}
 use Rattle.digest.specs.Pick.{pick}
 use Rattle.digest.specs.Hmac.{codeUnder, hmac, keyOf}
@@ -24,6 +24,10 @@ use Rattle.record.specs.declared.header.Content.{Content}
 pub size-most : (mac : Mac) → sizeOf mac ≤ 20
 size-most Sha80 = lit≤ tt
 size-most Sha = lit≤ tt
+
+pub size-some : (mac : Mac) → 0 < sizeOf mac
+size-some Sha80 = lit< tt
+size-some Sha = lit< tt
 
 -- the bytes kept are as many as the kind says
 pub kept : (s : List ℕ) (mac : Mac) (size : ℕ) → length s ≡ 20 → size ≡ sizeOf mac → length (take size s) ≡ size
@@ -101,3 +105,16 @@ judged hash size number byte f w r h e q = q ∙ rw e (sym (genuine-long hash si
 pub sealed : (hash : List ℕ → List ℕ) (size : ℕ) (long : Bool) (content : Content) (number byte : ℕ) (body w : List ℕ) → byte ≡ byteFor long true content → w ≡ hash (codedOf number byte body) → recordOf long true content number (body ++ take size w) ≡ protectedBy hash size long content number body
 unfolding protectedBy fragmentBy codeBy
 sealed hash size long content number byte body w e f = rw (f, e)
+
+-- ---- under a secret, for either kind
+
+module _ (k : List ℕ) (mac : Mac) (number byte : ℕ) (c : List ℕ) where
+  pub sealed-genuine : genuineBy (hmac k) (sizeOf mac) number byte (fragmentBy (hmac k) (sizeOf mac) number byte c) ≡ true
+  sealed-genuine =
+      made-genuine (hmac k) (sizeOf mac) number byte c (omega (arith, size-most mac, length-hmac k (codedOf number byte c)))
+
+  pub sealed-length : length (fragmentBy (hmac k) (sizeOf mac) number byte c) ≡ length c + sizeOf mac
+  unfolding fragmentBy codeBy
+  sealed-length =
+      length-append c (take (sizeOf mac) (hmac k (codedOf number byte c)))
+      ∙ ap (λ (n : ℕ). length c + n) (kept (hmac k (codedOf number byte c)) mac (sizeOf mac) (length-hmac k (codedOf number byte c)) refl)

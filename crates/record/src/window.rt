@@ -1,9 +1,9 @@
 // The receive window (002 9.2.3.1): the highest number accepted, and a mark for each of the newest
 // numbers that has arrived. Accepting a number takes the window and gives the new one back.
 ghost use mathlib.Core.Path.{_≡_};
-ghost use mathlib.Core.List.{List};
+ghost use mathlib.Core.List.{List, []};
 ghost use Prim.Native.Nat.{ℕ, _+_, _*_, _/_, _%_, _^_, _≤_, _<_};
-ghost use Rattle.record.specs.Window.{freshWindow, acceptOf, acceptBy, arrivedAt};
+ghost use Rattle.record.specs.Window.{freshWindow, acceptOf, arrivedAt};
 ghost use Rattle.record.specs.History.{windowOf, judgedOf};
 
 // How many of the newest numbers have a mark.
@@ -27,7 +27,8 @@ pub enum Acceptance {
 impl Window {
     // A window in which any number is new.
     pub fn fresh() -> Window
-        ensures { λ r. ⌜ r ≡ freshWindow ⌝ }
+        ensures exact { λ r. ⌜ r ≡ freshWindow ⌝ }
+        ensures meaning { λ r. ⌜ r ≡ windowOf 32 [] ⌝ }
     {
         Window {
             highest: 0,
