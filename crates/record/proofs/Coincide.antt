@@ -1,7 +1,7 @@
 -- Two outcomes that meet the contract of one public call are equal: each contract is an equation with a definition of its
 -- arguments. One theorem for each call.
 use mathlib.Core.Path.{_≡_, sym, _∙_}
-use mathlib.Core.Bool.{Bool, false}
+use mathlib.Core.Bool.{Bool}
 use mathlib.Core.List.{List}
 use Prim.Native.Nat.{ℕ}
 use Rattle.digest.specs.Bytes.{wordAt}
@@ -15,15 +15,12 @@ use Rattle.record.specs.Datagram.{walkOf}
 use Rattle.record.specs.Window.{freshWindow, acceptOf}
 use Rattle.record.specs.Keys.{keyNumber, macSecret}
 use Rattle.record.specs.Checksum.{checksumOf}
-use Rattle.record.specs.Written.{byteFor, recordOf, countOf, writtenOf}
-use Rattle.record.specs.Code.{codedOf, genuineBy, protectedBy}
+use Rattle.record.specs.Written.{byteFor, countOf, writtenOf}
+use Rattle.record.specs.Code.{codedOf, genuineBy}
 use Rattle.record.specs.declared.header.Kind.{Kind}
 use Rattle.record.specs.declared.header.Content.{Content}
 use Rattle.record.specs.declared.reader.Fault.{Fault}
-use Rattle.record.specs.declared.reader.Reading.{Reading}
-use Rattle.record.specs.declared.datagram.Walk.{Walk}
 use Rattle.record.specs.declared.window.Window.{Window}
-use Rattle.record.specs.declared.window.Acceptance.{Acceptance}
 
 -- two values of one contract `Met` are equal
 abbrev Determined : {A : Type 0} → (A → Type 0) → Type 0

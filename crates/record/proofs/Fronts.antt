@@ -1,15 +1,13 @@
 -- Bytes laid one behind the other from the front of a buffer are those bytes in a row.
 use mathlib.Core.Path.{_≡_, refl, sym, ap, ap₂, _∙_}
 use mathlib.Core.Bool.{Bool, true, false}
-use mathlib.Core.List.{List, [], _∷_, _++_, append-assoc}
-use Prim.Native.Nat.{ℕ, _+_, _-_, _/_, _%_, _≤_, _<_}
-use native.Mathlib.Nat.{zero-add}
+use mathlib.Core.List.{List, _∷_, _++_, append-assoc}
+use Prim.Native.Nat.{ℕ, _+_, _/_, _%_, _≤_, _<_}
 use native.Mathlib.Omega.{arith}
 use lib.ListN.{length, take, drop, set, length-append, length-drop}
 use lib.Seq.{paste, take-length, sets, sets-eq, take-append-seam, drop-append-add, drop-drop, length-take-le}
 use lib.Dec.{lit≤}
 use borrow.Author.Tests.{le-leb, lt-leb}
-use Rattle.digest.specs.Pick.{pick}
 use Rattle.digest.specs.Bytes.{laidOver, bytes2}
 use Rattle.record.specs.Written.{headerOf, headerSize, recordOf, writtenOf, countOf, byteFor}
 use Rattle.record.specs.declared.header.Content.{Content}

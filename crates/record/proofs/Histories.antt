@@ -11,12 +11,11 @@ use lib.Arith.{digits-div, digits-mod}
 use lib.Count.{ones, ones-step}
 use lib.Dec.{lit<, lit≤, eqb, leb, ltb}
 use lib.Pow.{shr-shr, shl-shr, mod-pow-add}
-use borrow.Author.Tests.{eq-eqb, ne-eqb, le-leb, lt-leb, lt-ltb, le-ltb, eqb-true, leb-true, leb-false, ltb-true, ltb-false}
+use borrow.Author.Tests.{eq-eqb, ne-eqb, le-leb, lt-leb, le-ltb, eqb-true, leb-true, leb-false, ltb-true, ltb-false}
 use Rattle.digest.specs.Pick.{pick}
 use Rattle.record.specs.Window.{freshWindow, acceptBy, acceptOf, arrivedAt}
 use Rattle.record.specs.History.{accepted, highestOf, markOf, marksFrom, countFrom, windowOf, arrivedOf, judgedOf}
 use Rattle.record.specs.declared.window.Window.{Window}
-use Rattle.record.specs.declared.window.Acceptance.{Acceptance}
 use Rattle.record.specs.declared.window.Acceptance.the-variants.{New, TooOld, Repeated}
 
 decide : {P : Type 0} (b : Bool) → (b ≡ true → P) → (b ≡ false → P) → P
@@ -335,3 +334,49 @@ count-le h n (suc w) j = omega (arith, mark-le h n j, count-le h n w (suc j))
 
 pub arrived-most : (w : ℕ) (h : List ℕ) → arrivedOf w h ≤ w
 arrived-most w h = count-le h (highestOf h) w 0
+
+-- ---- the answers, each exactly when
+
+module _ (w : ℕ) (h : List ℕ) (s : ℕ) where
+  pub old-when : s + w ≤ highestOf h → judgedOf w h s ≡ TooOld
+  unfolding judgedOf
+  old-when l = rw (le-leb (s + w) (highestOf h) l)
+
+  pub repeated-when : highestOf h < s + w → accepted h s ≡ true → judgedOf w h s ≡ Repeated
+  unfolding judgedOf
+  repeated-when l e = rw (lt-leb (s + w) (highestOf h) l, e)
+
+  pub new-when : highestOf h < s + w → accepted h s ≡ false → judgedOf w h s ≡ New (windowOf w (s ∷ h)) (arrivedOf w (s ∷ h))
+  unfolding judgedOf
+  new-when l e = rw (lt-leb (s + w) (highestOf h) l, e)
+
+  -- one of the three holds
+  which : {P : Type 0} → (s + w ≤ highestOf h → P) → (highestOf h < s + w → accepted h s ≡ true → P) → (highestOf h < s + w → accepted h s ≡ false → P) → P
+  which a b c =
+      decide (leb (s + w) (highestOf h)) (λ e. a (leb-true (s + w) (highestOf h) e))
+      (λ e. decide (accepted h s) (b (leb-false (s + w) (highestOf h) e)) (c (leb-false (s + w) (highestOf h) e)))
+
+  pub old-means : judgedOf w h s ≡ TooOld → s + w ≤ highestOf h
+  old-means e =
+      which (λ l. l)
+      (λ l a. let z : _≡_ {A = ℕ} 0 1 = cc (repeated-when l a) in absurd (omega arith))
+      (λ l a. let z : _≡_ {A = ℕ} 0 1 = cc (new-when l a) in absurd (omega arith))
+
+  pub repeated-means : judgedOf w h s ≡ Repeated → (highestOf h < s + w) × (accepted h s ≡ true)
+  repeated-means e =
+      which (λ l. let z : _≡_ {A = ℕ} 0 1 = cc (old-when l) in absurd (omega arith)) (λ l a. (l, a))
+      (λ l a. let z : _≡_ {A = ℕ} 0 1 = cc (new-when l a) in absurd (omega arith))
+
+  pub new-means : (v : Window) (k : ℕ) → judgedOf w h s ≡ New v k → (highestOf h < s + w) × (accepted h s ≡ false) × (v ≡ windowOf w (s ∷ h)) × (k ≡ arrivedOf w (s ∷ h))
+  new-means v k e =
+      which (λ l. let z : _≡_ {A = ℕ} 0 1 = cc (old-when l) in absurd (omega arith))
+      (λ l a. let z : _≡_ {A = ℕ} 0 1 = cc (repeated-when l a) in absurd (omega arith))
+      (λ l a. (l, a, cc (new-when l a), cc (new-when l a)))
+
+-- below s + w the highest number is, exactly if every number accepted is
+pub all-below : (w : ℕ) (h : List ℕ) (s : ℕ) → highestOf h < s + w → (n : ℕ) → accepted h n ≡ true → n < s + w
+all-below w h s l n e = omega (arith, accepted-le h n e)
+
+pub below-all : (w : ℕ) → 0 < w → (h : List ℕ) (s : ℕ) → ((n : ℕ) → accepted h n ≡ true → n < s + w) → highestOf h < s + w
+below-all w p [] s f = omega (arith, lowest)
+below-all w p (t ∷ h) s f = f (highestOf (t ∷ h)) (highest-in t h)

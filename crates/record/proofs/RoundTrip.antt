@@ -1,22 +1,20 @@
 -- What our writer writes, our reader reads back. The idea: the type byte of our parts splits into those parts, and every
 -- test of the reader is then a fact about lengths.
-use mathlib.Core.Path.{_≡_, refl, sym, ap, _∙_}
+use mathlib.Core.Path.{_≡_, refl, ap, _∙_}
 use mathlib.Core.Bool.{Bool, true, false}
-use mathlib.Core.List.{List, [], _∷_, _++_, append-assoc, append-nil}
-use Prim.Native.Nat.{ℕ, suc, _+_, _-_, _*_, _/_, _%_, _^_, _≤_, _<_}
+use mathlib.Core.List.{List, _++_}
+use Prim.Native.Nat.{ℕ, _+_, _-_, _*_, _/_, _%_, _≤_, _<_}
 use native.Mathlib.Omega.{arith}
 use lib.ListN.{length, getD, take, drop, length-append}
 use lib.Seq.{take-append-seam}
 use lib.Pow.{recompose}
 use lib.Dec.{eqb, ltb}
 use borrow.Author.Tests.{ne-eqb, le-ltb}
-use Rattle.digest.specs.Pick.{pick}
-use Rattle.digest.specs.Bytes.{bytes2}
 use Rattle.digest.specs.Hmac.{hmac}
 use Rattle.digest.specs.Mac.{sizeOf as codeSize}
 use Rattle.digest.specs.declared.mac.Mac.{Mac}
-use Rattle.record.specs.Header.{kindOf, byteOf, soundKind, contentOf, numberOf}
-use Rattle.record.specs.Reader.{readOf, readAs, framedOf, headOf, sizeOf, pairAt}
+use Rattle.record.specs.Header.{kindOf, soundKind, contentOf, numberOf}
+use Rattle.record.specs.Reader.{readOf, readAs, framedOf, sizeOf, pairAt}
 use Rattle.record.specs.Written.{byteFor, headerOf, headerSize, recordOf}
 use Rattle.record.specs.Code.{fragmentBy, protectedBy}
 use Rattle.record.proofs.Sealed.{sealed-length, size-some}
@@ -24,8 +22,7 @@ use Rattle.record.specs.declared.header.Kind.{Kind}
 use Rattle.record.specs.declared.header.Content.{Content}
 use Rattle.record.specs.declared.header.Content.the-variants.{ChangeCipherSpec, Alert, Handshake, Data}
 use Rattle.record.specs.declared.reader.Record.{Record}
-use Rattle.record.specs.declared.reader.Reading.{Reading}
-use Rattle.record.specs.declared.reader.Reading.the-variants.{Sound, Refused}
+use Rattle.record.specs.declared.reader.Reading.the-variants.{Sound}
 
 -- the parts of our type byte
 abbrev pub ours : Bool → Bool → Content → Kind

@@ -1,18 +1,18 @@
 -- Codes and fragments. A fragment is genuine exactly if it is a content with its code behind it (`genuine-made`,
 -- `made-genuine`); and what holds of the code under a key holds of HMAC under the secret that the key is of.
-use mathlib.Core.Path.{_≡_, refl, sym, ap, ap₂, _∙_}
+use mathlib.Core.Path.{_≡_, refl, sym, ap, _∙_}
 use mathlib.Core.Bool.{Bool, true, false}
 use mathlib.Core.List.{List, [], _∷_, _++_}
 use Prim.Native.Nat.{ℕ, _+_, _-_, _/_, _%_, _≤_, _<_}
 use native.Mathlib.Omega.{arith}
-use lib.ListN.{length, take, drop, length-append, length-take, length-drop, take-append-drop}
-use lib.Seq.{length-take-le, take-at, drop-at, take-all}
+use lib.ListN.{length, take, drop, length-append, take-append-drop}
+use lib.Seq.{length-take-le, take-at, drop-at}
 use lib.Dec.{lit<, lit≤, ltb}
 use borrow.Author.Tests.{lt-ltb, le-ltb, ltb-true, ltb-false}
 use Rattle.digest.specs.Pick.{pick}
 use Rattle.digest.specs.Hmac.{codeUnder, hmac, keyOf}
 use Rattle.digest.specs.Mac.{sameBytes, sizeOf}
-use Rattle.digest.proofs.Codes.{code-is, length-code, length-hmac}
+use Rattle.digest.proofs.Codes.{code-is, length-hmac}
 use Rattle.digest.proofs.Same.{equal-same, same-equal}
 use Rattle.digest.specs.declared.key.Key.{Key}
 use Rattle.digest.specs.declared.mac.Mac.{Mac}

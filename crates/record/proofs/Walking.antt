@@ -1,7 +1,6 @@
 -- The walk's loop. The idea: after `n` records, the framing of the whole datagram is those records in front of the framing
 -- of the part that is left; one more record moves both one on (`go-on`), and each way out of the loop ends it.
 use mathlib.Core.Path.{_≡_, refl, sym, ap, _∙_}
-use mathlib.Core.Bool.{true, false}
 use mathlib.Core.List.{List, [], _∷_, _++_, append-assoc, append-nil}
 use Prim.Native.Nat.{ℕ, zero, suc, _+_, _-_, _≤_, _<_}
 use native.Mathlib.Nat.{le-of-eq}
@@ -10,7 +9,6 @@ use native.Mathlib.Omega.{arith}
 use lib.ListN.{length, take, drop, set, replicate, length-drop, length-set, take-append-drop}
 use lib.Seq.{take-suc-set, drop-set-lt, drop-drop, length-take-le, take-all}
 use borrow.Author.Tests.{eq-eqb, ne-eqb, lt-ltb, le-ltb}
-use Rattle.digest.specs.Pick.{pick}
 use Rattle.record.specs.Reader.{readOf}
 use Rattle.record.specs.Datagram.{Framing, framed, faulty, after, placedAt, ahead, framingFrom, framingOf, blank, foundAll}
 use Rattle.record.specs.declared.reader.Record.{Record}

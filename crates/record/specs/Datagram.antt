@@ -1,6 +1,6 @@
 -- The walk over a whole datagram (01, "The record on the wire" and "Refusal numbers").
 use mathlib.Core.Path.{_≡_}
-use mathlib.Core.Bool.{Bool, true, false}
+use mathlib.Core.Bool.{false}
 use mathlib.Core.List.{List, [], _∷_, _++_}
 use Prim.Native.Nat.{ℕ, zero, suc, _+_, _-_}
 use lib.ListN.{length, drop, replicate}
@@ -13,7 +13,6 @@ use Rattle.record.specs.declared.reader.Fault.{Fault}
 use Rattle.record.specs.declared.reader.Fault.the-variants as F
 use Rattle.record.specs.declared.reader.Reading.{Reading}
 use Rattle.record.specs.declared.reader.Reading.the-variants as R
-use Rattle.record.specs.declared.datagram.Outcome.{Outcome}
 use Rattle.record.specs.declared.datagram.Outcome.the-variants as O
 use Rattle.record.specs.declared.datagram.Walk.{Walk}
 

@@ -1,6 +1,6 @@
 -- The type byte of a record (002 9.2.1; 01, "The record on the wire").
-use mathlib.Core.Bool.{Bool, true, false}
-use Prim.Native.Nat.{ℕ, _+_, _-_, _*_, _/_, _%_, _^_}
+use mathlib.Core.Bool.{Bool, false}
+use Prim.Native.Nat.{ℕ, _+_, _-_, _/_, _%_, _^_}
 use lib.Dec.{eqb, leb}
 use Rattle.digest.specs.Pick.{pick}
 use Rattle.record.specs.declared.header.Kind.{Kind}

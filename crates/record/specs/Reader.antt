@@ -1,13 +1,11 @@
 -- One record at the front of a list of bytes (002 9.2.1; 01, "The record on the wire" and "Refusal numbers").
-use mathlib.Core.Bool.{Bool, true, false}
 use mathlib.Core.List.{List}
 use Prim.Native.Nat.{ℕ, _+_, _-_, _*_}
 use lib.ListN.{length, getD}
-use lib.Dec.{eqb, leb, ltb}
+use lib.Dec.{eqb, ltb}
 use Rattle.digest.specs.Pick.{pick}
 use Rattle.record.specs.Header.{kindOf, soundKind, contentOf}
 use Rattle.record.specs.declared.header.Kind.{Kind}
-use Rattle.record.specs.declared.reader.Record.{Record}
 use Rattle.record.specs.declared.reader.Fault.{Fault}
 use Rattle.record.specs.declared.reader.Fault.the-variants as F
 use Rattle.record.specs.declared.reader.Reading.{Reading}

@@ -1,5 +1,5 @@
 -- The receive window (002 9.2.3.1; 01, "Numbers, window, keys"), over its width.
-use mathlib.Core.Bool.{Bool, true, false}
+use mathlib.Core.Bool.{Bool}
 use Prim.Native.Nat.{ℕ, _+_, _-_, _*_, _/_, _%_, _^_}
 use lib.Count.{ones}
 use lib.Dec.{eqb, leb, ltb}

@@ -1,5 +1,4 @@
 -- `last`: by how many bytes are left.
-use denote.Ref.{now}
 use mathlib.Core.Path.{_∙_}
 use Rattle.record.proofs.Blocks.{none-left, one-left, two-left, three-left}
 use native.Mathlib.Omega.{arith}

@@ -5,7 +5,7 @@ use Prim.Native.Nat.{ℕ, _-_}
 use mathlib.Core.List.{List}
 use lib.ListN.{length, drop, length-drop}
 use native.Mathlib.Omega.{arith}
-use Rattle.record.specs.Datagram.{answered, framingOf}
+use Rattle.record.specs.Datagram.{answered}
 use Rattle.record.specs.Reader.{readOf}
 use Rattle.record.specs.declared.reader.Reading.the-variants.{Sound}
 use Rattle.record.proofs.Standing.{takes}

@@ -1,6 +1,6 @@
 -- `moved`: past the width nothing is left; else the lowest bit is free after the shift.
-use mathlib.Core.Path.{_∙_, ap, sym}
-use Prim.Native.Nat.{ℕ, _+_}
+use mathlib.Core.Path.{_∙_, ap}
+use Prim.Native.Nat.{ℕ}
 use lib.Bits.{bitOr}
 use Rattle.record.proofs.Marks.{moved-out, shift-cut, lowest-set}
 use borrow.Author.Needs.{needs}
