@@ -42,7 +42,7 @@ pub fn genuine(key: Key, mac: Mac, number: u16, byte: u8, fragment: &[u8]) -> bo
     }
     let end = fragment.len() - size;
     let whole = code(key, number, byte, &fragment[..end]);
-    digest::same_code(&fragment[end..], &whole[..size])
+    digest::same_code(&fragment[end..], mac.cut(&whole))
 }
 
 // A protected record with this content and its code. Answers how many bytes it wrote: the whole
@@ -61,6 +61,5 @@ pub fn write_protected(
 {
     let byte = type_byte(long, true, content);
     let whole = code(key, number, byte, body);
-    let size = mac.size();
-    write(long, true, content, number, body, &whole[..size], out)
+    write(long, true, content, number, body, mac.cut(&whole), out)
 }

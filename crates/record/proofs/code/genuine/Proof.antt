@@ -1,17 +1,16 @@
 -- `genuine`: shorter than its code it is forged; else the code of what stands before it is compared.
+use denote.Ref.{now}
+use mathlib.Core.Path.{sym, ap, ap₂, _∙_}
 use mathlib.Core.List.{List}
 use Prim.Native.Nat.{ℕ, _-_, _<_}
+use native.Mathlib.Omega.{arith}
 use lib.ListN.{length, take}
+use lib.Seq.{length-take-le}
 use Rattle.digest.specs.Hmac.{codeUnder, hmac}
 use Rattle.digest.specs.Mac.{sizeOf, sameBytes}
-use Rattle.digest.proofs.Codes.{length-code}
 use Rattle.record.specs.Code.{genuineBy}
-use Rattle.record.proofs.Sealed.{genuine-short, genuine-key, judged, kept, size-most}
+use Rattle.record.proofs.Sealed.{genuine-short, genuine-key, judged}
 use Rattle.record.proofs.Walking.{part-on}
-use denote.Ref.{now}
-use mathlib.Core.Path.{sym, ap, _∙_}
-use native.Mathlib.Omega.{arith}
-use lib.Seq.{length-take-le}
 use borrow.Author.Needs.{needs}
 use Rattle.record.proofs.code.genuine.Statement.{statement}
 use Rattle.record.proofs.code.genuine.Tie as tie
@@ -45,30 +44,28 @@ part-same-code-start c = search needs
 part-same-code-end : tie.Need-part-same-code-end
 part-same-code-end c = search needs
 
-array-share-prefix-whole : tie.Need-array-share-prefix-whole
-array-share-prefix-whole c =
-    let a = c .before .before .before .before .before .before .args in
-    omega (arith, size-most (a .mac), c .before .before .before .before .size .ensures, ap length (c .before .code .ensures .0) ∙ length-code (a .key) _)
+slice-aggregate-cut : tie.Need-slice-aggregate-cut
+slice-aggregate-cut c = search needs
 
-slice-aggregate-same-code : tie.Need-slice-aggregate-same-code
-slice-aggregate-same-code c =
-    let a = c .before .before .before .before .before .before .before .args in
-    sym (kept (c .before .before .code .result) (a .mac) _ (ap length (c .before .before .code .ensures .0) ∙ length-code (a .key) _) (c .before .before .before .before .before .size .ensures))
+cut-requires : tie.Need-cut-requires
+cut-requires c κs = search needs
 
 same-code-requires : tie.Need-same-code-requires
 same-code-requires c κs = search needs
 
 returns-2 : tie.Need-returns-2
 returns-2 c =
-    let a = c .before .before .before .before .before .before .before .before .args in
+    let a = c .before .before .before .before .before .before .before .before .before .args in
     let f : List ℕ = now (a .fragment) in
-    let size : ℕ = c .before .before .before .before .before .before .size .result in
-    let w : List ℕ = c .before .before .before .code .result in
+    let size : ℕ = c .before .before .before .before .before .before .before .size .result in
+    let w : List ℕ = c .before .before .before .before .code .result in
+    let e = c .before .before .before .before .before .before .before .size .ensures in
     let exact =
-    judged (codeUnder (a .key)) size (a .number) (a .byte) f w _ (omega (arith, c .before .before .before .before .before .if1 .left)) (c .before .before .before .code .ensures .0)
-    (c .same-code .ensures ∙ ap (λ (x : List ℕ). sameBytes x (take size w)) (part-on f (length f - size)))
-    ∙ ap (λ (z : ℕ). genuineBy (codeUnder (a .key)) z (a .number) (a .byte) f) (c .before .before .before .before .before .before .size .ensures) in
-    (exact, λ k e. exact ∙ genuine-key (a .key) k e (sizeOf (a .mac)) (a .number) (a .byte) f)
+    judged (codeUnder (a .key)) size (a .number) (a .byte) f w _ (omega (arith, c .before .before .before .before .before .before .if1 .left)) (c .before .before .before .before .code .ensures .0)
+    (c .same-code .ensures
+    ∙ ap₂ sameBytes (part-on f (length f - size)) (c .before .cut .ensures ∙ ap (λ (z : ℕ). take z w) (sym e)))
+    ∙ ap (λ (z : ℕ). genuineBy (codeUnder (a .key)) z (a .number) (a .byte) f) e in
+    (exact, λ k q. exact ∙ genuine-key (a .key) k q (sizeOf (a .mac)) (a .number) (a .byte) f)
 
 pub genuine-spec : {M : Type 1} → statement M
 genuine-spec =
@@ -82,7 +79,7 @@ genuine-spec =
     sub-same-code
     part-same-code-start
     part-same-code-end
-    array-share-prefix-whole
-    slice-aggregate-same-code
+    slice-aggregate-cut
+    cut-requires
     same-code-requires
     returns-2)
