@@ -55,6 +55,10 @@ pub room : (out bytes : List ℕ) (n : ℕ) (after : List ℕ) → length bytes 
 unfolding countOf writtenOf
 room out bytes n after h e f = (rw (le-leb (length bytes) (length out) h) e, rw (le-leb (length bytes) (length out) h) f)
 
+-- the same of other bytes that are equal
+pub retold : (out a b : List ℕ) (n : ℕ) (after : List ℕ) → a ≡ b → (n ≡ countOf out a) × (after ≡ writtenOf out a) → (n ≡ countOf out b) × (after ≡ writtenOf out b)
+retold out a b n after e p = (p .0 ∙ ap (countOf out) e, p .1 ∙ ap (writtenOf out) e)
+
 -- header, first and second laid one behind the other are the record
 pub laid-record : (long protected : Bool) (content : Content) (number : ℕ) (out first second : List ℕ) → laidOver (laidOver (laidOver out 0 (headerOf long protected content number (length first + length second))) (headerSize long) first) (headerSize long + length first) second ≡ laidOver out 0 (recordOf long protected content number (first ++ second))
 unfolding recordOf

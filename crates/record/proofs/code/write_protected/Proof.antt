@@ -6,7 +6,8 @@ use mathlib.Core.List.{List, _++_}
 use Prim.Native.Nat.{ℕ}
 use Rattle.digest.specs.Hmac.{codeUnder}
 use Rattle.digest.specs.Mac.{sizeOf}
-use Rattle.record.specs.Written.{recordOf, countOf, writtenOf}
+use Rattle.record.specs.Written.{recordOf}
+use Rattle.record.proofs.Fronts.{retold}
 use Rattle.record.proofs.Sealed.{sealed}
 use borrow.Author.Needs.{needs}
 use Rattle.record.proofs.code.write_protected.Statement.{statement}
@@ -33,12 +34,11 @@ same-length c = search needs
 returns : tie.Need-returns
 returns c =
     let a = c .before .before .before .before .before .before .before .before .before .before .args in
-    let e = c .before .before .write .ensures in
     let body : List ℕ = now (a .body) in
     let whole =
     ap (λ (x : List ℕ). recordOf (a .long) true (a .content) (a .number) (body ++ x)) (c .before .before .before .before .cut .ensures)
     ∙ sealed (codeUnder (a .key)) (sizeOf (a .mac)) (a .long) (a .content) (a .number) _ body _ (c .before .before .before .before .before .before .before .type-byte .ensures) (c .before .before .before .before .before .before .code .ensures .0) in
-    (e .0 ∙ ap (countOf (now (a .out))) whole, e .1 ∙ ap (writtenOf (now (a .out))) whole)
+    retold (now (a .out)) _ _ _ _ whole (c .before .before .write .ensures)
 
 pub write-protected-spec : {M : Type 1} → statement M
 write-protected-spec =
