@@ -1,4 +1,5 @@
 -- `moved`: past the width nothing is left; else the lowest bit is free after the shift.
+use native.Mathlib.Omega.{arith}
 use mathlib.Core.Path.{_∙_, ap}
 use Prim.Native.Nat.{ℕ}
 use lib.Bits.{bitOr}
@@ -8,7 +9,7 @@ use Rattle.record.proofs.window.moved.Statement.{statement}
 use Rattle.record.proofs.window.moved.Tie as tie
 
 returns : tie.Need-returns
-returns c = rw (moved-out (c .before .args .marks) (c .before .args .by) (c .before .args .width) (c .if1 .taken))
+returns c = rw (moved-out (c .before .args .marks) (c .before .args .by) (c .before .args .width) (omega arith))
 
 shl-cut : tie.Need-shl-cut
 shl-cut c = search needs
