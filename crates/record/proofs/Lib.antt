@@ -1,0 +1,13 @@
+-- Laws that belong to no one function, and theorems about the definitions.
+pub mod TypeByte
+pub mod Standing
+pub mod Walking
+pub mod Marks
+pub mod Histories
+pub mod Blocks
+pub mod Fronts
+pub mod Sealed
+pub mod Covering
+pub mod RoundTrip
+pub mod CasesHold
+pub mod Coincide

@@ -1,0 +1,28 @@
+-- `read`: the type byte is split, and `read_as` reads on.
+use mathlib.Core.Path.{sym}
+use Rattle.record.specs.Reader.{readOf}
+use Rattle.digest.proofs.Picks.{picks}
+use borrow.Author.Needs.{needs}
+use Rattle.record.proofs.reader.read.Statement.{statement}
+use Rattle.record.proofs.reader.read.Tie as tie
+
+returns : tie.Need-returns
+unfolding readOf
+returns c = search picks
+
+shared-slice-read-byte : tie.Need-shared-slice-read-byte
+shared-slice-read-byte c = search needs
+
+split-requires : tie.Need-split-requires
+split-requires c κs = search needs
+
+read-as-requires : tie.Need-read-as-requires
+read-as-requires c κs = search needs
+
+returns-2 : tie.Need-returns-2
+unfolding readOf
+returns-2 c = rw (sym (c .before .split .ensures)) (search picks)
+
+pub read-spec : {M : Type 1} → statement M
+read-spec =
+    tie.close (tie.spec returns shared-slice-read-byte split-requires read-as-requires returns-2)

@@ -1,0 +1,108 @@
+// The receive window (002 9.2.3.1): the highest number accepted, and a mark for each of the newest
+// numbers that has arrived. Accepting a number takes the window and gives the new one back.
+ghost use mathlib.Core.Path.{_≡_};
+ghost use mathlib.Core.List.{List, []};
+ghost use Prim.Native.Nat.{ℕ, _+_, _*_, _/_, _%_, _^_, _≤_, _<_};
+ghost use Rattle.record.specs.Window.{freshWindow, acceptOf, arrivedAt};
+ghost use Rattle.record.specs.History.{windowOf, judgedOf};
+
+// How many of the newest numbers have a mark.
+pub const WIDTH: u64 = 32;
+
+// The mark of the highest number is the lowest bit, and the mark of the number j below it is bit j.
+// No mark at all is a fresh window. Marks above the width do not count.
+pub struct Window {
+    pub highest: u16,
+    pub marks: u64,
+}
+
+// What becomes of a number: new, with the window that has it and how many of its newest numbers
+// have arrived, this one included; or refused.
+pub enum Acceptance {
+    New(Window, u32),
+    TooOld,
+    Repeated,
+}
+
+impl Window {
+    // A window in which any number is new.
+    pub fn fresh() -> Window
+        ensures exact { λ r. ⌜ r ≡ freshWindow ⌝ }
+        ensures meaning { λ r. ⌜ r ≡ windowOf 32 [] ⌝ }
+    {
+        Window {
+            highest: 0,
+            marks: 0,
+        }
+    }
+
+    // The number in a window of 32: `exact` for every window, and `meaning` for the window of the
+    // numbers h that were accepted since it was fresh.
+    pub fn accept(self, number: u16) -> Acceptance
+        ensures exact { λ r. ⌜ r ≡ acceptOf 32 self number ⌝ }
+        ensures meaning { λ r. ⌜ ((h : List ℕ) → self ≡ windowOf 32 h → r ≡ judgedOf 32 h number) ⌝ }
+    {
+        self.accept_within(WIDTH, number)
+    }
+
+    // The number in a window of any width from 1 to 64.
+    fn accept_within(self, width: u64, number: u16) -> Acceptance
+        requires { ⌜ (0 < width) × (width ≤ 64) ⌝ }
+        ensures { λ r. ⌜ r ≡ acceptOf width self number ⌝ }
+    {
+        let marks = cut(self.marks, width);
+        if marks == 0 {
+            return arrived(number, 1);
+        }
+        let highest = self.highest;
+        let n = highest as u64;
+        let s = number as u64;
+        if n < s {
+            return arrived(number, moved(marks, s - n, width));
+        }
+        if s + width <= n {
+            return Acceptance::TooOld;
+        }
+        let place = n - s;
+        if (marks >> place) & 1 == 1 {
+            return Acceptance::Repeated;
+        }
+        arrived(highest, marked(marks, place))
+    }
+}
+
+// The window with these marks, and how many there are.
+fn arrived(highest: u16, marks: u64) -> Acceptance
+    ensures { λ r. ⌜ r ≡ arrivedAt highest marks ⌝ }
+{
+    let window = Window { highest, marks };
+    Acceptance::New(window, u64::count_ones(marks))
+}
+
+// The marks of the width, and no others.
+fn cut(marks: u64, width: u64) -> u64
+    requires { ⌜ width ≤ 64 ⌝ }
+    requires { ⌜ 0 < width ⌝ }
+    ensures { λ r. ⌜ r ≡ marks % 2 ^ width ⌝ }
+{
+    marks & (u64::MAX >> (64 - width))
+}
+
+// The marks below a number that is `by` above the highest, with its own mark.
+fn moved(marks: u64, by: u64, width: u64) -> u64
+    requires { ⌜ (0 < by) × ((0 < width) × (width ≤ 64)) ⌝ }
+    ensures { λ r. ⌜ r ≡ marks * 2 ^ by % 2 ^ width + 1 ⌝ }
+{
+    if width <= by {
+        return 1;
+    }
+    cut(marks << by, width) | 1
+}
+
+// The marks with one more, which was not there.
+fn marked(marks: u64, place: u64) -> u64
+    requires { ⌜ (place < 64) × (marks / 2 ^ place % 2 ≡ 0) ⌝ }
+    ensures { λ r. ⌜ r ≡ marks + 2 ^ place ⌝ }
+{
+    marks | (1 << place)
+}
