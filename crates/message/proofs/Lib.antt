@@ -1,0 +1,6 @@
+-- Laws that belong to no one function.
+pub mod Fields
+pub mod Rests
+pub mod Entries
+pub mod Hellos
+pub mod Written

@@ -1,0 +1,6 @@
+-- The definitions of layer 3, messages.
+pub mod Field
+pub mod Handshake
+pub mod Keys
+pub mod Hello
+pub mod Values
