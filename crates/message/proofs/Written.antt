@@ -9,19 +9,21 @@ use native.Mathlib.Numerals.{add-one}
 use lib.ListN.{length, getD, take, drop, length-drop, length-append}
 use lib.Seq.{drop-length}
 use lib.Dec.{leb, ltb, eqb}
-use borrow.Author.Tests.{le-leb, lt-ltb, leb-true, ltb-true, eq-eqb, ne-eqb, eqb-true, eqb-false}
+use borrow.Author.Tests.{le-leb, lt-leb, lt-ltb, leb-true, ltb-true, eq-eqb, ne-eqb, eqb-true, eqb-false}
 use Rattle.digest.specs.Pick.{pick}
 use Rattle.digest.specs.Bytes.{bytes2}
 use Rattle.message.specs.Field.{fieldEnd, shortEnd, longEnd, twoAt, partOf, short, long}
 use Rattle.message.specs.Handshake.{fills, clientHello, messageOf}
 use Rattle.message.specs.Keys.{keyList, keysEnd}
 use Rattle.message.specs.Hello.{suitesEnd, placed, readOf}
-use Rattle.message.specs.Values.{Values, bodyOf, helloOf, both, allowed, valuesAt}
+use Rattle.message.specs.Values.{Values, bodyOf, helloOf, both, fieldsAllowed, offersAllowed, allowed, sentOf, valuesAt}
 use Rattle.message.specs.declared.hello.Hello.{Hello}
 use Rattle.message.specs.declared.hello.Field.{Field}
 use Rattle.message.specs.declared.hello.Field.the-variants.{Header, Size, Version, Random, SessionId, ClientKeyIds, TrustedKeyIds, CipherSuites, CompressionMethods, SequenceNumberMode, KeyRefresh, Rest}
 use Rattle.message.specs.declared.hello.Reading.{Reading}
 use Rattle.message.specs.declared.hello.Reading.the-variants.{WellFormed, Malformed}
+use Rattle.message.specs.Buffer.{Puts}
+use Rattle.message.proofs.Buffers.{put-on}
 use Rattle.message.proofs.Fields.{field-there}
 use Rattle.message.proofs.Rests as rests
 use Rattle.message.proofs.Rests.{rest-byte, front-end, front-part, front-rest, short-end, short-part, short-rest, long-end, long-part, long-rest, LongThere, ShortThere, short-there, short-size, short-piece, long-at, long-size, long-piece, bytes2-of, piece, piece-size, byte-piece}
@@ -40,7 +42,7 @@ pub record Allowed (v : Values) : Type 0 where
   pub size : length (helloOf v) ≤ 256
 
 pub allowed-of : (v : Values) → Allowed v → allowed v ≡ true
-unfolding allowed
+unfolding allowed fieldsAllowed offersAllowed
 allowed-of v w =
     rw
     (eq-eqb (length (v .random)) 16 (w .random-size),
@@ -58,29 +60,65 @@ both-split : (a b : Bool) → both a b ≡ true → (a ≡ true) × (b ≡ true)
 both-split true b h = (refl, h)
 both-split false b h = let z : _≡_ {A = ℕ} 0 1 = cc in absurd (omega arith)
 
+pub record Fields (random session client trusted : List ℕ) : Type 0 where
+  pub random-size : length random ≡ 16
+  pub session-size : length session ≤ 8
+  pub client-list : keyList client ≡ true
+  pub trusted-list : keyList trusted ≡ true
+
+pub fields-parts : (r s c t : List ℕ) → fieldsAllowed r s c t ≡ true → Fields r s c t
+unfolding fieldsAllowed
+fields-parts r s c t h =
+    let a = both-split (eqb (length r) 16) _ h in
+    let b = both-split (leb (length s) 8) _ (a .1) in
+    let d = both-split (keyList c) _ (b .1) in
+    record {
+        random-size = eqb-true (length r) 16 (a .0);
+        session-size = leb-true (length s) 8 (b .0);
+        client-list = d .0;
+        trusted-list = d .1
+    }
+
+pub record Offers (suites methods : List ℕ) : Type 0 where
+  pub suites-even : length suites % 2 ≡ 0
+  pub suites-floor : 2 ≤ length suites
+  pub suites-ceiling : length suites ≤ 255
+  pub methods-floor : 1 ≤ length methods
+  pub methods-ceiling : length methods ≤ 255
+
+pub offers-parts : (p z : List ℕ) → offersAllowed p z ≡ true → Offers p z
+unfolding offersAllowed
+offers-parts p z h =
+    let e = both-split (eqb (length p % 2) 0) _ h in
+    let f = both-split (leb 2 (length p)) _ (e .1) in
+    let g = both-split (leb (length p) 255) _ (f .1) in
+    let i = both-split (leb 1 (length z)) _ (g .1) in
+    record {
+        suites-even = eqb-true (length p % 2) 0 (e .0);
+        suites-floor = leb-true 2 (length p) (f .0);
+        suites-ceiling = leb-true (length p) 255 (g .0);
+        methods-floor = leb-true 1 (length z) (i .0);
+        methods-ceiling = leb-true (length z) 255 (i .1)
+    }
+
 pub allowed-parts : (v : Values) → allowed v ≡ true → Allowed v
 unfolding allowed
 allowed-parts v h =
-    let a = both-split (eqb (length (v .random)) 16) _ h in
-    let b = both-split (leb (length (v .session)) 8) _ (a .1) in
-    let c = both-split (keyList (v .client)) _ (b .1) in
-    let d = both-split (keyList (v .trusted)) _ (c .1) in
-    let e = both-split (eqb (length (v .suites) % 2) 0) _ (d .1) in
-    let f = both-split (leb 2 (length (v .suites))) _ (e .1) in
-    let g = both-split (leb (length (v .suites)) 255) _ (f .1) in
-    let i = both-split (leb 1 (length (v .methods))) _ (g .1) in
-    let j = both-split (leb (length (v .methods)) 255) _ (i .1) in
+    let a = both-split (fieldsAllowed (v .random) (v .session) (v .client) (v .trusted)) _ h in
+    let b = both-split (offersAllowed (v .suites) (v .methods)) _ (a .1) in
+    let f = fields-parts (v .random) (v .session) (v .client) (v .trusted) (a .0) in
+    let o = offers-parts (v .suites) (v .methods) (b .0) in
     record {
-        random-size = eqb-true (length (v .random)) 16 (a .0);
-        session-size = leb-true (length (v .session)) 8 (b .0);
-        client-list = c .0;
-        trusted-list = d .0;
-        suites-even = eqb-true (length (v .suites) % 2) 0 (e .0);
-        suites-floor = leb-true 2 (length (v .suites)) (f .0);
-        suites-ceiling = leb-true (length (v .suites)) 255 (g .0);
-        methods-floor = leb-true 1 (length (v .methods)) (i .0);
-        methods-ceiling = leb-true (length (v .methods)) 255 (j .0);
-        size = leb-true (length (helloOf v)) 256 (j .1)
+        random-size = f .random-size;
+        session-size = f .session-size;
+        client-list = f .client-list;
+        trusted-list = f .trusted-list;
+        suites-even = o .suites-even;
+        suites-floor = o .suites-floor;
+        suites-ceiling = o .suites-ceiling;
+        methods-floor = o .methods-floor;
+        methods-ceiling = o .methods-ceiling;
+        size = leb-true (length (helloOf v)) 256 (b .1)
     }
 
 -- a key list that is there
@@ -526,3 +564,97 @@ pub written-read : (v : Values) → allowed v ≡ true
 written-read v h =
     let w = allowed-parts v h in
     (reads (helloOf v) (placesOf v) (walked-sent v w), values-sent v w)
+
+-- how long a hello is
+pub length-hello : (v : Values)
+    → length (helloOf v)
+    ≡ 13 + length (v .random) + length (v .session) + length (v .client) + length (v .trusted) + length (v .suites) + length (v .methods)
+length-hello v =
+    let last = v .numbering ∷ v .refresh ∷ [] in
+    let a = length-append (v .methods) last in
+    let b = length-append (v .suites) (short (v .methods) ++ last) in
+    let c = length-append (v .trusted) (short (v .suites) ++ (short (v .methods) ++ last)) in
+    let d = length-append (v .client) (long (v .trusted) ++ (short (v .suites) ++ (short (v .methods) ++ last))) in
+    let e = length-append (v .session) (long (v .client) ++ (long (v .trusted) ++ (short (v .suites) ++ (short (v .methods) ++ last)))) in
+    let f = length-append (v .random) (short (v .session) ++ (long (v .client) ++ (long (v .trusted) ++ (short (v .suites) ++ (short (v .methods) ++ last))))) in
+    omega (arith, a, b, c, d, e, f)
+
+-- what is sent, by the tests of the values
+pub sent-none : (v : Values) → allowed v ≡ false → sentOf v ≡ []
+unfolding sentOf
+sent-none v h = rw h refl
+
+pub sent-hello : (v : Values) → allowed v ≡ true → sentOf v ≡ helloOf v
+unfolding sentOf
+sent-hello v h = rw h refl
+
+pub not-fields : (v : Values) → fieldsAllowed (v .random) (v .session) (v .client) (v .trusted) ≡ false → allowed v ≡ false
+unfolding allowed
+not-fields v h = rw h refl
+
+pub not-offers : (v : Values) → fieldsAllowed (v .random) (v .session) (v .client) (v .trusted) ≡ true
+    → offersAllowed (v .suites) (v .methods) ≡ false → allowed v ≡ false
+unfolding allowed
+not-offers v g h = rw (g, h) refl
+
+pub by-size : (v : Values) (b : Bool) → fieldsAllowed (v .random) (v .session) (v .client) (v .trusted) ≡ true
+    → offersAllowed (v .suites) (v .methods) ≡ true → leb (length (helloOf v)) 256 ≡ b → allowed v ≡ b
+unfolding allowed
+by-size v b g h k = rw (g, h) k
+
+pub size-none : (v : Values) → allowed v ≡ false → 0 ≡ length (sentOf v)
+size-none v h = ap length (sym (sent-none v h))
+
+pub size-hello : (v : Values) → allowed v ≡ true → length (helloOf v) ≡ length (sentOf v)
+size-hello v h = ap length (sym (sent-hello v h))
+
+-- values that make a hello too long
+pub too-long : (v : Values) → fieldsAllowed (v .random) (v .session) (v .client) (v .trusted) ≡ true
+    → offersAllowed (v .suites) (v .methods) ≡ true → 256 < length (helloOf v) → 0 ≡ length (sentOf v)
+too-long v g h k = size-none v (by-size v false g h (lt-leb (length (helloOf v)) 256 k))
+
+-- and those that do not
+pub short-enough : (v : Values) → fieldsAllowed (v .random) (v .session) (v .client) (v .trusted) ≡ true
+    → offersAllowed (v .suites) (v .methods) ≡ true → length (helloOf v) ≤ 256 → length (helloOf v) ≡ length (sentOf v)
+short-enough v g h k = size-hello v (by-size v true g h (le-leb (length (helloOf v)) 256 k))
+
+-- where something is sent, the values are allowed
+pub sent-allowed : (v : Values) → (length (sentOf v) ≡ 0 → ⊥) → allowed v ≡ true
+unfolding sentOf
+sent-allowed v h = go (allowed v) h
+  where
+    go : (b : Bool) → (length (pick b (helloOf v) []) ≡ 0 → ⊥) → b ≡ true
+    go true k = refl
+    go false k = absurd (k refl)
+
+-- the pieces of a hello, put one after the other
+pub put-hello : (v : Values) (size : ℕ) → size ≡ length (helloOf v) → size ≤ 256
+    → (o o1 o2 o3 o4 o5 o6 o7 o8 : List ℕ) (a1 a2 a3 a4 a5 a6 a7 a8 : ℕ)
+    → Puts (1 ∷ (size - 3) / 256 ∷ (size - 3) % 256 ∷ v .version ∷ []) o 0 o1 a1
+    → Puts (v .random) o1 a1 o2 a2
+    → Puts (short (v .session)) o2 a2 o3 a3
+    → Puts (long (v .client)) o3 a3 o4 a4
+    → Puts (long (v .trusted)) o4 a4 o5 a5
+    → Puts (short (v .suites)) o5 a5 o6 a6
+    → Puts (short (v .methods)) o6 a6 o7 a7
+    → Puts (v .numbering ∷ v .refresh ∷ []) o7 a7 o8 a8
+    → Puts (helloOf v) o 0 o8 a8
+put-hello v size e k o o1 o2 o3 o4 o5 o6 o7 o8 a1 a2 a3 a4 a5 a6 a7 a8 p1 p2 p3 p4 p5 p6 p7 p8 =
+    let last = v .numbering ∷ v .refresh ∷ [] in
+    let l7 = short (v .methods) ++ last in
+    let l6 = short (v .suites) ++ l7 in
+    let l5 = long (v .trusted) ++ l6 in
+    let l4 = long (v .client) ++ l5 in
+    let l3 = short (v .session) ++ l4 in
+    let l2 = v .random ++ l3 in
+    let h : (size - 3) / 256 ≡ length (bodyOf v) / 256 % 256 = omega arith in
+    let g : (size - 3) % 256 ≡ length (bodyOf v) % 256 = omega arith in
+    let q1 : Puts (1 ∷ length (bodyOf v) / 256 % 256 ∷ length (bodyOf v) % 256 ∷ v .version ∷ []) o 0 o1 a1 =
+        subst (λ (x : ℕ). Puts (1 ∷ length (bodyOf v) / 256 % 256 ∷ x ∷ v .version ∷ []) o 0 o1 a1) g
+        (subst (λ (x : ℕ). Puts (1 ∷ x ∷ (size - 3) % 256 ∷ v .version ∷ []) o 0 o1 a1) h p1) in
+    put-on _ l2 o o1 o8 0 a1 a8 q1
+    (put-on (v .random) l3 o1 o2 o8 a1 a2 a8 p2
+    (put-on (short (v .session)) l4 o2 o3 o8 a2 a3 a8 p3
+    (put-on (long (v .client)) l5 o3 o4 o8 a3 a4 a8 p4
+    (put-on (long (v .trusted)) l6 o4 o5 o8 a4 a5 a8 p5
+    (put-on (short (v .suites)) l7 o5 o6 o8 a5 a6 a8 p6 (put-on (short (v .methods)) last o6 o7 o8 a6 a7 a8 p7 p8))))))

@@ -24,6 +24,20 @@ pub record Values : Type 0 where
   pub numbering : ℕ
   pub refresh : ℕ
 
+abbrev pub valuesOf : ℕ → List ℕ → List ℕ → List ℕ → List ℕ → List ℕ → List ℕ → ℕ → ℕ → Values
+valuesOf version random session client trusted suites methods numbering refresh =
+    record {
+        version = version;
+        random = random;
+        session = session;
+        client = client;
+        trusted = trusted;
+        suites = suites;
+        methods = methods;
+        numbering = numbering;
+        refresh = refresh
+    }
+
 -- ClientHello
 abbrev pub bodyOf : Values → List ℕ
 bodyOf v =
@@ -40,19 +54,27 @@ helloOf v = messageOf clientHello (bodyOf v)
 abbrev pub both : Bool → Bool → Bool
 both a b = pick a b false
 
--- the values that a hello can have: opaque random[16], SessionID<0..8>, lists of KeyExchangeId, CipherSuite of two
--- bytes each in <2..2^8-1>, CompressionMethod<1..2^8-1>; 01: the message is at most 256 bytes
+-- opaque random[16], SessionID<0..8>, and two lists of KeyExchangeId
+unfoldable pub fieldsAllowed : List ℕ → List ℕ → List ℕ → List ℕ → Bool
+fieldsAllowed random session client trusted =
+    both (eqb (length random) 16) (both (leb (length session) 8) (both (keyList client) (keyList trusted)))
+
+-- CipherSuite, of two bytes each, in <2..2^8-1>, and CompressionMethod in <1..2^8-1>
+unfoldable pub offersAllowed : List ℕ → List ℕ → Bool
+offersAllowed suites methods =
+    both (eqb (length suites % 2) 0)
+    (both (leb 2 (length suites))
+    (both (leb (length suites) 255) (both (leb 1 (length methods)) (leb (length methods) 255))))
+
+-- the values that a hello can have; 01: the message is at most 256 bytes
 unfoldable pub allowed : Values → Bool
 allowed v =
-    both (eqb (length (v .random)) 16)
-    (both (leb (length (v .session)) 8)
-    (both (keyList (v .client))
-    (both (keyList (v .trusted))
-    (both (eqb (length (v .suites) % 2) 0)
-    (both (leb 2 (length (v .suites)))
-    (both (leb (length (v .suites)) 255)
-    (both (leb 1 (length (v .methods)))
-    (both (leb (length (v .methods)) 255) (leb (length (helloOf v)) 256)))))))))
+    both (fieldsAllowed (v .random) (v .session) (v .client) (v .trusted))
+    (both (offersAllowed (v .suites) (v .methods)) (leb (length (helloOf v)) 256))
+
+-- what is written of values: nothing where no hello can have them
+unfoldable pub sentOf : Values → List ℕ
+sentOf v = pick (allowed v) (helloOf v) []
 
 -- the bytes that stand at a place
 abbrev pub bytesAt : List ℕ → Place → List ℕ

@@ -3,3 +3,5 @@ pub mod field;
 pub mod handshake;
 pub mod hello;
 pub mod keys;
+mod put;
+pub mod writer;
