@@ -1,4 +1,5 @@
 -- Laws that belong to no one function.
+pub mod Accepting
 pub mod Alerts
 pub mod Buffers
 pub mod Fields

@@ -1,4 +1,5 @@
 -- The definitions of layer 3, messages.
+pub mod Acceptance
 pub mod Alert
 pub mod Buffer
 pub mod Field

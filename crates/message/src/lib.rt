@@ -1,4 +1,5 @@
 // Layer 3: messages (002 section 10). Hellos, alerts, change cipher spec and Finished, read and written exactly.
+pub mod acceptance;
 pub mod alert;
 pub mod field;
 pub mod handshake;
