@@ -6,4 +6,6 @@ pub mod Fields
 pub mod Rests
 pub mod Entries
 pub mod Hellos
+pub mod Replies
 pub mod Written
+pub mod Twelve

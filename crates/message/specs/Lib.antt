@@ -7,3 +7,6 @@ pub mod Handshake
 pub mod Keys
 pub mod Hello
 pub mod Values
+pub mod Change
+pub mod Server
+pub mod Finished
