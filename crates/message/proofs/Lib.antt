@@ -9,3 +9,4 @@ pub mod Hellos
 pub mod Replies
 pub mod Written
 pub mod Twelve
+pub mod Cases
