@@ -16,17 +16,18 @@ pub paste-over : (d p s : List ℕ) → length p + length s ≤ length d → pas
 paste-over d p s h =
     let a : take (length p) (over d p) ≡ p = take-at p (drop (length p) d) (length p) refl in
     let b : drop (length p + length s) (over d p) ≡ drop (length (p ++ s)) d =
-        sym (drop-drop (length s) (length p) (over d p))
-        ∙ ap (drop (length s)) (drop-at p (drop (length p) d) (length p) refl)
-        ∙ drop-drop (length s) (length p) d
-        ∙ ap (λ (k : ℕ). drop k d) (sym (length-append p s)) in
+    sym (drop-drop (length s) (length p) (over d p))
+    ∙ ap (drop (length s)) (drop-at p (drop (length p) d) (length p) refl)
+    ∙ drop-drop (length s) (length p) d
+    ∙ ap (λ (k : ℕ). drop k d) (sym (length-append p s)) in
     λ i. a i ++ take-length s i ++ b i
 
 -- a piece that is pasted whole is put
 pub pasted : (s o o' : List ℕ) (at r : ℕ) → o' ≡ paste o at s (length s) → r ≡ at + length s → Puts s o at o' r
-pasted s o o' at r e k d p f g h =
-    (e ∙ ap (λ (l : List ℕ). paste l at s (length s)) f ∙ ap (λ (j : ℕ). paste (over d p) j s (length s)) g ∙ paste-over d p s h,
-    k ∙ ap (λ (j : ℕ). j + length s) g ∙ sym (length-append p s))
+pasted s o o' at r e k d p f g h = (
+  e ∙ ap (λ (l : List ℕ). paste l at s (length s)) f ∙ ap (λ (j : ℕ). paste (over d p) j s (length s)) g ∙ paste-over d p s h,
+  k ∙ ap (λ (j : ℕ). j + length s) g ∙ sym (length-append p s),
+)
 
 pub length-over : (d p : List ℕ) → length p ≤ length d → length (over d p) ≡ length d
 length-over d p h = omega (arith, length-append p (drop (length p) d), lib.ListN.length-drop (length p) d)
@@ -57,6 +58,7 @@ module _ (d b : List ℕ) where
       empty : (l : List ℕ) → length l ≡ 0 → l ≡ []
       empty [] k = refl
       empty (x ∷ l) k = absurd (omega arith)
+
       pick-cases : (t : Bool) → (0 ≡ length (pick {A = List ℕ} t [] [])) × (d ≡ over d (pick {A = List ℕ} t [] []))
       pick-cases true = (refl, refl)
       pick-cases false = (refl, refl)

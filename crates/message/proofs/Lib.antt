@@ -10,3 +10,6 @@ pub mod Replies
 pub mod Written
 pub mod Twelve
 pub mod Cases
+pub mod Hearing
+pub mod AlertLaws
+pub mod FinishedLaws

@@ -42,7 +42,7 @@ module _ (random session : List ℕ) (plan : Plan) where
       let e : 0 ≡ n / 256 % 256 = omega (arith, length-server) in
       let f : 24 + length session ≡ n % 256 = omega (arith, length-server) in
       let q : Puts (2 ∷ (n / 256 % 256) ∷ (n % 256) ∷ 1 ∷ []) o 0 o1 a1 =
-          subst (λ (x : ℕ). Puts (2 ∷ n / 256 % 256 ∷ x ∷ 1 ∷ []) o 0 o1 a1) f
-          (subst (λ (x : ℕ). Puts (2 ∷ x ∷ (24 + length session) ∷ 1 ∷ []) o 0 o1 a1) e p1) in
+      subst (λ (x : ℕ). Puts (2 ∷ n / 256 % 256 ∷ x ∷ 1 ∷ []) o 0 o1 a1) f
+      (subst (λ (x : ℕ). Puts (2 ∷ x ∷ (24 + length session) ∷ 1 ∷ []) o 0 o1 a1) e p1) in
       put-on (2 ∷ (n / 256 % 256) ∷ (n % 256) ∷ 1 ∷ []) (random ++ (short session ++ tail)) o o1 o4 0 a1 a4 q
       (put-on random (short session ++ tail) o1 o2 o4 a1 a2 a4 p2 (put-on (short session) tail o2 o3 o4 a2 a3 a4 p3 p4))

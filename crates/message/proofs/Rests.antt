@@ -49,11 +49,12 @@ module _ (floor ceiling : ℕ) (m : List ℕ) (a : ℕ) (x l : List ℕ) (w : Re
   pub short-end : floor ≤ length x → length x ≤ ceiling → shortEnd floor ceiling m a ≡ a + 1 + length x
   unfolding shortEnd
   short-end f g =
-      rw
-      (rest-byte m a (length x) (x ++ l) w,
-      lt-ltb a (length m) (omega (arith, short-tail .size)),
-      le-leb floor (length x) f,
-      le-leb (length x) ceiling g)
+      rw (
+        rest-byte m a (length x) (x ++ l) w,
+        lt-ltb a (length m) (omega (arith, short-tail .size)),
+        le-leb floor (length x) f,
+        le-leb (length x) ceiling g,
+      )
       (front-end m (a + 1) (length x) x l short-tail refl)
 
   pub short-part : partOf m (a + 1) (a + 1 + length x) ≡ x
@@ -73,10 +74,11 @@ module _ (m : List ℕ) (a : ℕ) (x l : List ℕ) (w : Rest m a (long x ++ l)) 
   pub long-end : length x < 65536 → longEnd m a ≡ a + 2 + length x
   long-end h =
       let t : twoAt m a ≡ length x =
-          omega
-          (arith,
-          rest-byte m a (length x / 256 % 256) (length x % 256 ∷ (x ++ l)) w,
-          rest-byte m (a + 1) (length x % 256) (x ++ l) long-low) in
+      omega (
+        arith,
+        rest-byte m a (length x / 256 % 256) (length x % 256 ∷ (x ++ l)) w,
+        rest-byte m (a + 1) (length x % 256) (x ++ l) long-low,
+      ) in
       sym (long-fits m a (omega (arith, long-tail .size)))
       ∙ ap (fieldEnd m (a + 2)) t
       ∙ front-end m (a + 2) (length x) x l long-tail refl
@@ -120,10 +122,10 @@ short-there floor ceiling m a =
     go true true true ef eg h =
         let w = field-there m (a + 1) (getD m a 0) h in
         record {
-            ends = w .0;
-            within = omega (arith, w .0, w .1);
-            above = leb-true floor (getD m a 0) ef;
-            below = leb-true (getD m a 0) ceiling eg
+          ends = w .0;
+          within = omega (arith, w .0, w .1);
+          above = leb-true floor (getD m a 0) ef;
+          below = leb-true (getD m a 0) ceiling eg;
         }
     go true true false ef eg h = absurd (h refl)
     go true false true ef eg h = absurd (h refl)

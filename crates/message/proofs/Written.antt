@@ -3,6 +3,7 @@
 use mathlib.Core.Path.{_≡_, refl, sym, _∙_, ap, subst}
 use mathlib.Core.List.{List, [], _∷_, _++_, append-assoc}
 use mathlib.Core.Bool.{Bool, true, false}
+use mathlib.Core.Logic.{_↔_}
 use Prim.Native.Nat.{ℕ, zero, suc, _+_, _*_, _-_, _/_, _%_, _≤_, _<_}
 use native.Mathlib.Omega.{arith}
 use native.Mathlib.Numerals.{add-one}
@@ -44,16 +45,17 @@ pub record Allowed (v : Values) : Type 0 where
 pub allowed-of : (v : Values) → Allowed v → allowed v ≡ true
 unfolding allowed fieldsAllowed offersAllowed
 allowed-of v w =
-    rw
-    (eq-eqb (length (v .random)) 16 (w .random-size),
-    le-leb (length (v .session)) 8 (w .session-size),
-    w .client-list,
-    w .trusted-list,
-    eq-eqb (length (v .suites) % 2) 0 (w .suites-even),
-    le-leb 2 (length (v .suites)) (w .suites-floor),
-    le-leb (length (v .suites)) 255 (w .suites-ceiling),
-    le-leb 1 (length (v .methods)) (w .methods-floor),
-    le-leb (length (v .methods)) 255 (w .methods-ceiling))
+    rw (
+      eq-eqb (length (v .random)) 16 (w .random-size),
+      le-leb (length (v .session)) 8 (w .session-size),
+      w .client-list,
+      w .trusted-list,
+      eq-eqb (length (v .suites) % 2) 0 (w .suites-even),
+      le-leb 2 (length (v .suites)) (w .suites-floor),
+      le-leb (length (v .suites)) 255 (w .suites-ceiling),
+      le-leb 1 (length (v .methods)) (w .methods-floor),
+      le-leb (length (v .methods)) 255 (w .methods-ceiling),
+    )
     (le-leb (length (helloOf v)) 256 (w .size))
 
 both-split : (a b : Bool) → both a b ≡ true → (a ≡ true) × (b ≡ true)
@@ -73,10 +75,10 @@ fields-parts r s c t h =
     let b = both-split (leb (length s) 8) _ (a .1) in
     let d = both-split (keyList c) _ (b .1) in
     record {
-        random-size = eqb-true (length r) 16 (a .0);
-        session-size = leb-true (length s) 8 (b .0);
-        client-list = d .0;
-        trusted-list = d .1
+      random-size = eqb-true (length r) 16 (a .0);
+      session-size = leb-true (length s) 8 (b .0);
+      client-list = d .0;
+      trusted-list = d .1;
     }
 
 pub record Offers (suites methods : List ℕ) : Type 0 where
@@ -94,11 +96,11 @@ offers-parts p z h =
     let g = both-split (leb (length p) 255) _ (f .1) in
     let i = both-split (leb 1 (length z)) _ (g .1) in
     record {
-        suites-even = eqb-true (length p % 2) 0 (e .0);
-        suites-floor = leb-true 2 (length p) (f .0);
-        suites-ceiling = leb-true (length p) 255 (g .0);
-        methods-floor = leb-true 1 (length z) (i .0);
-        methods-ceiling = leb-true (length z) 255 (i .1)
+      suites-even = eqb-true (length p % 2) 0 (e .0);
+      suites-floor = leb-true 2 (length p) (f .0);
+      suites-ceiling = leb-true (length p) 255 (g .0);
+      methods-floor = leb-true 1 (length z) (i .0);
+      methods-ceiling = leb-true (length z) 255 (i .1);
     }
 
 pub allowed-parts : (v : Values) → allowed v ≡ true → Allowed v
@@ -109,16 +111,16 @@ allowed-parts v h =
     let f = fields-parts (v .random) (v .session) (v .client) (v .trusted) (a .0) in
     let o = offers-parts (v .suites) (v .methods) (b .0) in
     record {
-        random-size = f .random-size;
-        session-size = f .session-size;
-        client-list = f .client-list;
-        trusted-list = f .trusted-list;
-        suites-even = o .suites-even;
-        suites-floor = o .suites-floor;
-        suites-ceiling = o .suites-ceiling;
-        methods-floor = o .methods-floor;
-        methods-ceiling = o .methods-ceiling;
-        size = leb-true (length (helloOf v)) 256 (b .1)
+      random-size = f .random-size;
+      session-size = f .session-size;
+      client-list = f .client-list;
+      trusted-list = f .trusted-list;
+      suites-even = o .suites-even;
+      suites-floor = o .suites-floor;
+      suites-ceiling = o .suites-ceiling;
+      methods-floor = o .methods-floor;
+      methods-ceiling = o .methods-ceiling;
+      size = leb-true (length (helloOf v)) 256 (b .1);
     }
 
 -- a key list that is there
@@ -220,38 +222,39 @@ walked m h e =
     let o = unpick-fault (eqb (refreshEnd m) 0) KeyRefresh _ h (n .1) in
     let q = unpick-else (eqb (refreshEnd m) (length m)) Rest _ h (o .1) in
     record {
-        kind = a .0;
-        small = leb-true (length m) 256 (b .0);
-        version = eqb-false (versionEnd m) 0 (c .0);
-        random = eqb-false (randomEnd m) 0 (d .0);
-        session = eqb-false (sessionEnd m) 0 (f .0);
-        client = eqb-false (clientEnd m) 0 (g .0);
-        trusted = eqb-false (trustedEnd m) 0 (i .0);
-        pairs = eqb-false (pairsEnd m) 0 (j .0);
-        methods = eqb-false (methodsEnd m) 0 (k .0);
-        numbering = eqb-false (numberingEnd m) 0 (n .0);
-        refresh = eqb-false (refreshEnd m) 0 (o .0);
-        whole = eqb-true (refreshEnd m) (length m) (q .0);
-        places = cc (q .1)
+      kind = a .0;
+      small = leb-true (length m) 256 (b .0);
+      version = eqb-false (versionEnd m) 0 (c .0);
+      random = eqb-false (randomEnd m) 0 (d .0);
+      session = eqb-false (sessionEnd m) 0 (f .0);
+      client = eqb-false (clientEnd m) 0 (g .0);
+      trusted = eqb-false (trustedEnd m) 0 (i .0);
+      pairs = eqb-false (pairsEnd m) 0 (j .0);
+      methods = eqb-false (methodsEnd m) 0 (k .0);
+      numbering = eqb-false (numberingEnd m) 0 (n .0);
+      refresh = eqb-false (refreshEnd m) 0 (o .0);
+      whole = eqb-true (refreshEnd m) (length m) (q .0);
+      places = cc (q .1);
     }
 
 -- and the other way round
 pub reads : (m : List ℕ) → (h : Hello) → Walked m h → readOf m ≡ WellFormed h
 unfolding readOf
 reads m h w =
-    rw
-    (w .kind,
-    le-leb (length m) 256 (w .small),
-    ne-eqb (versionEnd m) 0 (w .version),
-    ne-eqb (randomEnd m) 0 (w .random),
-    ne-eqb (sessionEnd m) 0 (w .session),
-    ne-eqb (clientEnd m) 0 (w .client),
-    ne-eqb (trustedEnd m) 0 (w .trusted),
-    ne-eqb (pairsEnd m) 0 (w .pairs),
-    ne-eqb (methodsEnd m) 0 (w .methods),
-    ne-eqb (numberingEnd m) 0 (w .numbering),
-    ne-eqb (refreshEnd m) 0 (w .refresh),
-    eq-eqb (refreshEnd m) (length m) (w .whole))
+    rw (
+      w .kind,
+      le-leb (length m) 256 (w .small),
+      ne-eqb (versionEnd m) 0 (w .version),
+      ne-eqb (randomEnd m) 0 (w .random),
+      ne-eqb (sessionEnd m) 0 (w .session),
+      ne-eqb (clientEnd m) 0 (w .client),
+      ne-eqb (trustedEnd m) 0 (w .trusted),
+      ne-eqb (pairsEnd m) 0 (w .pairs),
+      ne-eqb (methodsEnd m) 0 (w .methods),
+      ne-eqb (numberingEnd m) 0 (w .numbering),
+      ne-eqb (refreshEnd m) 0 (w .refresh),
+      eq-eqb (refreshEnd m) (length m) (w .whole),
+    )
     (ap WellFormed (w .places))
 
 pub record Filled (kind : ℕ) (m : List ℕ) : Type 0 where
@@ -265,9 +268,9 @@ filled kind m h =
     let a = both-split (leb 3 (length m)) _ h in
     let b = both-split (eqb (getD m 0 0) kind) _ (a .1) in
     record {
-        long-enough = leb-true 3 (length m) (a .0);
-        type = eqb-true (getD m 0 0) kind (b .0);
-        size = eqb-true (twoAt m 1) (length m - 3) (b .1)
+      long-enough = leb-true 3 (length m) (a .0);
+      type = eqb-true (getD m 0 0) kind (b .0);
+      size = eqb-true (twoAt m 1) (length m - 3) (b .1);
     }
 
 pub fills-of : (kind : ℕ) (m : List ℕ) → Filled kind m → fills kind m ≡ true
@@ -326,27 +329,27 @@ module _ (m : List ℕ) (b : (i : ℕ) → getD m i 0 < 256) (h : Hello) (w : Wa
       let v = valuesAt m found in
       let e9 : drop (refreshEnd m) m ≡ [] = ap (λ (k : ℕ). drop k m) (w .whole) ∙ drop-length m in
       let e8 : drop (numberingEnd m) m ≡ v .refresh ∷ [] =
-          byte-piece m (numberingEnd m) (at-refresh .1)
-          ∙ ap (λ (k : ℕ). v .refresh ∷ drop k m) (sym (at-refresh .0))
-          ∙ ap (λ (l : List ℕ). v .refresh ∷ l) e9 in
+      byte-piece m (numberingEnd m) (at-refresh .1)
+      ∙ ap (λ (k : ℕ). v .refresh ∷ drop k m) (sym (at-refresh .0))
+      ∙ ap (λ (l : List ℕ). v .refresh ∷ l) e9 in
       let e7 : drop (methodsEnd m) m ≡ v .numbering ∷ v .refresh ∷ [] =
-          byte-piece m (methodsEnd m) (at-numbering .1)
-          ∙ ap (λ (k : ℕ). v .numbering ∷ drop k m) (sym (at-numbering .0))
-          ∙ ap (λ (l : List ℕ). v .numbering ∷ l) e8 in
+      byte-piece m (methodsEnd m) (at-numbering .1)
+      ∙ ap (λ (k : ℕ). v .numbering ∷ drop k m) (sym (at-numbering .0))
+      ∙ ap (λ (l : List ℕ). v .numbering ∷ l) e8 in
       let e6 : drop (pairsEnd m) m ≡ short (v .methods) ++ (v .numbering ∷ v .refresh ∷ []) =
-          short-piece 1 255 m (pairsEnd m) (methodsEnd m) at-methods ∙ ap (λ (l : List ℕ). short (v .methods) ++ l) e7 in
+      short-piece 1 255 m (pairsEnd m) (methodsEnd m) at-methods ∙ ap (λ (l : List ℕ). short (v .methods) ++ l) e7 in
       let e5 : drop (trustedEnd m) m ≡ short (v .suites) ++ (short (v .methods) ++ (v .numbering ∷ v .refresh ∷ [])) =
-          short-piece 2 255 m (trustedEnd m) (pairsEnd m) (at-pairs .there) ∙ ap (λ (l : List ℕ). short (v .suites) ++ l) e6 in
+      short-piece 2 255 m (trustedEnd m) (pairsEnd m) (at-pairs .there) ∙ ap (λ (l : List ℕ). short (v .suites) ++ l) e6 in
       let e4 : drop (clientEnd m) m ≡ long (v .trusted) ++ (short (v .suites) ++ (short (v .methods) ++ (v .numbering ∷ v .refresh ∷ []))) =
-          long-piece m (clientEnd m) (trustedEnd m) (b (clientEnd m)) (b (clientEnd m + 1)) (at-trusted .there) ∙ ap (λ (l : List ℕ). long (v .trusted) ++ l) e5 in
+      long-piece m (clientEnd m) (trustedEnd m) (b (clientEnd m)) (b (clientEnd m + 1)) (at-trusted .there) ∙ ap (λ (l : List ℕ). long (v .trusted) ++ l) e5 in
       let e3 : drop (sessionEnd m) m ≡ long (v .client) ++ (long (v .trusted) ++ (short (v .suites) ++ (short (v .methods) ++ (v .numbering ∷ v .refresh ∷ [])))) =
-          long-piece m (sessionEnd m) (clientEnd m) (b (sessionEnd m)) (b (sessionEnd m + 1)) (at-client .there) ∙ ap (λ (l : List ℕ). long (v .client) ++ l) e4 in
+      long-piece m (sessionEnd m) (clientEnd m) (b (sessionEnd m)) (b (sessionEnd m + 1)) (at-client .there) ∙ ap (λ (l : List ℕ). long (v .client) ++ l) e4 in
       let e2 : drop (randomEnd m) m ≡ short (v .session) ++ (long (v .client) ++ (long (v .trusted) ++ (short (v .suites) ++ (short (v .methods) ++ (v .numbering ∷ v .refresh ∷ []))))) =
-          short-piece 0 8 m (randomEnd m) (sessionEnd m) at-session ∙ ap (λ (l : List ℕ). short (v .session) ++ l) e3 in
+      short-piece 0 8 m (randomEnd m) (sessionEnd m) at-session ∙ ap (λ (l : List ℕ). short (v .session) ++ l) e3 in
       let e1 : drop (versionEnd m) m ≡ v .random ++ (short (v .session) ++ (long (v .client) ++ (long (v .trusted) ++ (short (v .suites) ++ (short (v .methods) ++ (v .numbering ∷ v .refresh ∷ [])))))) =
-          piece m (versionEnd m) 16 (at-random .1)
-          ∙ ap (λ (k : ℕ). partOf m (versionEnd m) k ++ drop k m) (sym (at-random .0))
-          ∙ ap (λ (l : List ℕ). v .random ++ l) e2 in
+      piece m (versionEnd m) 16 (at-random .1)
+      ∙ ap (λ (k : ℕ). partOf m (versionEnd m) k ++ drop k m) (sym (at-random .0))
+      ∙ ap (λ (l : List ℕ). v .random ++ l) e2 in
       sym
       (byte-piece m 3 (at-version .1)
       ∙ ap (λ (k : ℕ). v .version ∷ drop k m) (sym (at-version .0))
@@ -363,16 +366,16 @@ module _ (m : List ℕ) (b : (i : ℕ) → getD m i 0 < 256) (h : Hello) (w : Wa
       let s2 = short-size 2 255 m (trustedEnd m) (pairsEnd m) (at-pairs .there) in
       let s3 = short-size 1 255 m (pairsEnd m) (methodsEnd m) at-methods in
       record {
-          random-size = ap (λ (k : ℕ). length (partOf m (versionEnd m) k)) (at-random .0) ∙ piece-size m (versionEnd m) 16 (at-random .1);
-          session-size = omega (arith, s1, at-session .below);
-          client-list = at-client .entries;
-          trusted-list = at-trusted .entries;
-          suites-even = ap (λ (k : ℕ). k % 2) s2 ∙ at-pairs .even;
-          suites-floor = omega (arith, s2, at-pairs .there .above);
-          suites-ceiling = omega (arith, s2, at-pairs .there .below);
-          methods-floor = omega (arith, s3, at-methods .above);
-          methods-ceiling = omega (arith, s3, at-methods .below);
-          size = omega (arith, ap length found-again, w .small)
+        random-size = ap (λ (k : ℕ). length (partOf m (versionEnd m) k)) (at-random .0) ∙ piece-size m (versionEnd m) 16 (at-random .1);
+        session-size = omega (arith, s1, at-session .below);
+        client-list = at-client .entries;
+        trusted-list = at-trusted .entries;
+        suites-even = ap (λ (k : ℕ). k % 2) s2 ∙ at-pairs .even;
+        suites-floor = omega (arith, s2, at-pairs .there .above);
+        suites-ceiling = omega (arith, s2, at-pairs .there .below);
+        methods-floor = omega (arith, s3, at-methods .above);
+        methods-ceiling = omega (arith, s3, at-methods .below);
+        size = omega (arith, ap length found-again, w .small);
       }
 
 -- a message that reads as well-formed is the one that is written of its values
@@ -519,19 +522,19 @@ module _ (v : Values) (w : Allowed v) where
   walked-sent : Walked sent (placesOf v)
   walked-sent =
       record {
-          kind = fills-of clientHello sent kind-sent;
-          small = w .size;
-          version = λ q. omega (arith, e1, q);
-          random = λ q. omega (arith, e2, q);
-          session = λ q. omega (arith, e3, q);
-          client = λ q. omega (arith, e4, q);
-          trusted = λ q. omega (arith, e5, q);
-          pairs = λ q. omega (arith, e6, q);
-          methods = λ q. omega (arith, e7, q);
-          numbering = λ q. omega (arith, e8, q);
-          refresh = λ q. omega (arith, e9, q);
-          whole = omega (arith, e9, r9 .size);
-          places = λ i. placed (e1 i) (e2 i) (e3 i) (e4 i) (e5 i) (e6 i) (e7 i) (e8 i) (e9 i)
+        kind = fills-of clientHello sent kind-sent;
+        small = w .size;
+        version = λ q. omega (arith, e1, q);
+        random = λ q. omega (arith, e2, q);
+        session = λ q. omega (arith, e3, q);
+        client = λ q. omega (arith, e4, q);
+        trusted = λ q. omega (arith, e5, q);
+        pairs = λ q. omega (arith, e6, q);
+        methods = λ q. omega (arith, e7, q);
+        numbering = λ q. omega (arith, e8, q);
+        refresh = λ q. omega (arith, e9, q);
+        whole = omega (arith, e9, r9 .size);
+        places = λ i. placed (e1 i) (e2 i) (e3 i) (e4 i) (e5 i) (e6 i) (e7 i) (e8 i) (e9 i);
       }
 
   values-sent : valuesAt sent (placesOf v) ≡ v
@@ -547,15 +550,15 @@ module _ (v : Values) (w : Allowed v) where
       let a8 = rest-byte sent (z + 1) (v .refresh) [] r8 in
       λ i.
       record {
-          version = a0 i;
-          random = a1 i;
-          session = a2 i;
-          client = a3 i;
-          trusted = a4 i;
-          suites = a5 i;
-          methods = a6 i;
-          numbering = a7 i;
-          refresh = a8 i
+        version = a0 i;
+        random = a1 i;
+        session = a2 i;
+        client = a3 i;
+        trusted = a4 i;
+        suites = a5 i;
+        methods = a6 i;
+        numbering = a7 i;
+        refresh = a8 i;
       }
 
 -- what is written is read back, with the same values
@@ -650,11 +653,18 @@ put-hello v size e k o o1 o2 o3 o4 o5 o6 o7 o8 a1 a2 a3 a4 a5 a6 a7 a8 p1 p2 p3 
     let h : (size - 3) / 256 ≡ length (bodyOf v) / 256 % 256 = omega arith in
     let g : (size - 3) % 256 ≡ length (bodyOf v) % 256 = omega arith in
     let q1 : Puts (1 ∷ length (bodyOf v) / 256 % 256 ∷ length (bodyOf v) % 256 ∷ v .version ∷ []) o 0 o1 a1 =
-        subst (λ (x : ℕ). Puts (1 ∷ length (bodyOf v) / 256 % 256 ∷ x ∷ v .version ∷ []) o 0 o1 a1) g
-        (subst (λ (x : ℕ). Puts (1 ∷ x ∷ (size - 3) % 256 ∷ v .version ∷ []) o 0 o1 a1) h p1) in
+    subst (λ (x : ℕ). Puts (1 ∷ length (bodyOf v) / 256 % 256 ∷ x ∷ v .version ∷ []) o 0 o1 a1) g
+    (subst (λ (x : ℕ). Puts (1 ∷ x ∷ (size - 3) % 256 ∷ v .version ∷ []) o 0 o1 a1) h p1) in
     put-on _ l2 o o1 o8 0 a1 a8 q1
     (put-on (v .random) l3 o1 o2 o8 a1 a2 a8 p2
     (put-on (short (v .session)) l4 o2 o3 o8 a2 a3 a8 p3
     (put-on (long (v .client)) l5 o3 o4 o8 a3 a4 a8 p4
     (put-on (long (v .trusted)) l6 o4 o5 o8 a4 a5 a8 p5
     (put-on (short (v .suites)) l7 o5 o6 o8 a5 a6 a8 p6 (put-on (short (v .methods)) last o6 o7 o8 a6 a7 a8 p7 p8))))))
+
+-- the well-formed hellos are exactly the hellos that are written
+pub image : (m : List ℕ) → ((i : ℕ) → getD m i 0 < 256)
+    → ((h : Hello) × (readOf m ≡ WellFormed h)) ↔ ((v : Values) × (allowed v ≡ true) × (helloOf v ≡ m))
+image m b =
+    (λ w. (valuesAt m (w .0), read-written m b (w .0) (w .1) .0, read-written m b (w .0) (w .1) .1),
+    λ w. (placesOf (w .0), subst (λ (l : List ℕ). readOf l ≡ WellFormed (placesOf (w .0))) (w .2) (written-read (w .0) (w .1) .0)))

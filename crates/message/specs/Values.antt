@@ -27,15 +27,15 @@ pub record Values : Type 0 where
 abbrev pub valuesOf : ℕ → List ℕ → List ℕ → List ℕ → List ℕ → List ℕ → List ℕ → ℕ → ℕ → Values
 valuesOf version random session client trusted suites methods numbering refresh =
     record {
-        version = version;
-        random = random;
-        session = session;
-        client = client;
-        trusted = trusted;
-        suites = suites;
-        methods = methods;
-        numbering = numbering;
-        refresh = refresh
+      version = version;
+      random = random;
+      session = session;
+      client = client;
+      trusted = trusted;
+      suites = suites;
+      methods = methods;
+      numbering = numbering;
+      refresh = refresh;
     }
 
 -- ClientHello
@@ -84,13 +84,13 @@ bytesAt m p = partOf m (p .from) (p .end)
 abbrev pub valuesAt : List ℕ → Hello → Values
 valuesAt m h =
     record {
-        version = getD m (h .version .from) 0;
-        random = bytesAt m (h .random);
-        session = bytesAt m (h .session);
-        client = bytesAt m (h .client);
-        trusted = bytesAt m (h .trusted);
-        suites = bytesAt m (h .suites);
-        methods = bytesAt m (h .methods);
-        numbering = getD m (h .numbering .from) 0;
-        refresh = getD m (h .refresh .from) 0
+      version = getD m (h .version .from) 0;
+      random = bytesAt m (h .random);
+      session = bytesAt m (h .session);
+      client = bytesAt m (h .client);
+      trusted = bytesAt m (h .trusted);
+      suites = bytesAt m (h .suites);
+      methods = bytesAt m (h .methods);
+      numbering = getD m (h .numbering .from) 0;
+      refresh = getD m (h .refresh .from) 0;
     }

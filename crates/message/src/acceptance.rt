@@ -3,7 +3,6 @@ ghost use mathlib.Core.Path.{_≡_};
 ghost use lib.ListN.{getD};
 ghost use Rattle.message.specs.Values.{valuesAt};
 ghost use Rattle.message.specs.Acceptance.{fitsPair, firstFit, hasNull, acceptedOf, acceptanceOf, heardOf};
-
 use crate::field;
 use crate::hello;
 use crate::hello::Field;
@@ -120,7 +119,7 @@ pub fn accept(
 }
 
 // The MAC number of the first pair that the profile has, or 0.
-pub fn first_fit(suites: &[u8]) -> u8
+fn first_fit(suites: &[u8]) -> u8
     ensures { λ r. ⌜ r ≡ firstFit (now (suites .entry)) ⌝ }
 {
     let mut i: usize = 0;
@@ -150,7 +149,7 @@ fn fits(cipher: u8, mac: u8) -> bool
 }
 
 // Whether null compression is among the methods.
-pub fn has_null(methods: &[u8]) -> bool
+fn has_null(methods: &[u8]) -> bool
     ensures { λ r. ⌜ r ≡ hasNull (now (methods .entry)) ⌝ }
 {
     let mut i: usize = 0;

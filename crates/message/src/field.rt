@@ -6,7 +6,7 @@ ghost use lib.ListN.{length};
 ghost use Rattle.message.specs.Field.{fieldEnd, shortEnd, longEnd, twoAt, partOf};
 
 // The end of a field of size bytes that begins at a place.
-pub fn field_end(m: &[u8], at: usize, size: usize) -> usize
+pub(crate) fn field_end(m: &[u8], at: usize, size: usize) -> usize
     ensures { λ r. ⌜ r ≡ fieldEnd (now (m .entry)) at size ⌝ }
     ensures { λ r. ⌜ r ≤ length (now (m .entry)) ⌝ }
 {
@@ -20,7 +20,7 @@ pub fn field_end(m: &[u8], at: usize, size: usize) -> usize
 }
 
 // The end of a vector whose length field is one byte.
-pub fn short_end(m: &[u8], at: usize, floor: usize, ceiling: usize) -> usize
+pub(crate) fn short_end(m: &[u8], at: usize, floor: usize, ceiling: usize) -> usize
     ensures { λ r. ⌜ r ≡ shortEnd floor ceiling (now (m .entry)) at ⌝ }
     ensures { λ r. ⌜ r ≤ length (now (m .entry)) ⌝ }
 {

@@ -2,7 +2,6 @@
 ghost use mathlib.Core.Path.{_≡_};
 ghost use mathlib.Core.List.{_++_};
 ghost use Rattle.message.specs.Finished.{serverVerify, clientVerify, finishedOf, judgedOf};
-
 use crate::field;
 use crate::handshake;
 use digest::Hasher;
@@ -29,7 +28,11 @@ pub fn server_verify(secret: &[u8], client: &[u8], server: &[u8]) -> [u8; 12]
 pub fn client_verify(secret: &[u8], client: &[u8], server: &[u8], finished: &[u8]) -> [u8; 12]
     ensures { λ r. ⌜ r ≡ clientVerify (now (secret .entry)) (now (client .entry)) (now (server .entry)) (now (finished .entry)) ⌝ }
 {
-    let hash = Hasher::new().update(client).update(server).update(finished).finish();
+    let hash = Hasher::new()
+        .update(client)
+        .update(server)
+        .update(finished)
+        .finish();
     let mut out = [0u8; 12];
     digest::prf(secret, b"client finished", &hash, &[], &[], &mut out);
     out
@@ -40,8 +43,21 @@ pub fn message(verify: [u8; 12]) -> [u8; 15]
     ensures { λ r. ⌜ r ≡ finishedOf verify ⌝ }
 {
     [
-        20, 0, 12, verify[0], verify[1], verify[2], verify[3], verify[4], verify[5], verify[6],
-        verify[7], verify[8], verify[9], verify[10], verify[11],
+        20,
+        0,
+        12,
+        verify[0],
+        verify[1],
+        verify[2],
+        verify[3],
+        verify[4],
+        verify[5],
+        verify[6],
+        verify[7],
+        verify[8],
+        verify[9],
+        verify[10],
+        verify[11],
     ]
 }
 

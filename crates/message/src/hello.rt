@@ -140,7 +140,7 @@ pub fn read(m: &[u8]) -> Reading
 }
 
 // The end of cipher_suites, a vector of pairs: its length is even.
-pub fn suites_end(m: &[u8], at: usize) -> usize
+fn suites_end(m: &[u8], at: usize) -> usize
     ensures { λ r. ⌜ r ≡ suitesEnd (now (m .entry)) at ⌝ }
     ensures { λ r. ⌜ r ≤ length (now (m .entry)) ⌝ }
 {

@@ -6,14 +6,14 @@ ghost use Rattle.message.specs.Keys.{setSound, specifierEnd, identifierE
 use crate::field;
 
 // Whether an explicit parameter set of a key exchange suite is sound. The sets are skipped by their length, so each is.
-pub fn set_sound(suite: u8, set: &[u8]) -> bool
+pub(crate) fn set_sound(suite: u8, set: &[u8]) -> bool
     ensures { λ r. ⌜ r ≡ setSound suite (now (set .entry)) ⌝ }
 {
     true
 }
 
 // The end of a parameter specifier: the index, and after index 255 the explicit set.
-pub fn specifier_end(s: &[u8], at: usize, suite: u8) -> usize
+pub(crate) fn specifier_end(s: &[u8], at: usize, suite: u8) -> usize
     ensures { λ r. ⌜ r ≡ specifierEnd (now (s .entry)) at suite ⌝ }
     ensures { λ r. ⌜ r ≤ length (now (s .entry)) ⌝ }
 {
@@ -34,7 +34,7 @@ pub fn specifier_end(s: &[u8], at: usize, suite: u8) -> usize
 }
 
 // The end of an identifier, one of five types: null, text (a character set, then the name), binary, key hash, X.509 name.
-pub fn identifier_end(s: &[u8], at: usize) -> usize
+pub(crate) fn identifier_end(s: &[u8], at: usize) -> usize
     ensures { λ r. ⌜ r ≡ identifierEnd (now (s .entry)) at ⌝ }
     ensures { λ r. ⌜ r ≤ length (now (s .entry)) ⌝ }
 {
@@ -52,7 +52,7 @@ pub fn identifier_end(s: &[u8], at: usize) -> usize
 }
 
 // The end of the entry that begins at a place: suite, parameter specifier, identifier.
-pub fn entry_end(s: &[u8], at: usize) -> usize
+pub(crate) fn entry_end(s: &[u8], at: usize) -> usize
     ensures { λ r. ⌜ r ≡ entryEnd (now (s .entry)) at ⌝ }
     ensures { λ r. ⌜ r ≤ length (now (s .entry)) ⌝ }
 {
@@ -82,7 +82,7 @@ pub fn key_list(s: &[u8]) -> bool
 }
 
 // The end of a key list in a message: its length, then that many bytes of entries.
-pub fn keys_end(m: &[u8], at: usize) -> usize
+pub(crate) fn keys_end(m: &[u8], at: usize) -> usize
     ensures { λ r. ⌜ r ≡ keysEnd (now (m .entry)) at ⌝ }
     ensures { λ r. ⌜ r ≤ length (now (m .entry)) ⌝ }
 {

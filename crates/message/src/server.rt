@@ -3,7 +3,6 @@ ghost use mathlib.Core.Path.{_≡_};
 ghost use lib.ListN.{length};
 ghost use Rattle.message.specs.Buffer.{over, fitting};
 ghost use Rattle.message.specs.Server.{replyOf};
-
 use crate::acceptance::Plan;
 use crate::put;
 

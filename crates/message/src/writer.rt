@@ -4,7 +4,6 @@ ghost use Prim.Native.Nat.{ℕ};
 ghost use lib.ListN.{length};
 ghost use Rattle.message.specs.Buffer.{over, fitting};
 ghost use Rattle.message.specs.Values.{valuesOf, fieldsAllowed, offersAllowed, sentOf};
-
 use crate::keys;
 use crate::put;
 

@@ -38,14 +38,15 @@ show-requires : tie.Need-show-requires Inv-loop μ-loop
 show-requires c κs = search needs
 
 loop-less : tie.Need-loop-less Inv-loop μ-loop
-loop-less c = 
+loop-less c =
     let s = now (c .before .before .before .before .before .before .before .before .before .args .s) in
     let at = c .before .before .before .before .before .before .loop .at in
-    omega
-    (arith,
-    c .before .before .before .before .long-end .ensures .0,
-    c .before .before .before .before .long-end .ensures .1,
-    past-long s at at (le-refl at) (λ e. c .before .before .before .if1 .left (c .before .before .before .before .long-end .ensures .0 ∙ e)))
+    omega (
+      arith,
+      c .before .before .before .before .long-end .ensures .0,
+      c .before .before .before .before .long-end .ensures .1,
+      past-long s at at (le-refl at) (λ e. c .before .before .before .if1 .left (c .before .before .before .before .long-end .ensures .0 ∙ e)),
+    )
 
 loop-again : tie.Need-loop-again Inv-loop μ-loop
 loop-again c = c .before .before .before .before .long-end .ensures .1

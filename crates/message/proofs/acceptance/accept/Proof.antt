@@ -32,7 +32,7 @@ enum-told c = search needs
 
 returns-3 : tie.Need-returns-3
 unfolding acceptedOf
-returns-3 c = 
+returns-3 c =
     rw (sym (c .before .before .before .before .before .same-code .ensures), not-false (c .before .before .before .before .before .same-code .result) (c .before .before .before .before .if2 .left), sym (c .before .before .before .first-fit .ensures), sym (c .before .before .listed .ensures), c .enum-told .given .1)
     (search picks)
 
@@ -41,38 +41,44 @@ has-null-requires c κs = search needs
 
 returns-4 : tie.Need-returns-4
 unfolding acceptedOf
-returns-4 c = 
-    rw
-    (sym (c .before .before .before .before .before .before .before .before .same-code .ensures), not-false (c .before .before .before .before .before .before .before .before .same-code .result) (c .before .before .before .before .before .before .before .if2 .left),
-    sym (c .before .before .before .before .before .before .first-fit .ensures),
-    sym (c .before .before .before .before .before .listed .ensures),
-    c .before .before .before .mac .given .1,
-    sym (c .before .has-null .ensures),
-    not-true (c .before .has-null .result) (c .if3 .taken))
+returns-4 c =
+    rw (
+      sym (c .before .before .before .before .before .before .before .before .same-code .ensures),
+      not-false (c .before .before .before .before .before .before .before .before .same-code .result) (c .before .before .before .before .before .before .before .if2 .left),
+      sym (c .before .before .before .before .before .before .first-fit .ensures),
+      sym (c .before .before .before .before .before .listed .ensures),
+      c .before .before .before .mac .given .1,
+      sym (c .before .has-null .ensures),
+      not-true (c .before .has-null .result) (c .if3 .taken),
+    )
     (search picks)
 
 returns-5 : tie.Need-returns-5
 unfolding acceptedOf
-returns-5 c = 
-    rw
-    (sym (c .before .before .before .before .before .before .before .before .before .same-code .ensures), not-false (c .before .before .before .before .before .before .before .before .before .same-code .result) (c .before .before .before .before .before .before .before .before .if2 .left),
-    sym (c .before .before .before .before .before .before .before .first-fit .ensures),
-    sym (c .before .before .before .before .before .before .listed .ensures),
-    c .before .before .before .before .mac .given .1,
-    sym (c .before .before .has-null .ensures),
-    not-false (c .before .before .has-null .result) (c .before .if3 .left))
+returns-5 c =
+    rw (
+      sym (c .before .before .before .before .before .before .before .before .before .same-code .ensures),
+      not-false (c .before .before .before .before .before .before .before .before .before .same-code .result) (c .before .before .before .before .before .before .before .before .if2 .left),
+      sym (c .before .before .before .before .before .before .before .first-fit .ensures),
+      sym (c .before .before .before .before .before .before .listed .ensures),
+      c .before .before .before .before .mac .given .1,
+      sym (c .before .before .has-null .ensures),
+      not-false (c .before .before .has-null .result) (c .before .if3 .left),
+    )
     (search picks)
 
 returns-6 : tie.Need-returns-6
 unfolding acceptedOf
-returns-6 c = 
-    rw
-    (sym (c .before .before .before .before .before .before .before .before .before .same-code .ensures), not-false (c .before .before .before .before .before .before .before .before .before .same-code .result) (c .before .before .before .before .before .before .before .before .if2 .left),
-    sym (c .before .before .before .before .before .before .before .first-fit .ensures),
-    sym (c .before .before .before .before .before .before .listed .ensures),
-    c .before .before .before .before .mac .given .1,
-    sym (c .before .before .has-null .ensures),
-    not-false (c .before .before .has-null .result) (c .before .if3 .left))
+returns-6 c =
+    rw (
+      sym (c .before .before .before .before .before .before .before .before .before .same-code .ensures),
+      not-false (c .before .before .before .before .before .before .before .before .before .same-code .result) (c .before .before .before .before .before .before .before .before .if2 .left),
+      sym (c .before .before .before .before .before .before .before .first-fit .ensures),
+      sym (c .before .before .before .before .before .before .listed .ensures),
+      c .before .before .before .before .mac .given .1,
+      sym (c .before .before .has-null .ensures),
+      not-false (c .before .before .has-null .result) (c .before .if3 .left),
+    )
     (search picks)
 
 pub accept-spec : {M : Type 1} → statement M

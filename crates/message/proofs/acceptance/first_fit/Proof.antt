@@ -24,7 +24,7 @@ sub-if1 : tie.Need-sub-if1 Inv-loop μ-loop
 sub-if1 c = omega arith
 
 returns : tie.Need-returns Inv-loop μ-loop
-returns c = 
+returns c =
     let s = now (c .before .before .before .before .args .suites) in
     sym (c .before .before .loop .inv ∙ fit-odd s (c .before .before .loop .i) (omega arith))
 
@@ -47,7 +47,7 @@ shared-slice-read-result : tie.Need-shared-slice-read-result Inv-loop μ-loop
 shared-slice-read-result c = omega arith
 
 returns-2 : tie.Need-returns-2 Inv-loop μ-loop
-returns-2 c = 
+returns-2 c =
     let s = now (c .before .before .before .before .before .before .before .before .before .args .suites) in
     sym
     (c .before .before .before .before .before .before .before .loop .inv
@@ -60,13 +60,13 @@ loop-less : tie.Need-loop-less Inv-loop μ-loop
 loop-less c = omega arith
 
 loop-again : tie.Need-loop-again Inv-loop μ-loop
-loop-again c = 
+loop-again c =
     let s = now (c .before .before .before .before .before .before .before .before .args .suites) in
     c .before .before .before .before .before .before .loop .inv
     ∙ fit-later s (c .before .before .before .before .before .before .loop .i) (omega arith) (sym (c .before .fits2 .ensures) ∙ c .if2 .left)
 
 returns-3 : tie.Need-returns-3 Inv-loop μ-loop
-returns-3 c = 
+returns-3 c =
     let s = now (c .before .before .before .args .suites) in
     sym (c .before .loop .inv ∙ fit-none s (c .before .loop .i) (omega arith))
 

@@ -24,7 +24,7 @@ shared-slice-read-if1 : tie.Need-shared-slice-read-if1 Inv-loop μ-loop
 shared-slice-read-if1 c = omega arith
 
 returns : tie.Need-returns Inv-loop μ-loop
-returns c = 
+returns c =
     let s = now (c .before .before .before .before .args .methods) in
     sym (c .before .before .before .loop .inv .1 ∙ null-here s (c .before .before .before .loop .i) (omega arith) (c .if1 .taken))
 
@@ -35,12 +35,12 @@ loop-less : tie.Need-loop-less Inv-loop μ-loop
 loop-less c = omega arith
 
 loop-again : tie.Need-loop-again Inv-loop μ-loop
-loop-again c = 
+loop-again c =
     let s = now (c .before .before .before .before .args .methods) in
     (omega arith, c .before .before .before .loop .inv .1 ∙ null-later s (c .before .before .before .loop .i) (omega arith) (c .if1 .left))
 
 returns-2 : tie.Need-returns-2 Inv-loop μ-loop
-returns-2 c = 
+returns-2 c =
     let s = now (c .before .before .args .methods) in
     sym (c .before .loop .inv .1 ∙ null-none s (c .before .loop .i) (omega arith))
 

@@ -28,7 +28,7 @@ accept-requires : tie.Need-accept-requires
 accept-requires c κs = search needs
 
 returns : tie.Need-returns
-returns c = 
+returns c =
     c .accept .ensures
     ∙ λ i.
     acceptedOf

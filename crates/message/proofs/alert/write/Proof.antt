@@ -26,7 +26,7 @@ cast-t15 : tie.Need-cast-t15
 cast-t15 c = search needs
 
 returns : tie.Need-returns
-returns c = 
+returns c =
     let a = c .before .before .args in
     let e : a .checksum / 16777216 ≡ a .checksum / 16777216 % 256 = omega (arith, c .before .before .fits .checksum) in
     λ i.

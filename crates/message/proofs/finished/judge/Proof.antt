@@ -26,24 +26,26 @@ same-code-requires c κs = search needs
 
 returns-3 : tie.Need-returns-3
 unfolding judgedOf
-returns-3 c = 
-    rw
-    (sym (c .before .before .before .before .fills-with .ensures),
-    not-false (c .before .before .before .before .fills-with .result) (c .before .before .before .if2 .left),
-    sym (c .before .before .part .ensures),
-    sym (c .before .same-code .ensures),
-    c .if3 .taken)
+returns-3 c =
+    rw (
+      sym (c .before .before .before .before .fills-with .ensures),
+      not-false (c .before .before .before .before .fills-with .result) (c .before .before .before .if2 .left),
+      sym (c .before .before .part .ensures),
+      sym (c .before .same-code .ensures),
+      c .if3 .taken,
+    )
     (search picks)
 
 returns-4 : tie.Need-returns-4
 unfolding judgedOf
-returns-4 c = 
-    rw
-    (sym (c .before .before .before .before .fills-with .ensures),
-    not-false (c .before .before .before .before .fills-with .result) (c .before .before .before .if2 .left),
-    sym (c .before .before .part .ensures),
-    sym (c .before .same-code .ensures),
-    c .if3 .left)
+returns-4 c =
+    rw (
+      sym (c .before .before .before .before .fills-with .ensures),
+      not-false (c .before .before .before .before .fills-with .result) (c .before .before .before .if2 .left),
+      sym (c .before .before .part .ensures),
+      sym (c .before .same-code .ensures),
+      c .if3 .left,
+    )
     (search picks)
 
 pub judge-spec : {M : Type 1} → statement M

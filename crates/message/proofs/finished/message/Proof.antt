@@ -49,7 +49,7 @@ array-read-t38 : tie.Need-array-read-t38
 array-read-t38 c = search needs
 
 returns : tie.Need-returns
-returns c = 
+returns c =
     let l = c .args .t1 in
     let h : length l ≡ 12 = good-length (eInt w8) 12 l _ (c .good .0) in
     ap (λ (t : List ℕ). 20 ∷ (0 ∷ (12 ∷ t))) (sym (twelve l h))

@@ -44,7 +44,7 @@ prf-requires c κs = search needs
 
 returns : tie.Need-returns
 unfolding serverVerify
-returns c = 
+returns c =
     let a = c .before .before .before .before .before .before .before .before .before .before .before .before .before .before .args in
     let h : c .before .before .before .before .before .before .before .finish .result ≡ sha1 (now (a .client) ++ now (a .server)) = c .before .before .before .before .before .before .before .finish .ensures .1 (now (a .client) ++ now (a .server)) (c .before .before .before .before .before .before .before .before .update2 .ensures .1 (now (a .client)) (c .before .before .before .before .before .before .before .before .before .update .ensures .1 ([]) (fresh-absorbed _ (c .before .before .before .before .before .before .before .before .before .before .new .ensures)))) in
     c .before .prf .ensures

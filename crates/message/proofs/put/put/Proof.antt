@@ -21,7 +21,7 @@ abbrev μ-loop : tie.MeasureT-loop
 μ-loop out₀ at s i₀ out i = length s - i
 
 returns : tie.Need-returns Inv-loop μ-loop
-returns c = 
+returns c =
     let a = c .before .args in
     put-none (now (a .s)) (now (a .out)) _ (a .at) _ (omega arith)
 
@@ -29,12 +29,12 @@ sub-if2 : tie.Need-sub-if2 Inv-loop μ-loop
 sub-if2 c = omega arith
 
 returns-2 : tie.Need-returns-2 Inv-loop μ-loop
-returns-2 c = 
+returns-2 c =
     let a = c .before .before .args in
     put-none (now (a .s)) (now (a .out)) _ (a .at) _ (omega arith)
 
 loop-holds : tie.Need-loop-holds Inv-loop μ-loop
-loop-holds c = 
+loop-holds c =
     let a = c .before .before .args in
     (omega arith, omega arith, paste-zero (now (a .out)) (a .at) (now (a .s)), refl)
 
@@ -54,15 +54,16 @@ loop-less : tie.Need-loop-less Inv-loop μ-loop
 loop-less c = omega arith
 
 loop-again : tie.Need-loop-again Inv-loop μ-loop
-loop-again c = 
+loop-again c =
     let a = c .before .before .before .before .before .args in
-    let i = c .before .before .loop .i in
-    (omega arith,
-    omega arith,
-    ap (λ (l : List ℕ). set l (a .at + i) (getD (now (a .s)) i 0)) (c .before .before .loop .inv .2)
-    ∙ paste-suc (now (a .out)) (a .at) (now (a .s)) i 0 (omega arith) (omega arith)
-    ∙ ap (paste (now (a .out)) (a .at) (now (a .s))) (sym (add-one i)),
-    length-set (c .before .before .loop .out) _ _ ∙ c .before .before .loop .inv .3)
+    let i = c .before .before .loop .i in (
+      omega arith,
+      omega arith,
+      ap (λ (l : List ℕ). set l (a .at + i) (getD (now (a .s)) i 0)) (c .before .before .loop .inv .2)
+          ∙ paste-suc (now (a .out)) (a .at) (now (a .s)) i 0 (omega arith) (omega arith)
+          ∙ ap (paste (now (a .out)) (a .at) (now (a .s))) (sym (add-one i)),
+      length-set (c .before .before .loop .out) _ _ ∙ c .before .before .loop .inv .3,
+    )
 
 add-result : tie.Need-add-result Inv-loop μ-loop
 add-result c = omega arith
@@ -71,7 +72,7 @@ same-length : tie.Need-same-length Inv-loop μ-loop
 same-length c = search needs
 
 returns-3 : tie.Need-returns-3 Inv-loop μ-loop
-returns-3 c = 
+returns-3 c =
     let a = c .before .before .before .before .args in
     let e : c .before .loop .i ≡ length (now (a .s)) = omega arith in
     pasted (now (a .s)) (now (a .out)) _ (a .at) _

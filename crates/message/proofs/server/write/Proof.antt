@@ -15,12 +15,12 @@ use Rattle.message.proofs.server.write.Statement.{statement}
 use Rattle.message.proofs.server.write.Tie as tie
 
 returns : tie.Need-returns
-returns c = 
+returns c =
     let a = c .before .before .before .before .args in
     wrote-none (now (a .out)) (replyOf (now (a .random)) (now (a .session)) (a .plan)) (ap length (reply-random (now (a .random)) (now (a .session)) (a .plan) (c .if1 .taken)))
 
 returns-2 : tie.Need-returns-2
-returns-2 c = 
+returns-2 c =
     let a = c .before .before .before .before .before .args in
     wrote-none (now (a .out)) (replyOf (now (a .random)) (now (a .session)) (a .plan))
     (ap length (reply-session (now (a .random)) (now (a .session)) (a .plan) (c .before .if1 .left) (c .if2 .taken)))
@@ -29,7 +29,7 @@ add-if3 : tie.Need-add-if3
 add-if3 c = search needs
 
 returns-3 : tie.Need-returns-3
-returns-3 c = 
+returns-3 c =
     let a = c .before .before .before .before .before .before .args in
     let e = reply-hello (now (a .random)) (now (a .session)) (a .plan) (c .before .before .if1 .left) (c .before .if2 .left) in
     wrote-no-room (now (a .out)) (replyOf (now (a .random)) (now (a .session)) (a .plan))
@@ -66,7 +66,7 @@ same-length : tie.Need-same-length
 same-length c = search needs
 
 returns-4 : tie.Need-returns-4
-returns-4 c = 
+returns-4 c =
     let a = c .before .before .before .before .before .before .before .before .before .before .before .before .before .before .before .before .before .before .before .before .before .before .before .before .before .args in
     let h = c .before .before .before .before .before .before .before .before .before .before .before .before .before .before .before .before .before .before .before .before .before .if1 .left in
     let k = c .before .before .before .before .before .before .before .before .before .before .before .before .before .before .before .before .before .before .before .before .if2 .left in

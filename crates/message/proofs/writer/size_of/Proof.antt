@@ -58,7 +58,7 @@ add-size-3 : tie.Need-add-size-3
 add-size-3 c = search needs
 
 add-size-4 : tie.Need-add-size-4
-add-size-4 c = 
+add-size-4 c =
     let a = c .before .before .before .before .before .before .before .before .before .before .before .before .args in
     let g = sym (c .before .before .before .before .before .fields-allowed .ensures) ∙ not-false (c .before .before .before .before .before .fields-allowed .result) (c .before .before .before .before .if1 .left) in
     let h = sym (c .before .before .before .offers-allowed .ensures) ∙ not-false (c .before .before .before .offers-allowed .result) (c .before .before .if2 .left) in
@@ -67,7 +67,7 @@ add-size-4 c =
     omega (arith, f .session-size, o .suites-ceiling, o .methods-ceiling)
 
 add-size-5 : tie.Need-add-size-5
-add-size-5 c = 
+add-size-5 c =
     let a = c .before .before .before .before .before .before .before .before .before .before .before .before .args in
     let g = sym (c .before .before .before .before .before .fields-allowed .ensures) ∙ not-false (c .before .before .before .before .before .fields-allowed .result) (c .before .before .before .before .if1 .left) in
     let h = sym (c .before .before .before .offers-allowed .ensures) ∙ not-false (c .before .before .before .offers-allowed .result) (c .before .before .if2 .left) in
@@ -93,7 +93,7 @@ returns-6 c = λ version numbering refresh.
     let f = fields-parts (now (a .random)) (now (a .session)) (now (a .client)) (now (a .trusted)) g in
     let e = length-hello v in
     let k : 29 + length (now (a .session)) + length (now (a .client)) + length (now (a .trusted)) + length (now (a .suites)) + length (now (a .methods)) ≡ length (helloOf v) =
-        omega (arith, e, f .random-size) in
+    omega (arith, e, f .random-size) in
     k ∙ short-enough v g h (omega (arith, e, f .random-size))
 
 pub size-of-spec : {M : Type 1} → statement M

@@ -18,21 +18,21 @@ size-of-requires : tie.Need-size-of-requires
 size-of-requires c κs = search needs
 
 returns : tie.Need-returns
-returns c = 
+returns c =
     let a = c .before .before .before .before .before .before .before .before .before .args in
     let v = valuesOf (a .version) (now (a .random)) (now (a .session)) (now (a .client)) (now (a .trusted)) (now (a .suites)) (now (a .methods)) (a .numbering) (a .refresh) in
     let e : c .before .size-of .result ≡ length (sentOf v) = c .before .size-of .ensures (a .version) (a .numbering) (a .refresh) in
     wrote-none (now (a .out)) (sentOf v) (sym e ∙ c .if1 .taken)
 
 returns-2 : tie.Need-returns-2
-returns-2 c = 
+returns-2 c =
     let a = c .before .before .before .before .before .before .before .before .before .before .args in
     let v = valuesOf (a .version) (now (a .random)) (now (a .session)) (now (a .client)) (now (a .trusted)) (now (a .suites)) (now (a .methods)) (a .numbering) (a .refresh) in
     let e : c .before .before .size-of .result ≡ length (sentOf v) = c .before .before .size-of .ensures (a .version) (a .numbering) (a .refresh) in
     wrote-no-room (now (a .out)) (sentOf v) (omega arith)
 
 sub-body : tie.Need-sub-body
-sub-body c = 
+sub-body c =
     let a = c .before .before .before .before .before .before .before .before .before .before .args in
     let v = valuesOf (a .version) (now (a .random)) (now (a .session)) (now (a .client)) (now (a .trusted)) (now (a .suites)) (now (a .methods)) (a .numbering) (a .refresh) in
     let e : c .before .before .size-of .result ≡ length (sentOf v) = c .before .before .size-of .ensures (a .version) (a .numbering) (a .refresh) in
@@ -40,7 +40,7 @@ sub-body c =
     omega (arith, ap length (sent-hello v t))
 
 cast-t18 : tie.Need-cast-t18
-cast-t18 c = 
+cast-t18 c =
     let a = c .before .before .before .before .before .before .before .before .before .before .args in
     let v = valuesOf (a .version) (now (a .random)) (now (a .session)) (now (a .client)) (now (a .trusted)) (now (a .suites)) (now (a .methods)) (a .numbering) (a .refresh) in
     let e : c .before .before .size-of .result ≡ length (sentOf v) = c .before .before .size-of .ensures (a .version) (a .numbering) (a .refresh) in
@@ -84,7 +84,7 @@ same-length : tie.Need-same-length
 same-length c = search needs
 
 returns-3 : tie.Need-returns-3
-returns-3 c = 
+returns-3 c =
     let a = c .before .before .before .before .before .before .before .before .before .before .before .before .before .before .before .before .before .before .before .before .before .before .before .before .before .before .before .before .before .before .before .before .before .before .before .before .before .before .before .before .before .before .before .before .args in
     let v = valuesOf (a .version) (now (a .random)) (now (a .session)) (now (a .client)) (now (a .trusted)) (now (a .suites)) (now (a .methods)) (a .numbering) (a .refresh) in
     let e : c .before .before .before .before .before .before .before .before .before .before .before .before .before .before .before .before .before .before .before .before .before .before .before .before .before .before .before .before .before .before .before .before .before .before .before .before .size-of .result ≡ length (sentOf v) = c .before .before .before .before .before .before .before .before .before .before .before .before .before .before .before .before .before .before .before .before .before .before .before .before .before .before .before .before .before .before .before .before .before .before .before .before .size-of .ensures (a .version) (a .numbering) (a .refresh) in
@@ -92,15 +92,15 @@ returns-3 c =
     let w = allowed-parts v t in
     let g = sent-hello v t in
     let p : Puts (helloOf v) (now (a .out)) 0 _ _ =
-        put-hello v (c .before .before .before .before .before .before .before .before .before .before .before .before .before .before .before .before .before .before .before .before .before .before .before .before .before .before .before .before .before .before .before .before .before .before .before .before .size-of .result) (e ∙ ap length g) (omega (arith, ap length g, w .size)) _ _ _ _ _ _ _ _ _ _ _ _ _ _ _ _ _
-        (c .before .before .before .before .before .before .before .before .before .before .before .before .before .before .before .before .before .before .before .before .before .before .before .before .before .before .before .before .before .before .before .put .ensures)
-        (c .before .before .before .before .before .before .before .before .before .before .before .before .before .before .before .before .before .before .before .before .before .before .before .before .before .before .before .put2 .ensures)
-        (c .before .before .before .before .before .before .before .before .before .before .before .before .before .before .before .before .before .before .before .before .before .before .before .put-short .ensures (omega (arith, w .session-size)))
-        (c .before .before .before .before .before .before .before .before .before .before .before .before .before .before .before .before .before .before .before .put-long .ensures (omega (arith, w .size, length-hello v)))
-        (c .before .before .before .before .before .before .before .before .before .before .before .before .before .before .before .put-long2 .ensures (omega (arith, w .size, length-hello v)))
-        (c .before .before .before .before .before .before .before .before .before .before .before .put-short2 .ensures (w .suites-ceiling))
-        (c .before .before .before .before .before .before .before .put-short3 .ensures (w .methods-ceiling))
-        (c .before .before .put3 .ensures) in
+    put-hello v (c .before .before .before .before .before .before .before .before .before .before .before .before .before .before .before .before .before .before .before .before .before .before .before .before .before .before .before .before .before .before .before .before .before .before .before .before .size-of .result) (e ∙ ap length g) (omega (arith, ap length g, w .size)) _ _ _ _ _ _ _ _ _ _ _ _ _ _ _ _ _
+    (c .before .before .before .before .before .before .before .before .before .before .before .before .before .before .before .before .before .before .before .before .before .before .before .before .before .before .before .before .before .before .before .put .ensures)
+    (c .before .before .before .before .before .before .before .before .before .before .before .before .before .before .before .before .before .before .before .before .before .before .before .before .before .before .before .put2 .ensures)
+    (c .before .before .before .before .before .before .before .before .before .before .before .before .before .before .before .before .before .before .before .before .before .before .before .put-short .ensures (omega (arith, w .session-size)))
+    (c .before .before .before .before .before .before .before .before .before .before .before .before .before .before .before .before .before .before .before .put-long .ensures (omega (arith, w .size, length-hello v)))
+    (c .before .before .before .before .before .before .before .before .before .before .before .before .before .before .before .put-long2 .ensures (omega (arith, w .size, length-hello v)))
+    (c .before .before .before .before .before .before .before .before .before .before .before .put-short2 .ensures (w .suites-ceiling))
+    (c .before .before .before .before .before .before .before .put-short3 .ensures (w .methods-ceiling))
+    (c .before .before .put3 .ensures) in
     wrote-all (now (a .out)) (sentOf v) _ _ (omega (arith, e, c .before .before .before .before .before .before .before .before .before .before .before .before .before .before .before .before .before .before .before .before .before .before .before .before .before .before .before .before .before .before .before .before .before .before .if2 .left))
     (puts-as (helloOf v) (sentOf v) _ _ _ _ (sym g) p)
 
