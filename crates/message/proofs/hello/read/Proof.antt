@@ -1,7 +1,7 @@
 -- `message::hello::read` meets its contract: at each return the ends found so far are those of `readOf`, and the tests
 -- that led there pick its case. Assumes nothing.
 use borrow.Author.Tests.{eq-eqb, ne-eqb, le-leb, lt-leb, not-true, not-false}
-use native.Mathlib.Omega.{arith}
+use native.Mathlib.Nat.{le-antisymm, ne-of-lt}
 use denote.Ref.{now}
 use mathlib.Core.Path.{_≡_, refl, sym, _∙_, ap}
 use lib.ListN.{length}
@@ -231,7 +231,7 @@ returns-11 c =
 returns-12 : tie.Need-returns-12
 unfolding readOf
 returns-12 c =
-    let e : c .before .before .field-end4 .result ≡ length (now (c .before .before .before .before .before .before .before .before .before .before .before .before .before .before .before .before .before .before .before .before .before .before .before .args .m)) → ⊥ = λ h. omega arith in
+    let e : c .before .before .field-end4 .result ≡ length (now (c .before .before .before .before .before .before .before .before .before .before .before .before .before .before .before .before .before .before .before .before .before .before .before .args .m)) → ⊥ = ne-of-lt (c .if12 .taken) in
     rw (
       sym (c .before .before .before .before .before .before .before .before .before .before .before .before .before .before .before .before .before .before .field-end .ensures .0),
       sym (c .before .before .before .before .before .before .before .before .before .before .before .before .before .before .before .before .field-end2 .ensures .0),
@@ -276,7 +276,7 @@ add-t35 c = search needs
 returns-13 : tie.Need-returns-13
 unfolding readOf
 returns-13 c =
-    let e : c .before .before .field-end4 .result ≡ length (now (c .before .before .before .before .before .before .before .before .before .before .before .before .before .before .before .before .before .before .before .before .before .before .before .args .m)) = omega (arith, c .before .before .field-end4 .ensures .1) in
+    let e : c .before .before .field-end4 .result ≡ length (now (c .before .before .before .before .before .before .before .before .before .before .before .before .before .before .before .before .before .before .before .before .before .before .before .args .m)) = le-antisymm (c .before .before .field-end4 .ensures .1) (c .if12 .left) in
     rw (
       sym (c .before .before .before .before .before .before .before .before .before .before .before .before .before .before .before .before .before .before .field-end .ensures .0),
       sym (c .before .before .before .before .before .before .before .before .before .before .before .before .before .before .before .before .field-end2 .ensures .0),
