@@ -665,6 +665,7 @@ put-hello v size e k o o1 o2 o3 o4 o5 o6 o7 o8 a1 a2 a3 a4 a5 a6 a7 a8 p1 p2 p3 
 -- the well-formed hellos are exactly the hellos that are written
 pub image : (m : List ℕ) → ((i : ℕ) → getD m i 0 < 256)
     → ((h : Hello) × (readOf m ≡ WellFormed h)) ↔ ((v : Values) × (allowed v ≡ true) × (helloOf v ≡ m))
-image m b =
-    (λ w. (valuesAt m (w .0), read-written m b (w .0) (w .1) .0, read-written m b (w .0) (w .1) .1),
-    λ w. (placesOf (w .0), subst (λ (l : List ℕ). readOf l ≡ WellFormed (placesOf (w .0))) (w .2) (written-read (w .0) (w .1) .0)))
+image m b = (
+  λ w. (valuesAt m (w .0), read-written m b (w .0) (w .1) .0, read-written m b (w .0) (w .1) .1),
+  λ w. (placesOf (w .0), subst (λ (l : List ℕ). readOf l ≡ WellFormed (placesOf (w .0))) (w .2) (written-read (w .0) (w .1) .0)),
+)
