@@ -7,7 +7,8 @@ use native.Mathlib.Numerals.{add-one, towards-suc}
 use native.Mathlib.Nat.{zero-add}
 use lib.ListN.{length, take, drop, set, replicate, length-append, length-drop, length-replicate, replicate-append-replicate}
 use lib.Seq.{paste, take-length, length-take-le, sets, sets-eq, take-at, drop-at, set-at, take-append-add}
-use Rattle.digest.specs.Bytes.{laidOver, bytes4}
+use Rattle.digest.proofs.Picks.{picks}
+use Rattle.digest.specs.Bytes.{laidOver, laidWithin, bytes4}
 
 pub laid-paste : (d : List ℕ) (at : ℕ) (s : List ℕ) → paste d at s (length s) ≡ laidOver d at s
 unfolding laidOver
@@ -75,3 +76,12 @@ marked f d m n x h b b₂ e =
     ∙ ap (λ j. take j (f ++ (x ∷ replicate (m - suc k) 0))) end
     ∙ take-append-add f (x ∷ replicate (m - suc k) 0) (suc (n - suc k))
     ∙ ap (λ l. f ++ (x ∷ l)) (take-replicate (m - suc k) (n - suc k) 0 (omega arith))
+
+-- what fits is laid, and what does not changes nothing
+pub laid-all : (d r : List ℕ) (at : ℕ) (s : List ℕ) → at + length s ≤ length d → r ≡ laidOver d at s → r ≡ laidWithin d at s
+unfolding laidWithin
+laid-all d r at s h e = search picks
+
+pub laid-none : (d : List ℕ) (at : ℕ) (s : List ℕ) → length d < at + length s → d ≡ laidWithin d at s
+unfolding laidWithin
+laid-none d at s h = let same : d ≡ d = refl in search picks

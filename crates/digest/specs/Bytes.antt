@@ -3,6 +3,8 @@
 use mathlib.Core.List.{List, [], _∷_, _++_}
 use Prim.Native.Nat.{ℕ, _+_, _*_, _/_, _%_}
 use lib.ListN.{getD, length, take, drop}
+use lib.Dec.{leb}
+use Rattle.digest.specs.Pick.{pick}
 
 -- the number that the four bytes from place i on spell
 unfoldable pub wordAt : List ℕ → ℕ → ℕ
@@ -22,3 +24,7 @@ bytes8 n = bytes4 (n / 4294967296) ++ bytes4 (n % 4294967296)
 -- d with the bytes s laid over it from place i on
 unfoldable pub laidOver : List ℕ → ℕ → List ℕ → List ℕ
 laidOver d i s = take i d ++ s ++ drop (i + length s) d
+
+-- d with the bytes s laid over it from place i on where all of them fit, else d
+unfoldable pub laidWithin : List ℕ → ℕ → List ℕ → List ℕ
+laidWithin d i s = pick (leb (i + length s) (length d)) (laidOver d i s) d

@@ -2,7 +2,7 @@
 ghost use Prim.Native.Nat.{_+_, _≤_};
 ghost use mathlib.Core.Path.{_≡_};
 ghost use lib.ListN.{length};
-ghost use Rattle.digest.specs.Bytes.{bytes4, laidOver};
+ghost use Rattle.digest.specs.Bytes.{bytes4, laidOver, laidWithin};
 
 // s laid over d from place `at` on.
 pub(crate) fn lay(d: &mut [u8], at: usize, s: &[u8])
@@ -14,6 +14,19 @@ pub(crate) fn lay(d: &mut [u8], at: usize, s: &[u8])
         d[at + i] = s[i];
         i += 1;
     }
+}
+
+// s laid over d from place `at` on, where all of it fits; else nothing is written.
+pub fn put(d: &mut [u8], at: usize, s: &[u8])
+    ensures exact { λ _. ⌜ now (d .exit) ≡ laidWithin (now (d .entry)) at (now (s .entry)) ⌝ }
+{
+    if d.len() < s.len() {
+        return;
+    }
+    if d.len() - s.len() < at {
+        return;
+    }
+    lay(d, at, s);
 }
 
 // The four bytes of x laid over d from place `at` on, the most significant first.

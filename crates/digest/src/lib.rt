@@ -7,6 +7,7 @@ mod mac;
 mod pieces;
 
 pub use block::State;
+pub use bytes::put;
 pub use key::Key;
 pub use key::prf;
 pub use mac::Listed;

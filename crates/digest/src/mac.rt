@@ -1,5 +1,6 @@
 // The MAC kinds of the profile (002 appendix A, table 6), and the comparison of codes.
 ghost use mathlib.Core.Path.{_≡_};
+ghost use lib.ListN.{take};
 ghost use Rattle.digest.specs.Mac.{numberOf, sizeOf, listedAs, sameBytes};
 
 // SHA_80: the first ten bytes of the code. SHA: all twenty.
@@ -48,6 +49,14 @@ impl Mac {
         }
     }
 
+    // What is sent of a code: its first bytes. Of bytes that are too few, all.
+    pub fn cut<'a>(self, code: &'a [u8]) -> &'a [u8]
+        ensures exact { λ r. ⌜ now r ≡ take (sizeOf self) (now (code .entry)) ⌝ }
+    {
+        let n = self.size();
+        if n <= code.len() { &code[..n] } else { code }
+    }
+
     // The kind of an assigned number.
     pub fn listed(n: u8) -> Listed
         ensures exact { λ r. ⌜ r ≡ listedAs n ⌝ }
@@ -71,7 +80,7 @@ pub fn same_code(a: &[u8], b: &[u8]) -> bool
     }
     let mut differ: u8 = 0;
     let mut i: usize = 0;
-    while i < a.len() {
+    while 0 < a.len() - i {
         differ = differ | (a[i] ^ b[i]);
         i += 1;
     }

@@ -20,6 +20,9 @@ returns c = sym (differ-same _ _ (λ e. c .if1 .taken (ap length e)))
 loop-holds : tie.Need-loop-holds Inv-loop μ-loop
 loop-holds c = (omega arith, omega arith, λ e. refl, λ e. refl)
 
+sub-loop : tie.Need-sub-loop Inv-loop μ-loop
+sub-loop c = search needs
+
 shared-slice-read-differ : tie.Need-shared-slice-read-differ Inv-loop μ-loop
 shared-slice-read-differ c = search needs
 
@@ -52,6 +55,7 @@ same-code-spec =
     μ-loop
     returns
     loop-holds
+    sub-loop
     shared-slice-read-differ
     shared-slice-read-differ-2
     add-i

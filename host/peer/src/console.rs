@@ -1,0 +1,274 @@
+//! The console as it must be: lines of calls in, lines of outcomes out.
+
+use std::io::{self, BufRead, Write};
+
+use crate::hex;
+use crate::shore::{Answer, Judged, Received, Refusal, Shore, State, Tally};
+
+const LONGEST_LINE: usize = 8192;
+const MOST_ROOM: usize = 2048;
+
+#[derive(Default)]
+pub struct Console {
+    shore: Option<Shore>,
+    tally: Tally,
+}
+
+/// A line that could be read.
+enum Call {
+    Fresh { identifier: Vec<u8>, secret: Vec<u8> },
+    Receive { datagram: Vec<u8>, random: Vec<u8>, room: usize },
+    Send { data: Vec<u8>, room: usize },
+    Alert { protected: bool, level: u8, description: u8, record: Vec<u8>, room: usize },
+    Close,
+    Start,
+}
+
+/// Runs every line of the input.
+pub fn run(mut input: impl BufRead, mut output: impl Write) -> io::Result<()> {
+    let mut console = Console::default();
+    let mut line = Vec::new();
+    while input.read_until(b'\n', &mut line)? > 0 {
+        if line.last() == Some(&b'\n') {
+            line.pop();
+        }
+        for written in console.line(&line) {
+            writeln!(output, "{written}")?;
+        }
+        line.clear();
+    }
+    output.flush()
+}
+
+impl Console {
+    /// The lines that one line, without its newline, gives.
+    pub fn line(&mut self, line: &[u8]) -> Vec<String> {
+        let Some(call) = read(line) else { return bad_line() };
+        let mut lines = Vec::new();
+        if let Call::Fresh { identifier, secret } = call {
+            lines.push(self.fresh(&identifier, &secret));
+        } else {
+            let Some(shore) = &mut self.shore else { return bad_line() };
+            run_call(shore, &mut self.tally, call, &mut lines);
+        }
+        lines.push(self.state_line());
+        lines
+    }
+
+    pub fn state(&self) -> Option<State> {
+        self.shore.as_ref().map(Shore::state)
+    }
+
+    pub fn shore(&self) -> Option<&Shore> {
+        self.shore.as_ref()
+    }
+
+    /// A refused fresh leaves connection and tally as they were.
+    fn fresh(&mut self, identifier: &[u8], secret: &[u8]) -> String {
+        match Shore::fresh(identifier, secret) {
+            Ok(shore) => {
+                self.shore = Some(shore);
+                self.tally = Tally::default();
+                "fresh ok".to_string()
+            }
+            Err(refusal) => refused("fresh", refusal),
+        }
+    }
+
+    fn state_line(&self) -> String {
+        let Some(shore) = &self.shore else {
+            return "state None n=- marks=00000000 arrived=0 sent=-,- checksum=00000000 \
+                    tally=0,0,0,0"
+                .to_string();
+        };
+        let newest = shore.window().newest();
+        let mask: u32 = (0..32).filter(|i| newest[*i as usize]).map(|i| 2u32.pow(i)).sum();
+        let arrived = newest.iter().filter(|mark| **mark).count();
+        let highest = shore.window().highest().map_or("-".to_string(), |n| n.to_string());
+        let sent = match shore.next_numbers() {
+            Some((protected, clear)) => format!("{protected},{clear}"),
+            None => "-,-".to_string(),
+        };
+        let Tally { handed_out, forged, too_old, repeated } = self.tally;
+        format!(
+            "state {:?} n={highest} marks={mask:08x} arrived={arrived} sent={sent} checksum={} \
+             tally={handed_out},{forged},{too_old},{repeated}",
+            shore.state(),
+            hex::write(&shore.last_checksum())
+        )
+    }
+}
+
+fn bad_line() -> Vec<String> {
+    vec!["bad line".to_string()]
+}
+
+fn refused(call: &str, refusal: Refusal) -> String {
+    format!("{call} refused {}", refusal as u8)
+}
+
+fn run_call(shore: &mut Shore, tally: &mut Tally, call: Call, lines: &mut Vec<String>) {
+    match call {
+        Call::Fresh { .. } => unreachable!("fresh needs no connection"),
+        Call::Receive { datagram, random, room } => {
+            write_received(shore.receive(&datagram, &random, room, tally), lines)
+        }
+        Call::Send { data, room } => write_sent("send", shore.send(&data, room), lines),
+        Call::Alert { protected, level, description, record, room } => {
+            let sent = shore.alert(protected, level, description, &record, room);
+            write_sent("alert", sent, lines)
+        }
+        Call::Close => write_done("close", shore.close(), lines),
+        Call::Start => write_done("start", shore.start(), lines),
+    }
+}
+
+fn write_done(call: &str, done: Result<(), Refusal>, lines: &mut Vec<String>) {
+    lines.push(match done {
+        Ok(()) => format!("{call} ok"),
+        Err(refusal) => refused(call, refusal),
+    });
+}
+
+fn write_sent(call: &str, sent: Result<Vec<u8>, Refusal>, lines: &mut Vec<String>) {
+    match sent {
+        Ok(record) => {
+            lines.push(format!("{call} ok"));
+            lines.push(format!("out {}", hex::write(&record)));
+        }
+        Err(refusal) => lines.push(refused(call, refusal)),
+    }
+}
+
+fn write_received(received: Received, lines: &mut Vec<String>) {
+    match received {
+        Received::Refused(refusal) => lines.push(refused("receive", refusal)),
+        Received::Unframed(fault) => {
+            lines.push(format!("receive refused {} at {}", fault.refusal, fault.offset))
+        }
+        Received::Records { answers, out } => {
+            lines.push(format!("receive records {}", answers.len()));
+            for (index, answer) in answers.iter().enumerate() {
+                lines.push(format!("{index} {}", answer_words(answer)));
+            }
+            if let Some(out) = out {
+                lines.push(format!("out {}", hex::write(&out)));
+            }
+        }
+    }
+}
+
+fn answer_words(answer: &Judged) -> String {
+    match answer {
+        Ok(Answer::Reply(length)) => format!("reply {length}"),
+        Ok(Answer::Resent(length)) => format!("resent {length}"),
+        Ok(Answer::Spec) => "spec".to_string(),
+        Ok(Answer::Open) => "open".to_string(),
+        Ok(Answer::Again) => "again".to_string(),
+        Ok(Answer::Data { start, length }) => format!("data {start} {length}"),
+        Ok(Answer::Warning(description)) => format!("warning {description}"),
+        Ok(Answer::Critical(description)) => format!("critical {description}"),
+        Ok(Answer::Fatal(description)) => format!("fatal {description}"),
+        Ok(Answer::Barred(description)) => format!("barred {description}"),
+        Err(refusal) => format!("refused {}", *refusal as u8),
+    }
+}
+
+/// The call that a line makes; nothing for a bad line.
+fn read(line: &[u8]) -> Option<Call> {
+    if line.len() > LONGEST_LINE {
+        return None;
+    }
+    let words: Vec<&[u8]> = line.split(|byte| *byte == b' ').collect();
+    match words[..] {
+        [b"fresh", identifier, secret] => {
+            Some(Call::Fresh { identifier: bytes(identifier)?, secret: bytes(secret)? })
+        }
+        [b"receive", datagram, random, room] => Some(Call::Receive {
+            datagram: bytes(datagram)?,
+            random: bytes(random)?,
+            room: number(room, MOST_ROOM)?,
+        }),
+        [b"send", data, room] => {
+            Some(Call::Send { data: bytes(data)?, room: number(room, MOST_ROOM)? })
+        }
+        [b"alert", how, level, description, record, room] => Some(Call::Alert {
+            protected: is_protected(how)?,
+            level: number(level, 255)? as u8,
+            description: number(description, 255)? as u8,
+            record: bytes(record)?,
+            room: number(room, MOST_ROOM)?,
+        }),
+        [b"close"] => Some(Call::Close),
+        [b"start"] => Some(Call::Start),
+        _ => None,
+    }
+}
+
+fn is_protected(word: &[u8]) -> Option<bool> {
+    match word {
+        b"clear" => Some(false),
+        b"protected" => Some(true),
+        _ => None,
+    }
+}
+
+/// Lowercase hex, `-` for the empty string; an empty word is no byte string.
+fn bytes(word: &[u8]) -> Option<Vec<u8>> {
+    match word {
+        b"-" => Some(Vec::new()),
+        b"" => None,
+        _ => hex::read(word),
+    }
+}
+
+/// Decimal without sign or leading zero, at most nine digits, at most `most`.
+fn number(word: &[u8], most: usize) -> Option<usize> {
+    let canonical = word == b"0" || !word.starts_with(b"0");
+    if word.is_empty() || word.len() > 9 || !canonical || !word.iter().all(u8::is_ascii_digit) {
+        return None;
+    }
+    let number = word.iter().fold(0, |sum, digit| sum * 10 + usize::from(digit - b'0'));
+    (number <= most).then_some(number)
+}
+
+#[cfg(test)]
+mod tests {
+    use super::*;
+
+    #[test]
+    fn numbers() {
+        assert_eq!(number(b"0", 2048), Some(0));
+        assert_eq!(number(b"2048", 2048), Some(2048));
+        for bad in ["2049", "00", "01", "+1", "-1", "", "1a", "1000000000", "0000000000", " 1"] {
+            assert_eq!(number(bad.as_bytes(), 2048), None, "{bad}");
+        }
+        assert_eq!(number(b"999999999", usize::MAX), Some(999_999_999));
+    }
+
+    #[test]
+    fn byte_strings() {
+        assert_eq!(bytes(b"-"), Some(vec![]));
+        assert_eq!(bytes(b"0aff"), Some(vec![10, 255]));
+        for bad in ["", "0", "0A", "--", "-00", "0g"] {
+            assert_eq!(bytes(bad.as_bytes()), None, "{bad}");
+        }
+    }
+
+    #[test]
+    fn lines_end_with_a_newline_or_the_input() {
+        let run_text = |text: &str| {
+            let mut output = Vec::new();
+            run(text.as_bytes(), &mut output).unwrap();
+            String::from_utf8(output).unwrap()
+        };
+        assert_eq!(run_text(""), "");
+        assert_eq!(run_text("\n"), "bad line\n");
+        assert_eq!(run_text("close"), "bad line\n");
+        assert_eq!(run_text("close\n\nstart"), "bad line\nbad line\nbad line\n");
+        assert!(run_text("fresh - -").starts_with("fresh refused 16\nstate None n=- "));
+        let long = |count: usize| format!("fresh {} -", "0".repeat(count));
+        assert!(run_text(&long(8184)).starts_with("fresh refused 16\n"));
+        assert_eq!(run_text(&long(8186)), "bad line\n");
+    }
+}

@@ -1,0 +1,253 @@
+//! The two hellos (WTLS 10.5.1.2 and 10.5.1.3).
+
+use crate::keys::Kind;
+
+/// A ClientHello message, header included, is at most this long (house rule).
+pub const LARGEST_HELLO: usize = 256;
+
+/// What a walked ClientHello says that matters for a resumption. Key lists are walked and
+/// forgotten.
+#[derive(Clone, PartialEq, Eq, Debug)]
+pub struct ClientHello {
+    pub version: u8,
+    pub random: Vec<u8>,
+    pub session: Vec<u8>,
+    pub suites: Vec<[u8; 2]>,
+    pub compressions: Vec<u8>,
+    pub numbering: u8,
+    pub refresh: u8,
+}
+
+/// Walks a whole ClientHello message; nothing if it is malformed anywhere.
+pub fn read(message: &[u8]) -> Option<ClientHello> {
+    if message.len() > LARGEST_HELLO {
+        return None;
+    }
+    let mut message = Reader { left: message };
+    if message.uint8()? != 1 {
+        return None;
+    }
+    let mut body = message.list16()?;
+    message.end()?;
+
+    let version = body.uint8()?;
+    let random = body.take(16)?.to_vec();
+    let session = body.list8(0, 8)?.left.to_vec();
+    walk_key_ids(body.list16()?)?;
+    walk_key_ids(body.list16()?)?;
+    let suites = read_suites(body.list8(2, 255)?)?;
+    let compressions = body.list8(1, 255)?.left.to_vec();
+    let numbering = body.uint8()?;
+    let refresh = body.uint8()?;
+    body.end()?;
+    Some(ClientHello { version, random, session, suites, compressions, numbering, refresh })
+}
+
+/// CipherSuite is two bytes, so the list's length is even (8.3).
+fn read_suites(mut list: Reader) -> Option<Vec<[u8; 2]>> {
+    let mut suites = Vec::new();
+    while !list.left.is_empty() {
+        suites.push([list.uint8()?, list.uint8()?]);
+    }
+    Some(suites)
+}
+
+fn walk_key_ids(mut list: Reader) -> Option<()> {
+    while !list.left.is_empty() {
+        walk_key_id(&mut list)?;
+    }
+    Some(())
+}
+
+/// KeyExchangeId: suite, parameter specifier, identifier. Explicit parameters (index 255) are
+/// skipped by their own length.
+fn walk_key_id(list: &mut Reader) -> Option<()> {
+    let _suite = list.uint8()?;
+    let parameter_index = list.uint8()?;
+    if parameter_index == 255 {
+        list.list16()?;
+    }
+    match list.uint8()? {
+        0 => {}
+        1 => {
+            let _character_set = list.take(2)?;
+            let _name = list.list8(1, 255)?;
+        }
+        2 | 255 => {
+            let _identifier = list.list8(1, 255)?;
+        }
+        254 => {
+            let _key_hash = list.take(20)?;
+        }
+        _ => return None,
+    }
+    Some(())
+}
+
+/// The MAC kind chosen for an acceptable hello: version 1, the planted session, the first pair of
+/// null cipher with SHA_80 or SHA, null compression, explicit numbering.
+pub fn choose(hello: &ClientHello, planted: &[u8]) -> Option<Kind> {
+    let kind = hello.suites.iter().find_map(|suite| match suite {
+        [0, mac] => Kind::assigned(*mac),
+        _ => None,
+    })?;
+    let acceptable = hello.version == 1
+        && hello.session == planted
+        && hello.compressions.contains(&0)
+        && hello.numbering == 2;
+    acceptable.then_some(kind)
+}
+
+/// The ServerHello message that answers a resumption. The client key number is 0: 10.5.1.3 fixes
+/// no other for an abbreviated handshake.
+pub fn write_server(random: &[u8], session: &[u8], kind: Kind, refresh: u8) -> Vec<u8> {
+    let mut body = vec![1];
+    body.extend(random);
+    body.push(session.len() as u8);
+    body.extend(session);
+    body.push(0);
+    body.extend([0, kind.number()]);
+    body.extend([0, 2, refresh]);
+    message(2, &body)
+}
+
+/// A handshake message: type, length, body (10.5).
+pub fn message(kind: u8, body: &[u8]) -> Vec<u8> {
+    let mut message = vec![kind];
+    message.extend((body.len() as u16).to_be_bytes());
+    message.extend(body);
+    message
+}
+
+/// Takes fields from the front; each gives nothing if it would pass the end.
+struct Reader<'a> {
+    left: &'a [u8],
+}
+
+impl<'a> Reader<'a> {
+    fn take(&mut self, count: usize) -> Option<&'a [u8]> {
+        if count > self.left.len() {
+            return None;
+        }
+        let (taken, left) = self.left.split_at(count);
+        self.left = left;
+        Some(taken)
+    }
+
+    fn uint8(&mut self) -> Option<u8> {
+        Some(self.take(1)?[0])
+    }
+
+    fn list8(&mut self, floor: usize, ceiling: usize) -> Option<Reader<'a>> {
+        let length = usize::from(self.uint8()?);
+        if length < floor || length > ceiling {
+            return None;
+        }
+        Some(Reader { left: self.take(length)? })
+    }
+
+    fn list16(&mut self) -> Option<Reader<'a>> {
+        let length = self.take(2)?;
+        let length = usize::from(u16::from_be_bytes([length[0], length[1]]));
+        Some(Reader { left: self.take(length)? })
+    }
+
+    fn end(&self) -> Option<()> {
+        self.left.is_empty().then_some(())
+    }
+}
+
+#[cfg(test)]
+mod tests {
+    use super::*;
+
+    fn body(
+        session: &[u8],
+        ids: &[u8],
+        suites: &[u8],
+        compressions: &[u8],
+        numbering: u8,
+    ) -> Vec<u8> {
+        let mut body = vec![1];
+        body.extend([7; 16]);
+        body.push(session.len() as u8);
+        body.extend(session);
+        body.extend((ids.len() as u16).to_be_bytes());
+        body.extend(ids);
+        body.extend([0, 0]);
+        body.push(suites.len() as u8);
+        body.extend(suites);
+        body.push(compressions.len() as u8);
+        body.extend(compressions);
+        body.extend([numbering, 3]);
+        body
+    }
+
+    fn well_formed(ids: &[u8]) -> bool {
+        read(&message(1, &body(&[9; 8], ids, &[0, 2], &[0], 2))).is_some()
+    }
+
+    #[test]
+    fn identifiers() {
+        assert!(well_formed(&[]));
+        assert!(well_formed(&[5, 0, 0]));
+        assert!(well_formed(&[5, 255, 0, 0, 0]));
+        assert!(well_formed(&[5, 255, 0, 2, 8, 8, 0]));
+        assert!(well_formed(&[5, 1, 1, 0, 3, 1, 65, 5, 1, 2, 1, 66, 5, 1, 255, 1, 67]));
+        assert!(well_formed(&[[5, 1, 254].to_vec(), vec![6; 20]].concat()));
+        assert!(!well_formed(&[[5, 1, 254].to_vec(), vec![6; 19]].concat()));
+        assert!(!well_formed(&[5, 1, 1, 0, 3, 0]));
+        assert!(!well_formed(&[5, 1, 2, 0]));
+        assert!(!well_formed(&[5, 1, 255, 0]));
+        assert!(!well_formed(&[5, 1, 3, 1, 1]));
+        assert!(!well_formed(&[5, 255, 0, 3, 8, 8, 0]));
+        assert!(!well_formed(&[5, 1]));
+        assert!(!well_formed(&[5]));
+    }
+
+    #[test]
+    fn bounds_of_the_lists() {
+        let check = |session: &[u8], suites: &[u8], compressions: &[u8]| {
+            read(&message(1, &body(session, &[], suites, compressions, 2))).is_some()
+        };
+        assert!(check(&[], &[0, 2], &[0]));
+        assert!(!check(&[9; 9], &[0, 2], &[0]));
+        assert!(!check(&[9; 8], &[], &[0]));
+        assert!(!check(&[9; 8], &[0, 2, 0], &[0]));
+        assert!(!check(&[9; 8], &[0, 2], &[]));
+    }
+
+    #[test]
+    fn left_over_cut_and_too_long() {
+        let whole = body(&[9; 8], &[], &[0, 2], &[0], 2);
+        let message_of = |body: &[u8]| message(1, body);
+        assert!(read(&message_of(&[&whole[..], &[0]].concat())).is_none());
+        for cut in 0..whole.len() {
+            assert!(read(&message_of(&whole[..cut])).is_none());
+            assert!(read(&message_of(&whole)[..cut]).is_none());
+        }
+        assert!(read(&[message_of(&whole), vec![0]].concat()).is_none());
+        let padded = |extra: usize| {
+            let ids = [vec![1, 255, 0, extra as u8], vec![0; extra], vec![0]].concat();
+            message_of(&body(&[9; 8], &ids, &[0, 2], &[0], 2))
+        };
+        assert_eq!(padded(211).len(), 256);
+        assert!(read(&padded(211)).is_some());
+        assert!(read(&padded(212)).is_none());
+    }
+
+    #[test]
+    fn choice() {
+        let hello = |suites: &[u8], compressions: &[u8], numbering: u8| {
+            read(&message(1, &body(&[9; 8], &[], suites, compressions, numbering))).unwrap()
+        };
+        let chosen = |suites: &[u8]| choose(&hello(suites, &[0], 2), &[9; 8]);
+        assert_eq!(chosen(&[0, 2, 0, 3]), Some(Kind::Sha80));
+        assert_eq!(chosen(&[5, 2, 0, 1, 0, 3, 0, 2]), Some(Kind::Sha));
+        assert_eq!(chosen(&[0, 7]), None);
+        assert_eq!(choose(&hello(&[0, 2], &[4, 0], 2), &[9; 8]), Some(Kind::Sha80));
+        assert_eq!(choose(&hello(&[0, 2], &[4], 2), &[9; 8]), None);
+        assert_eq!(choose(&hello(&[0, 2], &[0], 1), &[9; 8]), None);
+        assert_eq!(choose(&hello(&[0, 2], &[0], 2), &[8; 8]), None);
+    }
+}

@@ -1,0 +1,34 @@
+//! The ship's end and the shore's rules of WTLS, written a second time from the papers.
+//!
+//! This crate shares no code, table or generated file with the proved gateway. It exists to be
+//! held against it: both read the same lines, and every line that they write must be the same.
+//!
+//! The papers are WAP-261-WTLS-20010406-a ("WTLS", cited by section), FIPS 180-1, RFC 2104 and
+//! the exact rules of the house ("the rules").
+
+#![forbid(unsafe_code)]
+
+pub mod alert;
+pub mod console;
+pub mod damage;
+pub mod day;
+pub mod days;
+pub mod finished;
+pub mod handshakes;
+pub mod hello;
+pub mod hex;
+pub mod hmac;
+pub mod keys;
+pub mod lines;
+pub mod lists;
+pub mod report;
+pub mod rng;
+pub mod script;
+pub mod sha1;
+pub mod shapes;
+pub mod shore;
+pub mod shrink;
+pub mod stored;
+pub mod unit;
+pub mod window;
+pub mod wire;

@@ -1,0 +1,91 @@
+//! `peer`: the second implementation, run beside the proved one.
+
+use std::io::{self, BufWriter, Read, Write};
+use std::process::ExitCode;
+
+use peer::{console, days, handshakes, lists, stored, wire};
+
+const USAGE: &str = "\
+peer console                       the lines that the console must write for those on stdin
+peer lister                        the lines that the frame lister must write for stdin
+peer day                           the stored day, as input for the console
+peer long-day                      the day on which the sending numbers run out (refusal 15)
+peer handshakes                    two worked handshakes, one `name hex` to a line
+peer days --seed S --calls N [--spent K] [--keep FILE] --console PROGRAM [ARGUMENT ..]
+                                   random days through PROGRAM, each line compared; K days on
+                                   which sending numbers run out (else 2 to each 200,000 calls);
+                                   FILE gets the few lines that make a difference
+peer lists --seed S --count N --lister PROGRAM [ARGUMENT ..]
+                                   random datagrams through a frame lister
+";
+
+fn main() -> ExitCode {
+    let arguments: Vec<String> = std::env::args().skip(1).collect();
+    let words: Vec<&str> = arguments.iter().map(String::as_str).collect();
+    let done = match words[..] {
+        ["console"] => console::run(io::stdin().lock(), BufWriter::new(io::stdout().lock())),
+        ["lister"] => lister(),
+        ["day"] => print(&stored::day()),
+        ["long-day"] => print(&stored::long_day()),
+        ["handshakes"] => print(&handshakes::worked()),
+        ["days", ..] => return run_days(&words[1..]),
+        ["lists", "--seed", seed, "--count", count, "--lister", ..] => {
+            return run_lists(seed.parse().ok(), count.parse().ok(), &words[6..])
+        }
+        _ => {
+            eprint!("{USAGE}");
+            return ExitCode::from(2);
+        }
+    };
+    match done {
+        Ok(()) => ExitCode::SUCCESS,
+        Err(error) => {
+            eprintln!("peer: {error}");
+            ExitCode::FAILURE
+        }
+    }
+}
+
+fn print(text: &str) -> io::Result<()> {
+    io::stdout().write_all(text.as_bytes())
+}
+
+fn lister() -> io::Result<()> {
+    let mut datagram = Vec::new();
+    io::stdin().read_to_end(&mut datagram)?;
+    print(&wire::list(&datagram))
+}
+
+fn run_days(words: &[&str]) -> ExitCode {
+    let Some(plan) = days::Plan::read(words) else {
+        eprint!("{USAGE}");
+        return ExitCode::from(2);
+    };
+    match days::run(&plan) {
+        Ok(report) => {
+            print!("{report}");
+            ExitCode::SUCCESS
+        }
+        Err(difference) => {
+            print!("{difference}");
+            ExitCode::FAILURE
+        }
+    }
+}
+
+fn run_lists(seed: Option<u64>, count: Option<u64>, program: &[&str]) -> ExitCode {
+    let (Some(seed), Some(count), false) = (seed, count, program.is_empty()) else {
+        eprint!("{USAGE}");
+        return ExitCode::from(2);
+    };
+    match lists::run(seed, count, program) {
+        Ok(report) => {
+            print!("{report}");
+            ExitCode::SUCCESS
+        }
+        Err(difference) => {
+            print!("{difference}");
+            ExitCode::FAILURE
+        }
+    }
+}

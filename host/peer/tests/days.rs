@@ -1,0 +1,118 @@
+//! The stored day covers what it says, and the random days find what they are made to find.
+
+use std::collections::BTreeSet;
+use std::process::{Command, Output};
+
+use peer::stored;
+
+const PEER: &str = env!("CARGO_BIN_EXE_peer");
+
+/// All that the lines hold: `refused 9`, `data`, `Open`, ..
+fn kinds(lines: &[String]) -> BTreeSet<String> {
+    let mut kinds = BTreeSet::new();
+    for line in lines {
+        let words: Vec<&str> = line.split(' ').collect();
+        match words[..] {
+            ["state", name, ..] => kinds.insert(name.to_string()),
+            [_, "refused", number, ..] => kinds.insert(format!("refused {number}")),
+            [first, second, ..] => {
+                kinds.insert(format!("{first} {second}")) | kinds.insert(second.to_string())
+            }
+            _ => false,
+        };
+    }
+    kinds
+}
+
+#[test]
+fn the_stored_day_has_everything_but_spent_numbers() {
+    let day = stored::written();
+    let kinds = kinds(day.output());
+    let mut wanted: Vec<String> =
+        (1..=18).filter(|r| *r != 15).map(|r| format!("refused {r}")).collect();
+    let answers = "reply resent spec open again data warning critical fatal barred";
+    let states = "None Idle Replied Spec Open Closed Barred";
+    wanted.extend(answers.split(' ').chain(states.split(' ')).map(str::to_string));
+    let calls = ["fresh ok", "send ok", "alert ok", "close ok", "start ok", "bad line"];
+    wanted.extend(calls.map(str::to_string));
+    for kind in wanted {
+        assert!(kinds.contains(&kind), "the stored day lacks {kind}");
+    }
+    let lines = day.input().lines().count();
+    assert!((150..=300).contains(&lines), "{lines} lines");
+}
+
+#[test]
+fn the_long_day_spends_both_numbers_and_nothing_closes() {
+    let mut output = Vec::new();
+    peer::console::run(stored::long_day().as_bytes(), &mut output).unwrap();
+    let text = String::from_utf8(output).unwrap();
+    assert_eq!(text.matches("alert refused 15\nstate Replied ").count(), 2);
+    assert_eq!(text.matches("alert refused 15\nstate Open ").count(), 1);
+    assert_eq!(text.matches("send refused 15\nstate Open ").count(), 2);
+    assert!(text.contains(" sent=65536,65536 "));
+    assert!(text
+        .lines()
+        .last()
+        .unwrap()
+        .contains("state Open n=0 marks=00000001 arrived=1 sent=2,2 "));
+}
+
+fn days(seed: u64, calls: u64, console: &[&str]) -> Output {
+    Command::new(PEER)
+        .args(["days", "--seed", &seed.to_string(), "--calls", &calls.to_string(), "--console"])
+        .args(console)
+        .output()
+        .unwrap()
+}
+
+#[test]
+fn no_difference_from_the_model_itself() {
+    let run = days(5, 3000, &[PEER, "console"]);
+    let text = String::from_utf8(run.stdout).unwrap();
+    assert!(run.status.success(), "{text}");
+    assert!(text.starts_with("peer: seed 5, 3000 calls, no difference\n"), "{text}");
+}
+
+/// A console that is the model but for one edit of its lines.
+fn broken(edit: &str) -> Output {
+    days(5, 3000, &["sh", "-c", &format!("{PEER} console | sed -e '{edit}'")])
+}
+
+#[test]
+fn differences_are_found() {
+    for edit in [
+        "s/refused 11/refused 10/",
+        "s/n=65535/n=65534/",
+        "s/arrived=32/arrived=31/",
+        "s/^\\(out 64.*\\)a$/\\1b/",
+        "s/state Barred/state Closed/",
+        "s/^0 again/0 open/",
+        "2000d",
+        "$d",
+        "$a more",
+        "2000q",
+    ] {
+        let run = broken(edit);
+        let text = String::from_utf8(run.stdout).unwrap();
+        assert_eq!(run.status.code(), Some(1), "{edit}: {text}");
+        assert!(text.contains(": difference\ninput "), "{edit}: {text}");
+        let few = text.contains(" are enough for a difference:\nfresh ");
+        assert_eq!(few, edit.starts_with("s/"), "{edit}: {text}");
+    }
+}
+
+#[test]
+fn a_console_that_fails_is_a_difference() {
+    for program in [&["/nonexistent"][..], &["false"], &["sh", "-c", "exit 0"]] {
+        assert_eq!(days(1, 500, program).status.code(), Some(1));
+    }
+    let failing = format!("{PEER} console; exit 3");
+    assert_eq!(days(1, 500, &["sh", "-c", &failing]).status.code(), Some(1));
+}
+
+#[test]
+fn wrong_arguments_are_told() {
+    let run = Command::new(PEER).arg("days").output().unwrap();
+    assert_eq!(run.status.code(), Some(2));
+}

@@ -1,0 +1,229 @@
+//! The console's worked example, and the places where the rules are easily read wrongly.
+
+use peer::alert;
+use peer::console;
+use peer::handshakes::{secret, session};
+use peer::keys::Kind;
+use peer::script::Script;
+use peer::wire::Content;
+
+/// The answers of a receive: its lines without the first, the output and the state.
+fn answers(lines: &[String]) -> Vec<&str> {
+    let is_answer = |line: &&String| line.as_bytes()[0].is_ascii_digit();
+    lines.iter().filter(is_answer).map(|line| &line[2..]).collect()
+}
+
+fn state(lines: &[String]) -> &str {
+    lines[lines.len() - 1].split(' ').nth(1).unwrap()
+}
+
+fn replied(kind: Kind) -> Script {
+    let mut script = Script::new(&session(), &secret());
+    script.fresh();
+    script.hello(0x10, kind, 3);
+    script
+}
+
+fn in_spec(kind: Kind) -> Script {
+    let mut script = replied(kind);
+    assert_eq!(answers(&script.receive(&[0x41, 0, 1, 1])), ["spec"]);
+    script
+}
+
+fn open(kind: Kind) -> Script {
+    let mut script = replied(kind);
+    assert_eq!(answers(&script.flight()), ["spec", "open"]);
+    script
+}
+
+#[test]
+fn worked_example() {
+    let input = "\
+fresh a0a1a2a3a4a5a6a7 303132333435363738393a3b3c3d3e3f40414243
+receive 43000001002501101112131415161718191a1b1c1d1e1f08a0a1a2a3a4a5a6a70000000002000201000203 808182838485868788898a8b8c8d8e8f 128
+";
+    let expected = "\
+fresh ok
+state Idle n=- marks=00000000 arrived=0 sent=-,- checksum=00000000 tally=0,0,0,0
+receive records 1
+0 reply 74
+out c30000002302002001808182838485868788898a8b8c8d8e8f08a0a1a2a3a4a5a6a7000002000203c1000100010163000014000cfa4961929527af28decdac18e8e0268c07a8c14188c6
+state Replied n=- marks=00000000 arrived=0 sent=1,2 checksum=e663d639 tally=0,0,0,0
+";
+    let mut output = Vec::new();
+    console::run(input.as_bytes(), &mut output).unwrap();
+    assert_eq!(String::from_utf8(output).unwrap(), expected);
+}
+
+#[test]
+fn a_warning_may_outrun_the_finished() {
+    let mut script = in_spec(Kind::Sha);
+    assert_eq!(answers(&script.protected_alert(40, 1, 90)), ["warning 90"]);
+    let finished = script.finished_message();
+    let lines = script.protected(Content::Handshake, 0, &finished);
+    assert_eq!((answers(&lines), state(&lines)), (vec!["refused 10"], "Spec"));
+    assert_eq!(answers(&script.protected(Content::Handshake, 41, &finished)), ["open"]);
+}
+
+#[test]
+fn a_resent_flight_in_open() {
+    let mut script = open(Kind::Sha80);
+    let mut datagram = script.unit.clear(Content::ChangeCipherSpec, true, 1, &[1]);
+    datagram.extend(script.part(Content::Handshake, 0, &script.finished_message()));
+    datagram.extend(script.record(Content::Data, 1, b"data"));
+    assert_eq!(answers(&script.receive(&datagram)), ["refused 8", "refused 11", "data 39 4"]);
+}
+
+#[test]
+fn empty_data_marks_its_number() {
+    let mut script = open(Kind::Sha80);
+    assert_eq!(answers(&script.data(7, "")), ["refused 12"]);
+    assert_eq!(answers(&script.data(7, "data")), ["refused 11"]);
+}
+
+#[test]
+fn one_number_twice_in_a_datagram() {
+    let mut script = open(Kind::Sha);
+    let datagram =
+        [script.part(Content::Data, 9, b"one"), script.record(Content::Data, 9, b"two")].concat();
+    assert_eq!(answers(&script.receive(&datagram)), ["data 5 3", "refused 11"]);
+}
+
+#[test]
+fn nothing_behind_a_closing_record() {
+    let mut script = open(Kind::Sha80);
+    let critical = script.unit.alert(2, 80);
+    let datagram = [
+        script.part(Content::Data, 1, b"one"),
+        script.part(Content::Alert, 2, &critical),
+        script.record(Content::Data, 3, b"two"),
+    ]
+    .concat();
+    let lines = script.receive(&datagram);
+    assert_eq!(answers(&lines), ["data 5 3", "critical 80", "refused 7"]);
+    assert_eq!(state(&lines), "Closed");
+}
+
+#[test]
+fn a_resent_hello_with_a_critical_alert_behind_it() {
+    for (kind, length) in [(Kind::Sha80, 74), (Kind::Sha, 84)] {
+        let mut script = replied(kind);
+        let hello = script.unit.last_hello().to_vec();
+        let critical = script.unit.alert(2, 40);
+        let datagram = [
+            script.unit.clear(Content::Handshake, true, 0, &hello),
+            script.unit.clear(Content::Alert, false, 2, &critical),
+        ]
+        .concat();
+        let lines = script.receive(&datagram);
+        assert_eq!(answers(&lines), [format!("resent {length}").as_str(), "critical 40"]);
+        assert_eq!(lines[3].len(), "out ".len() + 2 * length);
+        assert_eq!(state(&lines), "Closed");
+    }
+}
+
+#[test]
+fn a_resent_reply_does_not_use_the_random() {
+    let mut script = replied(Kind::Sha80);
+    let first = script.output()[4].clone();
+    assert!(first.starts_with("out "));
+    let message = script.unit.last_hello().to_vec();
+    assert_eq!(script.stray_hello(&message)[2], first);
+    assert_eq!(answers(&script.flight()), ["spec", "open"]);
+}
+
+#[test]
+fn a_forged_65535_moves_nothing() {
+    let mut script = open(Kind::Sha80);
+    let mut forged = script.record(Content::Data, 65535, b"data");
+    *forged.last_mut().unwrap() ^= 1;
+    assert_eq!(answers(&script.receive(&forged)), ["refused 9"]);
+    assert_eq!(answers(&script.data(1, "data")), ["data 3 4"]);
+}
+
+#[test]
+fn late_records_across_a_refresh_are_genuine() {
+    let mut script = open(Kind::Sha);
+    for number in [17, 8, 16, 7, 15, 1] {
+        assert_eq!(answers(&script.data(number, "data")), ["data 3 4"]);
+    }
+}
+
+#[test]
+fn a_finished_again_keeps_the_window() {
+    let mut script = open(Kind::Sha);
+    script.data(5, "data");
+    let finished = script.finished_message();
+    assert_eq!(answers(&script.protected(Content::Handshake, 6, &finished)), ["again"]);
+    assert_eq!(answers(&script.data(5, "data")), ["refused 11"]);
+    assert_eq!(answers(&script.protected(Content::Handshake, 6, &finished)), ["refused 11"]);
+}
+
+#[test]
+fn a_wrong_finished_closes() {
+    for mut script in [in_spec(Kind::Sha), open(Kind::Sha)] {
+        let mut finished = script.finished_message();
+        finished[3] ^= 1;
+        let lines = script.protected(Content::Handshake, 9, &finished);
+        assert_eq!((answers(&lines), state(&lines)), (vec!["refused 17"], "Closed"));
+        assert!(lines[2].contains(" n=9 "));
+    }
+}
+
+#[test]
+fn clear_alerts_do_not_touch_an_open_connection() {
+    let mut script = open(Kind::Sha80);
+    for level in 1..=3 {
+        let lines = script.clear_alert(level, 40);
+        assert_eq!((answers(&lines), state(&lines)), (vec!["refused 8"], "Open"));
+    }
+}
+
+#[test]
+fn a_clear_fatal_alert_bars_nothing_and_a_protected_one_does() {
+    let mut script = replied(Kind::Sha80);
+    let lines = script.clear_alert(3, 40);
+    assert_eq!((answers(&lines), state(&lines)), (vec!["fatal 40"], "Closed"));
+    assert_eq!(script.line("start")[0], "start ok");
+    script.hello(0x11, Kind::Sha80, 3);
+    script.receive(&[0x41, 0, 1, 1]);
+    let fatal = alert::write(3, 40, [9; 4]);
+    let lines = script.protected(Content::Alert, 3, &fatal);
+    assert_eq!((answers(&lines), state(&lines)), (vec!["barred 40"], "Barred"));
+    for call in ["start", "close", "send 00 14", "alert clear 1 0 - 9"] {
+        let name = call.split(' ').next().unwrap();
+        assert_eq!(script.line(call)[0], format!("{name} refused 7"));
+    }
+    assert_eq!(script.line("send - 0")[0], "send refused 16");
+    assert_eq!(script.fresh()[0], "fresh ok");
+}
+
+#[test]
+fn the_reply_leaves_the_window_and_the_change_empties_it() {
+    let mut script = in_spec(Kind::Sha80);
+    script.protected_alert(7, 1, 90);
+    let lines = script.hello(0x11, Kind::Sha, 0);
+    assert!(lines.last().unwrap().contains("state Replied n=7 "));
+    let lines = script.receive(&[0x41, 0, 1, 1]);
+    assert!(lines.last().unwrap().contains("state Spec n=- "));
+}
+
+#[test]
+fn a_replaced_hello_counts_as_another() {
+    let mut script = replied(Kind::Sha80);
+    assert_eq!(answers(&script.hello(0x11, Kind::Sha, 0)), ["reply 84"]);
+    assert_eq!(answers(&script.hello(0x10, Kind::Sha80, 3)), ["reply 74"]);
+    assert_eq!(answers(&script.hello(0x10, Kind::Sha80, 3)), ["resent 74"]);
+}
+
+#[test]
+fn starting_again_keeps_numbers_and_last_record() {
+    let mut script = open(Kind::Sha80);
+    script.send("send 6f6b 15");
+    let before = script.line("close").pop().unwrap();
+    let after = script.line("start").pop().unwrap();
+    let tail = |line: &str| line[line.find("sent=").unwrap()..].to_string();
+    assert_eq!(tail(&before), tail(&after));
+    assert!(after.starts_with("state Idle n=- marks=00000000 arrived=0 sent=2,2 "));
+    assert_eq!(answers(&script.hello(0x10, Kind::Sha80, 3)), ["reply 74"]);
+}
