@@ -1,0 +1,58 @@
+-- `message::keys::keys_end` meets its contract: each return is a case of `keysEnd`. Assumes nothing.
+use Rattle.message.proofs.Fields.{long-there}
+use Rattle.message.proofs.Entries.{keys-cut}
+use native.Mathlib.Omega.{arith}
+use Rattle.digest.proofs.Picks.{picks}
+use denote.Ref.{now}
+use mathlib.Core.Path.{_≡_, refl, sym, _∙_, ap}
+use Rattle.message.specs.Keys.{keysEnd}
+use Rattle.message.proofs.Fields.{long-there}
+use borrow.Author.Needs.{needs}
+use Rattle.message.proofs.keys.keys_end.Statement.{statement}
+use Rattle.message.proofs.keys.keys_end.Tie as tie
+
+long-end-requires : tie.Need-long-end-requires
+long-end-requires c κs = search needs
+
+returns : tie.Need-returns
+unfolding keysEnd
+returns c =
+    let a = c .before .before .before .args in
+    (keys-cut (now (a .m)) (a .at) (sym (c .before .long-end .ensures .0) ∙ c .if1 .taken), omega arith)
+
+add-part : tie.Need-add-part
+add-part c =
+    let a = c .before .before .before .args in
+    omega (arith, long-there (now (a .m)) (a .at) (λ e. c .if1 .left (c .before .long-end .ensures .0 ∙ e)) .1)
+
+part-requires : tie.Need-part-requires
+part-requires c κs = search needs
+
+key-list-requires : tie.Need-key-list-requires
+key-list-requires c κs = search needs
+
+returns-2 : tie.Need-returns-2
+unfolding keysEnd
+returns-2 c = (
+  rw (sym (c .before .before .before .before .long-end .ensures .0), sym (c .before .before .part .ensures), sym (c .before .key-list .ensures), c .if2 .taken) refl,
+  c .before .before .before .before .long-end .ensures .1,
+)
+
+returns-3 : tie.Need-returns-3
+unfolding keysEnd
+returns-3 c = (
+  rw (sym (c .before .before .before .before .long-end .ensures .0), sym (c .before .before .part .ensures), sym (c .before .key-list .ensures), c .if2 .left) refl,
+  omega arith,
+)
+
+pub keys-end-spec : {M : Type 1} → statement M
+keys-end-spec =
+    tie.close
+    (tie.spec
+    long-end-requires
+    returns
+    add-part
+    part-requires
+    key-list-requires
+    returns-2
+    returns-3)

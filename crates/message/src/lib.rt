@@ -1,0 +1,12 @@
+// Layer 3: messages (002 section 10). Hellos, alerts, change cipher spec and Finished, read and written exactly.
+pub mod acceptance;
+pub mod alert;
+pub mod change;
+pub mod field;
+pub mod finished;
+pub mod handshake;
+pub mod hello;
+pub mod keys;
+mod put;
+pub mod server;
+pub mod writer;
