@@ -19,6 +19,20 @@ abbrev pub sizeOf : Mac → ℕ
 sizeOf Sha80 = 10
 sizeOf Sha = 20
 
+-- the size of the MAC secret, of either kind
+abbrev pub secretSize : ℕ
+secretSize = 20
+
+-- the labels under which the MAC secrets are expanded (002 11.2): "client expansion" for what the client sends, "server
+-- expansion" for what the server sends
+abbrev pub clientExpansion : List ℕ
+clientExpansion =
+    99 ∷ 108 ∷ 105 ∷ 101 ∷ 110 ∷ 116 ∷ 32 ∷ 101 ∷ 120 ∷ 112 ∷ 97 ∷ 110 ∷ 115 ∷ 105 ∷ 111 ∷ 110 ∷ []
+
+abbrev pub serverExpansion : List ℕ
+serverExpansion =
+    115 ∷ 101 ∷ 114 ∷ 118 ∷ 101 ∷ 114 ∷ 32 ∷ 101 ∷ 120 ∷ 112 ∷ 97 ∷ 110 ∷ 115 ∷ 105 ∷ 111 ∷ 110 ∷ []
+
 -- the kind of a number
 unfoldable pub listedAs : ℕ → Listed
 listedAs n = pick (eqb n 2) (Is Sha80) (pick (eqb n 3) (Is Sha) Other)

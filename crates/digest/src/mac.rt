@@ -2,6 +2,7 @@
 ghost use mathlib.Core.Path.{_≡_};
 ghost use lib.ListN.{take};
 ghost use Rattle.digest.specs.Mac.{numberOf, sizeOf, listedAs, sameBytes};
+ghost use Rattle.digest.specs.Mac.{secretSize, clientExpansion, serverExpansion};
 
 // SHA_80: the first ten bytes of the code. SHA: all twenty.
 pub enum Mac {
@@ -24,7 +25,7 @@ impl Mac {
     // The MAC secret of either kind, in bytes.
     pub const SECRET_SIZE: usize = 20;
 
-    // The labels under which the secrets of each course are expanded (002 section 11.2).
+    // The labels under which the secrets of each direction are expanded (002 section 11.2).
     pub const CLIENT_EXPANSION: [u8; 16] = *b"client expansion";
 
     pub const SERVER_EXPANSION: [u8; 16] = *b"server expansion";
@@ -47,6 +48,27 @@ impl Mac {
             Mac::Sha80 => Mac::SHA80_SIZE,
             Mac::Sha => Mac::SHA_SIZE,
         }
+    }
+
+    // The size of the MAC secret, whatever the kind.
+    pub fn secret_size() -> usize
+        ensures exact { λ r. ⌜ r ≡ secretSize ⌝ }
+    {
+        Mac::SECRET_SIZE
+    }
+
+    // The label of what the client sends.
+    pub fn client_expansion() -> [u8; 16]
+        ensures exact { λ r. ⌜ r ≡ clientExpansion ⌝ }
+    {
+        Mac::CLIENT_EXPANSION
+    }
+
+    // The label of what the server sends.
+    pub fn server_expansion() -> [u8; 16]
+        ensures exact { λ r. ⌜ r ≡ serverExpansion ⌝ }
+    {
+        Mac::SERVER_EXPANSION
     }
 
     // What is sent of a code: its first bytes. Of bytes that are too few, all.

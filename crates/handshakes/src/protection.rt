@@ -11,8 +11,8 @@ use record::keys;
 use record::written;
 
 pub fn secrets(mac: Mac, refresh: u8) {
-    let client = Mac::CLIENT_EXPANSION;
-    let server = Mac::SERVER_EXPANSION;
+    let client = Mac::client_expansion();
+    let server = Mac::server_expansion();
     secret(mac, refresh, &client, 0, b"client-secret-0");
     secret(mac, refresh, &client, 19, b"client-secret-19");
     secret(mac, refresh, &server, 0, b"server-secret-0");
@@ -41,13 +41,13 @@ pub fn records(mac: Mac, refresh: u8) {
 
 // The unit's key for a number.
 pub fn client_key(refresh: u8, number: u16) -> Key {
-    let label = Mac::CLIENT_EXPANSION;
+    let label = Mac::client_expansion();
     key(&label, refresh, number)
 }
 
 // The shore's key for a number.
 pub fn server_key(refresh: u8, number: u16) -> Key {
-    let label = Mac::SERVER_EXPANSION;
+    let label = Mac::server_expansion();
     key(&label, refresh, number)
 }
 
@@ -58,14 +58,14 @@ fn key(label: &[u8], refresh: u8, number: u16) -> Key {
     keys::record_key(&secret, label, refresh, number, &server, &client)
 }
 
-// The MAC secret for a number, under the label of its course.
+// The MAC secret for a number, under the label of its direction.
 fn secret(mac: Mac, refresh: u8, label: &[u8], number: u16, name: &[u8]) {
     let secret = session::SECRET;
     let server = session::SERVER_RANDOM;
     let client = session::CLIENT_RANDOM;
     let first = keys::key_number(refresh, number);
     let seed = [(first / 256 % 256) as u8, (first % 256) as u8];
-    let mut out = [0u8; 20];
+    let mut out = [0u8; Mac::SECRET_SIZE];
     digest::prf(&secret, label, &seed, &server, &client, &mut out);
     line(mac, name, &out);
 }

@@ -4,6 +4,7 @@ ghost use mathlib.Core.Path.{_≡_};
 ghost use Rattle.digest.specs.Hmac.{keyOf};
 ghost use Rattle.record.specs.Keys.{keyNumber, macSecret};
 use digest::Key;
+use digest::Mac;
 
 // The first number of the run of 2^refresh numbers that `number` is in. Above 15 there is one run.
 pub fn key_number(refresh: u8, number: u16) -> u16
@@ -36,7 +37,7 @@ pub fn derived(secret: &[u8], label: &[u8], first: u16, server: &[u8], client: &
     ensures { λ r. ⌜ r ≡ keyOf (macSecret (now (secret .entry)) (now (label .entry)) first (now (server .entry)) (now (client .entry))) ⌝ }
 {
     let seed = [(first / 256 % 256) as u8, (first % 256) as u8];
-    let mut out = [0u8; 20];
+    let mut out = [0u8; Mac::SECRET_SIZE];
     digest::prf(secret, label, &seed, server, client, &mut out);
     Key::new(&out)
 }

@@ -269,7 +269,7 @@ fn expansions() {
 }
 
 fn expansion(out: &mut [u8], name: &[u8], published: &[u8]) {
-    let label = digest::Mac::CLIENT_EXPANSION;
+    let label = digest::Mac::client_expansion();
     digest::prf(
         b"0123456789:;<=>?@ABC",
         &label,
