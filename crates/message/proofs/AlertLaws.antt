@@ -5,14 +5,15 @@ use Prim.Native.Nat.{ℕ, _+_, _*_, _/_, _%_, _^_, _<_}
 use native.Mathlib.Omega.{arith}
 use native.Mathlib.Nat.{div-div-eq-div-mul, div-add-mod'}
 use lib.ListN.{length, getD}
+use borrow.Author.Tests.{ne-eqb}
 use Rattle.digest.specs.Bytes.{wordAt, bytes4}
-use Rattle.message.specs.Alert.{levelNumber, levelOf, descriptionNumber, among, sortedOf, leveled, alertOf, alertBytes}
+use Rattle.message.specs.Alert.{levelNumber, levelOf, descriptionNumber, among, sortedOf, leveled, alertOf, alertBytes, alertNumber}
 use Rattle.message.specs.declared.alert.Level.{Level}
 use Rattle.message.specs.declared.alert.Level.the-variants.{Warning, Critical, Fatal}
 use Rattle.message.specs.declared.alert.Graded.the-variants.{Is}
 use Rattle.message.specs.declared.alert.Description.{Description}
 use Rattle.message.specs.declared.alert.Description.the-variants.{ConnectionCloseNotify, SessionCloseNotify, NoConnection, UnexpectedMessage, TimeRequired, BadRecordMac, DecryptionFailed, RecordOverflow, DecompressionFailure, HandshakeFailure, BadCertificate, UnsupportedCertificate, CertificateRevoked, CertificateExpired, CertificateUnknown, IllegalParameter, UnknownCa, AccessDenied, DecodeError, DecryptError, UnknownKeyId, DisabledKeyId, KeyExchangeDisabled, SessionNotReady, UnknownParameterIndex, DuplicateFinishedReceived, ExportRestriction, ProtocolVersion, InsufficientSecurity, InternalError, UserCanceled, NoRenegotiation}
-use Rattle.message.specs.declared.alert.Sorted.the-variants.{Assigned}
+use Rattle.message.specs.declared.alert.Sorted.the-variants.{Assigned, Unassigned}
 use Rattle.message.specs.declared.alert.Reading.the-variants.{WellFormed}
 
 pub level-back : (l : Level) → levelOf (levelNumber l) ≡ Is l
@@ -77,3 +78,20 @@ pub alert-back : (l : Level) (d : Description) (n : ℕ) → n < 4294967296
     → alertOf (alertBytes l d n) ≡ WellFormed (record { level = l; description = d; checksum = n })
 unfolding alertOf wordAt
 alert-back l d n h = rw (level-back l, description-back d, word-back n h) refl
+
+-- the refusal numbers: 0 for what was written, 12 for bytes of another length
+pub alert-number : (l : Level) (d : Description) (n : ℕ) → n < 4294967296 → alertNumber (alertOf (alertBytes l d n)) ≡ 0
+alert-number l d n h = ap alertNumber (alert-back l d n h)
+
+pub alert-malformed : (s : List ℕ) → (length s ≡ 6 → ⊥) → alertNumber (alertOf s) ≡ 12
+unfolding alertOf
+alert-malformed s h = rw (ne-eqb (length s) 6 h) refl
+
+-- at the edges of the list in 10.2
+pub sorted-57 : (sortedOf 57 ≡ Assigned DuplicateFinishedReceived) × (sortedOf 58 ≡ Unassigned)
+unfolding sortedOf among
+sorted-57 = (refl, refl)
+
+pub sorted-100 : (sortedOf 100 ≡ Assigned NoRenegotiation) × (sortedOf 101 ≡ Unassigned)
+unfolding sortedOf among
+sorted-100 = (refl, refl)

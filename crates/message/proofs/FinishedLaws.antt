@@ -12,10 +12,11 @@ use borrow.Author.Tests.{eq-eqb}
 use Rattle.digest.specs.Mac.{sameBytes}
 use Rattle.message.specs.Field.{partOf}
 use Rattle.message.specs.Handshake.{fills, finished}
-use Rattle.message.specs.Finished.{finishedOf, judgedOf}
+use Rattle.message.specs.Finished.{finishedOf, judgedOf, verifiedNumber}
 use Rattle.message.specs.declared.finished.Verified.{Verified}
 use Rattle.message.specs.declared.finished.Verified.the-variants.{Right, Wrong}
 use Rattle.digest.specs.Pick.{pick}
+use Rattle.digest.proofs.Same.{same-self, same-equal, differ-same}
 use Rattle.message.proofs.Written.{Filled, fills-of}
 
 module _ (v : List ℕ) (e : length v ≡ 12) where
@@ -33,10 +34,19 @@ module _ (v : List ℕ) (e : length v ≡ 12) where
   unfolding judgedOf
   finished-judged w = rw (eq-eqb (length (finishedOf v)) 15 finished-size, finished-fills, finished-part) refl
 
-same-self : (v : List ℕ) → sameBytes v v ≡ true
-unfolding sameBytes
-same-self [] = refl
-same-self (x ∷ v) = rw (eq-eqb x x refl) (same-self v)
-
 pub finished-right : (v : List ℕ) → length v ≡ 12 → judgedOf (finishedOf v) v ≡ Right
 finished-right v e = finished-judged v e v ∙ rw (same-self v) refl
+
+pub finished-alone : (v w : List ℕ) → length v ≡ 12 → judgedOf (finishedOf v) w ≡ Right → v ≡ w
+finished-alone v w e h = go (sameBytes v w) refl (sym (finished-judged v e w) ∙ h)
+  where
+    go : (b : Bool) → sameBytes v w ≡ b → pick b Right Wrong ≡ Right → v ≡ w
+    go true k z = same-equal v w k
+    go false k z = let y : _≡_ {A = ℕ} 0 1 = cc in absurd (omega arith)
+
+-- the refusal numbers of the two
+pub right-number : (v : List ℕ) → length v ≡ 12 → verifiedNumber (judgedOf (finishedOf v) v) ≡ 0
+right-number v e = ap verifiedNumber (finished-right v e)
+
+pub wrong-number : (v w : List ℕ) → length v ≡ 12 → (v ≡ w → ⊥) → verifiedNumber (judgedOf (finishedOf v) w) ≡ 17
+wrong-number v w e h = ap verifiedNumber (finished-judged v e w) ∙ rw (differ-same v w h) refl

@@ -1,4 +1,4 @@
--- What an accepted hello is sure to have: its random, at the places 4 to 19, and at most 256 bytes.
+-- How long an accepted hello is: at least 20 bytes, so that its random, at the places 4 to 19, is whole; at most 256.
 use mathlib.Core.Path.{_≡_, refl, sym, _∙_, ap}
 use mathlib.Core.List.{List}
 use Prim.Native.Nat.{ℕ, _+_, _≤_}

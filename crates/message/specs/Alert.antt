@@ -90,3 +90,8 @@ alertOf s =
 
 abbrev pub alertBytes : Level → Description → ℕ → List ℕ
 alertBytes level d checksum = levelNumber level ∷ descriptionNumber d ∷ bytes4 checksum
+
+-- 01, Refusal numbers: 12, malformed content; 0 where it is an alert
+abbrev pub alertNumber : Reading → ℕ
+alertNumber (WellFormed alert) = 0
+alertNumber Malformed = 12

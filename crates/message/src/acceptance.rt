@@ -122,15 +122,15 @@ pub fn accept(
 fn first_fit(suites: &[u8]) -> u8
     ensures { λ r. ⌜ r ≡ firstFit (now (suites .entry)) ⌝ }
 {
-    let mut i: usize = 0;
-    while i < suites.len() {
-        if suites.len() - i < 2 {
+    let mut at: usize = 0;
+    while at < suites.len() {
+        if suites.len() - at < 2 {
             return 0;
         }
-        if fits(suites[i], suites[i + 1]) {
-            return suites[i + 1];
+        if fits(suites[at], suites[at + 1]) {
+            return suites[at + 1];
         }
-        i += 2;
+        at += 2;
     }
     0
 }

@@ -11,3 +11,4 @@ pub mod Covering
 pub mod RoundTrip
 pub mod CasesHold
 pub mod Coincide
+pub mod Edges

@@ -109,7 +109,7 @@ unfolding recordOf headerOf
 fragment-back true protected content number fragment tail = take-append-seam fragment tail
 fragment-back false protected content number fragment tail = take-append-seam fragment tail
 
--- a protected record of ours is read back, and its fragment is genuine
+-- a protected record of ours, without a length, is read back; its fragment is the content and the code
 pub read-protected : (k : List ℕ) (mac : Mac) (content : Content) (number : ℕ) (body : List ℕ) → number < 65536 → readOf (protectedBy (hmac k) (codeSize mac) false content number body) ≡ Sound (readBack false true content number (length body + codeSize mac))
 unfolding protectedBy
 read-protected k mac content number body h =

@@ -12,10 +12,10 @@ use Rattle.message.proofs.acceptance.first_fit.Statement.{statement}
 use Rattle.message.proofs.acceptance.first_fit.Tie as tie
 
 abbrev Inv-loop : tie.InvT-loop
-Inv-loop suites i₀ i = firstFit suites ≡ firstFit (drop i suites)
+Inv-loop suites at₀ at = firstFit suites ≡ firstFit (drop at suites)
 
 abbrev μ-loop : tie.MeasureT-loop
-μ-loop suites i₀ i = length suites - i
+μ-loop suites at₀ at = length suites - at
 
 loop-holds : tie.Need-loop-holds Inv-loop μ-loop
 loop-holds c = refl
@@ -26,7 +26,7 @@ sub-if1 c = omega arith
 returns : tie.Need-returns Inv-loop μ-loop
 returns c =
     let s = now (c .before .before .before .before .args .suites) in
-    sym (c .before .before .loop .inv ∙ fit-odd s (c .before .before .loop .i) (omega arith))
+    sym (c .before .before .loop .inv ∙ fit-odd s (c .before .before .loop .at) (omega arith))
 
 shared-slice-read-fits : tie.Need-shared-slice-read-fits Inv-loop μ-loop
 shared-slice-read-fits c = omega arith
@@ -51,10 +51,10 @@ returns-2 c =
     let s = now (c .before .before .before .before .before .before .before .before .before .args .suites) in
     sym
     (c .before .before .before .before .before .before .before .loop .inv
-    ∙ fit-here s (c .before .before .before .before .before .before .before .loop .i) (omega arith) (sym (c .before .before .fits2 .ensures) ∙ c .before .if2 .taken))
+    ∙ fit-here s (c .before .before .before .before .before .before .before .loop .at) (omega arith) (sym (c .before .before .fits2 .ensures) ∙ c .before .if2 .taken))
 
-add-i : tie.Need-add-i Inv-loop μ-loop
-add-i c = omega arith
+add-at : tie.Need-add-at Inv-loop μ-loop
+add-at c = omega arith
 
 loop-less : tie.Need-loop-less Inv-loop μ-loop
 loop-less c = omega arith
@@ -63,12 +63,12 @@ loop-again : tie.Need-loop-again Inv-loop μ-loop
 loop-again c =
     let s = now (c .before .before .before .before .before .before .before .before .args .suites) in
     c .before .before .before .before .before .before .loop .inv
-    ∙ fit-later s (c .before .before .before .before .before .before .loop .i) (omega arith) (sym (c .before .fits2 .ensures) ∙ c .if2 .left)
+    ∙ fit-later s (c .before .before .before .before .before .before .loop .at) (omega arith) (sym (c .before .fits2 .ensures) ∙ c .if2 .left)
 
 returns-3 : tie.Need-returns-3 Inv-loop μ-loop
 returns-3 c =
     let s = now (c .before .before .before .args .suites) in
-    sym (c .before .loop .inv ∙ fit-none s (c .before .loop .i) (omega arith))
+    sym (c .before .loop .inv ∙ fit-none s (c .before .loop .at) (omega arith))
 
 pub first-fit-spec : {M : Type 1} → statement M
 first-fit-spec =
@@ -86,7 +86,7 @@ first-fit-spec =
     add-result
     shared-slice-read-result
     returns-2
-    add-i
+    add-at
     loop-less
     loop-again
     returns-3)
