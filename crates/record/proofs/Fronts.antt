@@ -4,21 +4,13 @@ use mathlib.Core.Bool.{Bool, true, false}
 use mathlib.Core.List.{List, _∷_, _++_, append-assoc}
 use Prim.Native.Nat.{ℕ, _+_, _/_, _%_, _≤_, _<_}
 use native.Mathlib.Omega.{arith}
-use lib.ListN.{length, take, drop, set, length-append, length-drop}
-use lib.Seq.{paste, take-length, sets, sets-eq, take-append-seam, drop-append-add, drop-drop, length-take-le}
+use lib.ListN.{length, drop, set, length-append}
+use lib.Seq.{sets, sets-eq, take-append-seam, drop-append-add, drop-drop}
 use lib.Dec.{lit≤}
 use borrow.Author.Tests.{le-leb, lt-leb}
 use Rattle.digest.specs.Bytes.{laidOver, bytes2}
 use Rattle.record.specs.Written.{headerOf, headerSize, recordOf, writtenOf, countOf, byteFor}
 use Rattle.record.specs.declared.header.Content.{Content}
-
-pub laid-paste : (d : List ℕ) (at : ℕ) (s : List ℕ) → paste d at s (length s) ≡ laidOver d at s
-unfolding laidOver
-laid-paste d at s = ap (λ (x : List ℕ). take at d ++ x ++ drop (at + length s) d) (take-length s)
-
-pub length-laid : (d : List ℕ) (at : ℕ) (s : List ℕ) → at + length s ≤ length d → length (laidOver d at s) ≡ length d
-unfolding laidOver
-length-laid d at s h = simp (length-append, length-drop) (omega (arith, length-take-le at d (omega arith)))
 
 -- b behind a
 pub laid-next : (d a b : List ℕ) → laidOver (laidOver d 0 a) (length a) b ≡ laidOver d 0 (a ++ b)

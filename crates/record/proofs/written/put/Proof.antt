@@ -8,7 +8,7 @@ use native.Mathlib.Numerals.{add-one}
 use native.Mathlib.Omega.{arith}
 use lib.ListN.{length, getD, set, length-set}
 use lib.Seq.{paste, paste-zero, paste-suc}
-use Rattle.record.proofs.Fronts.{laid-paste}
+use Rattle.digest.proofs.Lay.{laid-paste}
 use Rattle.record.proofs.written.put.Statement.{statement}
 use Rattle.record.proofs.written.put.Tie as tie
 
