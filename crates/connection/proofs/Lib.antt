@@ -1,0 +1,6 @@
+-- Laws that belong to no one function.
+pub mod Unsealing
+pub mod Running
+pub mod Filling
+pub mod Sending
+pub mod Replying

@@ -1,0 +1,52 @@
+-- `greet::change`: one byte 1, or malformed.
+use mathlib.Core.Path.{_≡_, ap, _∙_}
+use Rattle.digest.proofs.Picks.{picks}
+use borrow.Author.Tests.{not-true, not-false}
+use Rattle.record.specs.Window.{freshWindow}
+use Rattle.connection.specs.Clear.{changedBy}
+use Rattle.connection.specs.Answer.{judged}
+use Rattle.connection.specs.Handshake.{withState, withWindow}
+use Rattle.connection.specs.declared.state.State.the-variants as S
+use Rattle.connection.specs.declared.answer.Answer.the-variants.{Spec}
+use Rattle.connection.specs.declared.answer.Judged.{Judged}
+use borrow.Author.Needs.{needs}
+use Rattle.connection.proofs.greet.change.Statement.{statement}
+use Rattle.connection.proofs.greet.change.Tie as tie
+
+is-change-requires : tie.Need-is-change-requires
+is-change-requires c κs = search needs
+
+refuse-requires : tie.Need-refuse-requires
+refuse-requires c κs = search needs
+
+returns : tie.Need-returns
+unfolding changedBy
+returns c = search (picks, not-true)
+
+fresh-requires : tie.Need-fresh-requires
+fresh-requires c κs = search needs
+
+with-window-requires : tie.Need-with-window-requires
+with-window-requires c κs = search needs
+
+with-state-requires : tie.Need-with-state-requires
+with-state-requires c κs = search needs
+
+returns-2 : tie.Need-returns-2
+unfolding changedBy
+returns-2 c = let h = c .before .before .before .before .before .before .args .h in
+    let left = c .with-state .ensures ∙ ap (λ x. withState x S.Spec) (c .before .with-window .ensures ∙ ap (withWindow h) (c .before .before .fresh .ensures .0)) in
+    let e : _≡_ {A = Judged} (record { answer = Spec; handshake = c .with-state .result }) (judged Spec (withState (withWindow h freshWindow) S.Spec)) = λ i. record { answer = Spec; handshake = left i } in
+    search (picks, not-false)
+
+pub change-spec : {M : Type 1} → statement M
+change-spec =
+    tie.close
+    (tie.spec
+    is-change-requires
+    refuse-requires
+    returns
+    fresh-requires
+    with-window-requires
+    with-state-requires
+    returns-2)

@@ -1,0 +1,33 @@
+-- `greet::greet_again`: the kept hello again, or another.
+use mathlib.Core.Path.{_≡_}
+use Rattle.digest.proofs.Picks.{picks}
+use Rattle.connection.specs.Clear.{greetedAgain, keptSize}
+use Rattle.connection.specs.Answer.{judged}
+use Rattle.connection.specs.declared.answer.Answer.the-variants.{Resent}
+use Rattle.connection.specs.declared.answer.Judged.{Judged}
+use borrow.Author.Needs.{needs}
+use Rattle.connection.proofs.greet.greet_again.Statement.{statement}
+use Rattle.connection.proofs.greet.greet_again.Tie as tie
+
+same-hello-requires : tie.Need-same-hello-requires
+same-hello-requires c κs = search needs
+
+kept-size-requires : tie.Need-kept-size-requires
+kept-size-requires c κs = search needs
+
+returns : tie.Need-returns
+unfolding greetedAgain
+returns c = let h = c .before .before .before .before .before .args .h in
+    let e : _≡_ {A = Judged} (record { answer = Resent (c .kept-size .result); handshake = h }) (judged (Resent (keptSize (h .kept))) h) = λ i. record { answer = Resent (c .kept-size .ensures i); handshake = h } in
+    search picks
+
+greet-requires : tie.Need-greet-requires
+greet-requires c κs = search needs
+
+returns-2 : tie.Need-returns-2
+unfolding greetedAgain
+returns-2 c = search picks
+
+pub greet-again-spec : {M : Type 1} → statement M
+greet-again-spec =
+    tie.close (tie.spec same-hello-requires kept-size-requires returns greet-requires returns-2)

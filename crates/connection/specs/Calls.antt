@@ -1,0 +1,55 @@
+-- Fresh, close and start again (01, "Refusal numbers": "Start again: 7, then 8 unless Closed. Close: 7. Fresh connection: 16
+-- only.").
+use mathlib.Core.List.{List}
+use Prim.Native.Nat.{ℕ}
+use lib.ListN.{length}
+use lib.Dec.{eqb}
+use Rattle.digest.specs.Pick.{pick}
+use Rattle.connection.specs.Handshake.{newHandshake, blankHandshake, withState, reopened}
+use Rattle.connection.specs.declared.state.State.{State}
+use Rattle.connection.specs.declared.state.State.the-variants as S
+use Rattle.connection.specs.declared.refusal.Refusal.the-variants.{Ended, NotAllowed, Argument}
+use Rattle.connection.specs.declared.handshake.Session.{Session}
+use Rattle.connection.specs.declared.handshake.Handshake.{Handshake}
+use Rattle.connection.specs.declared.calls.Connection.{Connection}
+use Rattle.connection.specs.declared.calls.Outcome.{Outcome}
+use Rattle.connection.specs.declared.calls.Outcome.the-variants.{Done, Refused}
+use Rattle.connection.specs.declared.calls.Called.{Called}
+
+-- an outcome, and the connection that it leaves
+abbrev pub leaving : Outcome → Handshake → Called
+leaving outcome h = record { outcome = outcome; connection = record { handshake = h } }
+
+abbrev pub sessionOf : List ℕ → List ℕ → Session
+sessionOf id secret = record { id = id; secret = secret }
+
+-- 16: "identifier not 8, secret not 20". What stands beside the refusal is blank and Barred.
+unfoldable pub freshOf : List ℕ → List ℕ → Called
+freshOf id secret =
+    pick (eqb (length id) 8)
+    (pick (eqb (length secret) 20) (leaving Done (newHandshake (sessionOf id secret) S.Idle)) (leaving (Refused Argument) blankHandshake))
+    (leaving (Refused Argument) blankHandshake)
+
+-- "Close leads anywhere but Barred to Closed."
+abbrev pub closedIn : Handshake → State → Called
+closedIn h S.Idle = leaving Done (withState h S.Closed)
+closedIn h S.Replied = leaving Done (withState h S.Closed)
+closedIn h S.Spec = leaving Done (withState h S.Closed)
+closedIn h S.Open = leaving Done (withState h S.Closed)
+closedIn h S.Closed = leaving Done (withState h S.Closed)
+closedIn h S.Barred = leaving (Refused Ended) h
+
+abbrev pub closedOf : Connection → Called
+closedOf c = closedIn (c .handshake) (c .handshake .state)
+
+-- "Start again leads from Closed to Idle."
+abbrev pub startedIn : Handshake → State → Called
+startedIn h S.Idle = leaving (Refused NotAllowed) h
+startedIn h S.Replied = leaving (Refused NotAllowed) h
+startedIn h S.Spec = leaving (Refused NotAllowed) h
+startedIn h S.Open = leaving (Refused NotAllowed) h
+startedIn h S.Closed = leaving Done (reopened h)
+startedIn h S.Barred = leaving (Refused Ended) h
+
+abbrev pub startedOf : Connection → Called
+startedOf c = startedIn (c .handshake) (c .handshake .state)

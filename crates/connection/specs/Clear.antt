@@ -1,0 +1,69 @@
+-- Clear records (01, "Handshake" and "Alerts").
+use mathlib.Core.Bool.{Bool}
+use mathlib.Core.List.{List}
+use Prim.Native.Nat.{ℕ}
+use lib.ListN.{length, take}
+use lib.Dec.{eqb}
+use Rattle.digest.specs.Pick.{pick}
+use Rattle.digest.specs.Mac.{sameBytes}
+use Rattle.record.specs.Window.{freshWindow}
+use Rattle.message.specs.Acceptance.{heardOf}
+use Rattle.message.specs.Alert.{alertOf}
+use Rattle.message.specs.Change.{isChange}
+use Rattle.message.specs.declared.acceptance.Heard.{Heard}
+use Rattle.message.specs.declared.acceptance.Heard.the-variants as H
+use Rattle.message.specs.declared.alert.Alert.{Alert}
+use Rattle.message.specs.declared.alert.Level.{Level}
+use Rattle.message.specs.declared.alert.Level.the-variants as L
+use Rattle.message.specs.declared.alert.Description.{Description}
+use Rattle.message.specs.declared.alert.Reading.{Reading}
+use Rattle.message.specs.declared.alert.Reading.the-variants as R
+use Rattle.connection.specs.Handshake.{withState, withWindow, keptHello, keptReply}
+use Rattle.connection.specs.Answer.{judged, refusing}
+use Rattle.connection.specs.Reply.{replyTo, answeredWith}
+use Rattle.connection.specs.declared.state.State.the-variants as S
+use Rattle.connection.specs.declared.refusal.Refusal.the-variants.{Malformed, Unacceptable, Checksum}
+use Rattle.connection.specs.declared.answer.Answer.the-variants.{Reply, Resent, Spec, Warning, Critical, Fatal}
+use Rattle.connection.specs.declared.answer.Judged.{Judged}
+use Rattle.connection.specs.declared.handshake.Handshake.{Handshake}
+use Rattle.connection.specs.declared.handshake.Kept.{Kept}
+
+-- "Idle, clear ClientHello: reply; Replied". A hello that is malformed is 12, one that is not acceptable 13.
+abbrev pub heardTo : Handshake → List ℕ → List ℕ → Heard → Judged
+heardTo h random m (H.Accepted plan) = judged (Reply (length (replyTo (h .session) random m plan))) (answeredWith h random m plan)
+heardTo h random m (H.Unacceptable condition) = refusing Unacceptable h
+heardTo h random m (H.Malformed fault) = refusing Malformed h
+
+unfoldable pub greetedBy : Handshake → List ℕ → List ℕ → Judged
+greetedBy h random m = heardTo h random m (heardOf m (h .session .id))
+
+-- "Replied, Spec: the same ClientHello message: the same reply bytes; no change"
+abbrev pub isKept : Kept → List ℕ → Bool
+isKept kept m = sameBytes m (take (kept .heard) (kept .hello))
+
+abbrev pub keptSize : Kept → ℕ
+keptSize kept = length (take (kept .size) (kept .reply))
+
+-- ".. another acceptable ClientHello: new reply; Replied"
+unfoldable pub greetedAgain : Handshake → List ℕ → List ℕ → Judged
+greetedAgain h random m = pick (isKept (h .kept) m) (judged (Resent (keptSize (h .kept))) h) (greetedBy h random m)
+
+-- "Replied: clear change cipher spec (one byte 1): Spec, window empty"
+unfoldable pub changedBy : Handshake → List ℕ → Judged
+changedBy h fragment =
+    pick (isChange fragment) (judged Spec (withState (withWindow h freshWindow) S.Spec)) (refusing Malformed h)
+
+-- "Level alone decides: warning changes nothing, critical closes the connection, a clear fatal alert closes only."
+abbrev pub byLevel : Handshake → Level → Description → Judged
+byLevel h L.Warning description = judged (Warning description) h
+byLevel h L.Critical description = judged (Critical description) (withState h S.Closed)
+byLevel h L.Fatal description = judged (Fatal description) (withState h S.Closed)
+
+-- "A clear alert must carry the checksum of the last record that we sent": 12, then 14
+abbrev pub heardBy : Handshake → Reading → Judged
+heardBy h R.Malformed = refusing Malformed h
+heardBy h (R.WellFormed a) =
+    pick (eqb (a .checksum) (h .sending .last)) (byLevel h (a .level) (a .description)) (refusing Checksum h)
+
+unfoldable pub heardAlert : Handshake → List ℕ → Judged
+heardAlert h fragment = heardBy h (alertOf fragment)

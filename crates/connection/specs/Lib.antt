@@ -1,0 +1,14 @@
+-- The definitions of layer 4, the connection.
+pub mod Refusal
+pub mod State
+pub mod Handshake
+pub mod Answer
+pub mod Keys
+pub mod Reply
+pub mod Clear
+pub mod Sealed
+pub mod Judge
+pub mod Receive
+pub mod Send
+pub mod Calls
+pub mod Tally

@@ -1,0 +1,102 @@
+-- Protected records (01, "Handshake", "Alerts" and "The record on the wire"): "checked in this order: code, too old,
+-- repeated, content".
+use mathlib.Core.Bool.{Bool}
+use mathlib.Core.List.{List}
+use Prim.Native.Nat.{ℕ, _-_}
+use lib.ListN.{length, take}
+use lib.Dec.{eqb}
+use Rattle.digest.specs.Pick.{pick}
+use Rattle.digest.specs.Hmac.{hmac}
+use Rattle.digest.specs.Mac.{sizeOf, clientExpansion}
+use Rattle.record.specs.Code.{genuineBy}
+use Rattle.record.specs.Window.{acceptOf}
+use Rattle.record.specs.declared.window.Acceptance.{Acceptance}
+use Rattle.record.specs.declared.window.Acceptance.the-variants as A
+use Rattle.message.specs.Alert.{alertOf}
+use Rattle.message.specs.Finished.{judgedOf}
+use Rattle.message.specs.declared.alert.Level.{Level}
+use Rattle.message.specs.declared.alert.Level.the-variants as L
+use Rattle.message.specs.declared.alert.Description.{Description}
+use Rattle.message.specs.declared.alert.Reading.{Reading}
+use Rattle.message.specs.declared.alert.Reading.the-variants as R
+use Rattle.message.specs.declared.finished.Verified.{Verified}
+use Rattle.message.specs.declared.finished.Verified.the-variants as F
+use Rattle.connection.specs.Handshake.{withState, withWindow, barred}
+use Rattle.connection.specs.Keys.{secretFor}
+use Rattle.connection.specs.Answer.{judged, refusing}
+use Rattle.connection.specs.declared.state.State.{State}
+use Rattle.connection.specs.declared.state.State.the-variants as S
+use Rattle.connection.specs.declared.state.Kind.{Kind}
+use Rattle.connection.specs.declared.state.Kind.the-variants.{ClearHello, ClearChange, ClearAlert, OtherClear, SealedChange, SealedAlert, SealedHandshake, SealedData}
+use Rattle.connection.specs.declared.refusal.Refusal.the-variants.{Forged, TooOld, Repeated, Malformed, WrongFinished}
+use Rattle.connection.specs.declared.answer.Answer.the-variants as W
+use Rattle.connection.specs.declared.answer.Judged.{Judged}
+use Rattle.connection.specs.declared.handshake.Handshake.{Handshake}
+
+-- a Finished with the right contents: "Spec: Open"; "Open: again, Open kept"
+abbrev pub opening : Handshake → Judged
+opening h = judged W.Open (withState h S.Open)
+
+abbrev pub finishedIn : Handshake → State → Judged
+finishedIn h S.Idle = opening h
+finishedIn h S.Replied = opening h
+finishedIn h S.Spec = opening h
+finishedIn h S.Open = judged W.Again h
+finishedIn h S.Closed = opening h
+finishedIn h S.Barred = opening h
+
+-- 12: "a message other than Finished under protection"; 17: "genuine Finished with wrong contents", which also closes
+abbrev pub verifiedTo : Handshake → Verified → Judged
+verifiedTo h F.Right = finishedIn h (h .state)
+verifiedTo h F.Wrong = judged (W.Refused WrongFinished) (withState h S.Closed)
+verifiedTo h F.Malformed = refusing Malformed h
+
+unfoldable pub verifiedBy : Handshake → List ℕ → Judged
+verifiedBy h content = verifiedTo h (judgedOf content (h .agreed .expected))
+
+-- "warning changes nothing beyond the mark of a protected one's number, critical closes the connection, fatal closes it
+-- and, if protected, bars the session"
+abbrev pub sealedLevel : Handshake → Level → Description → Judged
+sealedLevel h L.Warning description = judged (W.Warning description) h
+sealedLevel h L.Critical description = judged (W.Critical description) (withState h S.Closed)
+sealedLevel h L.Fatal description = judged (W.Barred description) (barred h)
+
+abbrev pub alertedTo : Handshake → Reading → Judged
+alertedTo h R.Malformed = refusing Malformed h
+alertedTo h (R.WellFormed a) = sealedLevel h (a .level) (a .description)
+
+unfoldable pub alertedBy : Handshake → List ℕ → Judged
+alertedBy h content = alertedTo h (alertOf content)
+
+-- 12: "empty data", "change cipher spec under protection"; the content stands at `at` in the datagram
+unfoldable pub contentBy : Handshake → Kind → ℕ → ℕ → List ℕ → Judged
+contentBy h SealedData number at content =
+    pick (eqb (length content) 0) (refusing Malformed h) (judged (W.Data number at (length content)) h)
+contentBy h SealedAlert number at content = alertedBy h content
+contentBy h SealedHandshake number at content = verifiedBy h content
+contentBy h SealedChange number at content = refusing Malformed h
+contentBy h ClearHello number at content = refusing Malformed h
+contentBy h ClearChange number at content = refusing Malformed h
+contentBy h ClearAlert number at content = refusing Malformed h
+contentBy h OtherClear number at content = refusing Malformed h
+
+-- "A genuine new record marks its number even if its content is then refused."
+abbrev pub windowedTo : Handshake → Kind → ℕ → ℕ → List ℕ → Acceptance → Judged
+windowedTo h kind number at content A.TooOld = refusing TooOld h
+windowedTo h kind number at content A.Repeated = refusing Repeated h
+windowedTo h kind number at content (A.New window arrived) = contentBy (withWindow h window) kind number at content
+
+-- the code is right under the key for the record's own number
+abbrev pub genuineIn : Handshake → ℕ → ℕ → List ℕ → Bool
+genuineIn h byte number fragment =
+    genuineBy (hmac (secretFor h clientExpansion number)) (sizeOf (h .agreed .mac)) number byte fragment
+
+-- "Protected fragment: content, then the code."
+abbrev pub contentIn : Handshake → List ℕ → List ℕ
+contentIn h fragment = take (length fragment - sizeOf (h .agreed .mac)) fragment
+
+unfoldable pub unsealedBy : Handshake → Kind → ℕ → ℕ → ℕ → List ℕ → Judged
+unsealedBy h kind byte number at fragment =
+    pick (genuineIn h byte number fragment)
+    (windowedTo h kind number at (contentIn h fragment) (acceptOf 32 (h .window) number))
+    (refusing Forged h)

@@ -1,0 +1,172 @@
+-- Send data and send an alert (01, "Refusal numbers": "Send: 16, 7, 8, 15, 6. Data is sent only in Open, protected alerts in
+-- Replied, Spec and Open, clear ones in Replied and Spec.").
+use mathlib.Core.Bool.{Bool, true, false}
+use mathlib.Core.List.{List}
+use Prim.Native.Nat.{ℕ, _+_}
+use lib.ListN.{length}
+use lib.Dec.{eqb, ltb}
+use Rattle.digest.specs.Pick.{pick}
+use Rattle.digest.specs.Bytes.{wordAt, laidOver}
+use Rattle.digest.specs.Hmac.{hmac}
+use Rattle.digest.specs.Mac.{sizeOf, serverExpansion}
+use Rattle.record.specs.Checksum.{checksumOf}
+use Rattle.record.specs.Written.{recordOf}
+use Rattle.record.specs.Code.{protectedBy}
+use Rattle.record.specs.declared.header.Content.{Content}
+use Rattle.record.specs.declared.header.Content.the-variants as C
+use Rattle.message.specs.Alert.{levelOf, sortedOf, alertBytes}
+use Rattle.message.specs.declared.alert.Level.{Level}
+use Rattle.message.specs.declared.alert.Description.{Description}
+use Rattle.message.specs.declared.alert.Graded.{Graded}
+use Rattle.message.specs.declared.alert.Graded.the-variants as G
+use Rattle.message.specs.declared.alert.Sorted.{Sorted}
+use Rattle.message.specs.declared.alert.Sorted.the-variants as D
+use Rattle.connection.specs.Handshake.{withSending}
+use Rattle.connection.specs.Keys.{secretFor}
+use Rattle.connection.specs.declared.state.State.{State}
+use Rattle.connection.specs.declared.state.State.the-variants as S
+use Rattle.connection.specs.declared.refusal.Refusal.{Refusal}
+use Rattle.connection.specs.declared.refusal.Refusal.the-variants.{Room, Ended, NotAllowed, Spent, Argument}
+use Rattle.connection.specs.declared.handshake.Handshake.{Handshake}
+use Rattle.connection.specs.declared.calls.Connection.{Connection}
+use Rattle.connection.specs.declared.calls.Outcome.{Outcome}
+use Rattle.connection.specs.declared.calls.Outcome.the-variants.{Done, Refused}
+use Rattle.connection.specs.declared.send.Sent.{Sent}
+
+-- the first refusal, or the next test
+abbrev pub andThen : Outcome → Outcome → Outcome
+andThen Done next = next
+andThen (Refused refusal) next = Refused refusal
+
+-- 7 and 8, by the state
+abbrev pub mayData : State → Outcome
+mayData S.Idle = Refused NotAllowed
+mayData S.Replied = Refused NotAllowed
+mayData S.Spec = Refused NotAllowed
+mayData S.Open = Done
+mayData S.Closed = Refused Ended
+mayData S.Barred = Refused Ended
+
+abbrev pub maySeal : State → Outcome
+maySeal S.Idle = Refused NotAllowed
+maySeal S.Replied = Done
+maySeal S.Spec = Done
+maySeal S.Open = Done
+maySeal S.Closed = Refused Ended
+maySeal S.Barred = Refused Ended
+
+abbrev pub mayClear : State → Outcome
+mayClear S.Idle = Refused NotAllowed
+mayClear S.Replied = Done
+mayClear S.Spec = Done
+mayClear S.Open = Refused NotAllowed
+mayClear S.Closed = Refused Ended
+mayClear S.Barred = Refused Ended
+
+-- 15, "sending number spent": "sending never passes 65,535"; then 6, "under the record's size for send"
+unfoldable pub numberedBy : ℕ → ℕ → ℕ → Outcome
+numberedBy number size room = pick (ltb 65535 number) (Refused Spent) (pick (ltb room size) (Refused Room) Done)
+
+-- 16: "data not 1 to 1,300"; 7, 8; 15; 6
+unfoldable pub dataRefused : State → ℕ → ℕ → ℕ → ℕ → Outcome
+dataRefused state size number code room =
+    pick (eqb size 0) (Refused Argument)
+    (pick (ltb 1300 size) (Refused Argument)
+    (andThen (mayData state) (numberedBy number (3 + size + code) room)))
+
+-- 16: "record lent for an alert over 1,400"; 7, 8; 15; 6. An alert is six bytes.
+unfoldable pub alertRefused : Outcome → ℕ → ℕ → ℕ → ℕ → Outcome
+alertRefused may lent number code room =
+    pick (ltb 1400 lent) (Refused Argument) (andThen may (numberedBy number (9 + code) room))
+
+-- "A refusal changes neither buffer nor connection"
+abbrev pub unsent : Connection → Refusal → Sent
+unsent c refusal = record { outcome = Refused refusal; written = 0; connection = c }
+
+abbrev pub doneWith : ℕ → Handshake → Sent
+doneWith written h = record { outcome = Done; written = written; connection = record { handshake = h } }
+
+-- "A success writes the counted bytes at the front"
+abbrev pub done : List ℕ → Handshake → Sent
+done bytes h = doneWith (length bytes) h
+
+-- the next record of ours: protected, with the key of its own number; or clear. Each "as a datagram of one record without a
+-- length".
+unfoldable pub nextProtected : Handshake → Content → List ℕ → List ℕ
+nextProtected h content body =
+    protectedBy (hmac (secretFor h serverExpansion (h .sending .protected))) (sizeOf (h .agreed .mac)) false content (h .sending .protected) body
+
+unfoldable pub nextClear : Handshake → List ℕ → List ℕ
+nextClear h body = recordOf false false C.Alert (h .sending .clear) body
+
+-- Sending "changes only our number and our last sent record".
+abbrev pub afterProtected : Handshake → List ℕ → Handshake
+afterProtected h bytes =
+    withSending h (record { protected = h .sending .protected + 1; clear = h .sending .clear; last = wordAt (checksumOf bytes) 0 })
+
+abbrev pub afterClear : Handshake → List ℕ → Handshake
+afterClear h bytes =
+    withSending h (record { protected = h .sending .protected; clear = h .sending .clear + 1; last = wordAt (checksumOf bytes) 0 })
+
+-- a send that is refused, or its outcome; and what the output then holds
+abbrev pub sentTo : Connection → Sent → Outcome → Sent
+sentTo c success Done = success
+sentTo c success (Refused refusal) = unsent c refusal
+
+abbrev pub outputTo : List ℕ → List ℕ → Outcome → List ℕ
+outputTo out bytes Done = laidOver out 0 bytes
+outputTo out bytes (Refused refusal) = out
+
+-- send data
+abbrev pub dataOutcome : Handshake → ℕ → ℕ → Outcome
+dataOutcome h size room = dataRefused (h .state) size (h .sending .protected) (sizeOf (h .agreed .mac)) room
+
+unfoldable pub dataSent : Connection → List ℕ → ℕ → Sent
+dataSent c bytes room =
+    let next = nextProtected (c .handshake) C.Data bytes in
+    sentTo c (done next (afterProtected (c .handshake) next)) (dataOutcome (c .handshake) (length bytes) room)
+
+unfoldable pub dataOutput : Connection → List ℕ → List ℕ → List ℕ
+dataOutput c bytes out =
+    outputTo out (nextProtected (c .handshake) C.Data bytes) (dataOutcome (c .handshake) (length bytes) (length out))
+
+-- send an alert: "the caller says whether an alert goes out clear or protected, and lends the record that it answers"
+abbrev pub alertBody : Level → Description → List ℕ → List ℕ
+alertBody level description answered = alertBytes level description (wordAt (checksumOf answered) 0)
+
+abbrev pub alertOutcome : Bool → Handshake → ℕ → ℕ → Outcome
+alertOutcome true h lent room = alertRefused (maySeal (h .state)) lent (h .sending .protected) (sizeOf (h .agreed .mac)) room
+alertOutcome false h lent room = alertRefused (mayClear (h .state)) lent (h .sending .clear) 0 room
+
+abbrev pub nextAlert : Bool → Handshake → List ℕ → List ℕ
+nextAlert true h body = nextProtected h C.Alert body
+nextAlert false h body = nextClear h body
+
+abbrev pub afterAlert : Bool → Handshake → List ℕ → Handshake
+afterAlert true h bytes = afterProtected h bytes
+afterAlert false h bytes = afterClear h bytes
+
+-- 16: "level or description unknown"
+abbrev pub alertSentAs : Connection → Bool → List ℕ → ℕ → Graded → Sorted → Sent
+alertSentAs c sealed answered room (G.Is level) (D.Assigned description) =
+    let next = nextAlert sealed (c .handshake) (alertBody level description answered) in
+    sentTo c (done next (afterAlert sealed (c .handshake) next)) (alertOutcome sealed (c .handshake) (length answered) room)
+alertSentAs c sealed answered room (G.Is level) D.Unassigned = unsent c Argument
+alertSentAs c sealed answered room G.Unassigned (D.Assigned description) = unsent c Argument
+alertSentAs c sealed answered room G.Unassigned D.Unassigned = unsent c Argument
+
+unfoldable pub alertSent : Connection → Bool → ℕ → ℕ → List ℕ → ℕ → Sent
+alertSent c sealed level description answered room =
+    alertSentAs c sealed answered room (levelOf level) (sortedOf description)
+
+abbrev pub alertOutputAs : Connection → Bool → List ℕ → List ℕ → Graded → Sorted → List ℕ
+alertOutputAs c sealed answered out (G.Is level) (D.Assigned description) =
+    outputTo out (nextAlert sealed (c .handshake) (alertBody level description answered))
+    (alertOutcome sealed (c .handshake) (length answered) (length out))
+alertOutputAs c sealed answered out (G.Is level) D.Unassigned = out
+alertOutputAs c sealed answered out G.Unassigned (D.Assigned description) = out
+alertOutputAs c sealed answered out G.Unassigned D.Unassigned = out
+
+unfoldable pub alertOutput : Connection → Bool → ℕ → ℕ → List ℕ → List ℕ → List ℕ
+alertOutput c sealed level description answered out =
+    alertOutputAs c sealed answered out (levelOf level) (sortedOf description)

@@ -1,0 +1,152 @@
+// Protected records: code, then window, then content (01, "Handshake").
+ghost use Prim.Native.Nat.{ℕ};
+ghost use mathlib.Core.Path.{_≡_};
+ghost use lib.ListN.{length};
+ghost use Rattle.connection.specs.Sealed.{unsealedBy, contentBy, alertedBy, verifiedBy, finishedIn, opening};
+use crate::answer::Answer;
+use crate::answer::Judged;
+use crate::greet::refuse;
+use crate::handshake::Handshake;
+use crate::refusal::Refusal;
+use crate::state::Kind;
+use crate::state::State;
+use digest::Mac;
+use message::alert;
+use message::alert::Level;
+use message::finished;
+use message::finished::Verified;
+use record::code::genuine;
+use record::keys::record_key;
+use record::window::Acceptance;
+
+// A protected record of an allowed kind: its type byte, its number, and its fragment, which stands at `at`. The window is
+// looked at only after the code is right, and the key is that of the record's own number.
+pub(crate) fn unseal(
+    h: Handshake,
+    kind: Kind,
+    byte: u8,
+    number: u16,
+    at: usize,
+    fragment: &[u8],
+) -> Judged
+    ensures { λ r. ⌜ r ≡ unsealedBy h kind byte number at (now (fragment .entry)) ⌝ }
+{
+    let session = h.session;
+    let secret = session.secret;
+    let agreed = h.agreed;
+    let server = agreed.server;
+    let client = agreed.client;
+    let mac = agreed.mac;
+    let label = Mac::CLIENT_EXPANSION;
+    let key = record_key(&secret, &label, agreed.refresh, number, &server, &client);
+    if !genuine(key, mac, number, byte, fragment) {
+        return refuse(h, Refusal::Forged);
+    }
+    let end = fragment.len() - mac.size();
+    let window = h.window;
+    match window.accept(number) {
+        Acceptance::TooOld => refuse(h, Refusal::TooOld),
+        Acceptance::Repeated => refuse(h, Refusal::Repeated),
+        Acceptance::New(marked, _) => {
+            content(h.with_window(marked), kind, number, at, &fragment[..end])
+        }
+    }
+}
+
+// The content of a genuine new record, whose number is marked.
+fn content(h: Handshake, kind: Kind, number: u16, at: usize, content: &[u8]) -> Judged
+    ensures { λ r. ⌜ r ≡ contentBy h kind number at (now (content .entry)) ⌝ }
+{
+    match kind {
+        Kind::SealedData => {
+            if content.len() == 0 {
+                return refuse(h, Refusal::Malformed);
+            }
+            Judged {
+                answer: Answer::Data {
+                    number,
+                    start: at,
+                    size: content.len(),
+                },
+                handshake: h,
+            }
+        }
+        Kind::SealedAlert => alerted(h, content),
+        Kind::SealedHandshake => verified(h, content),
+        Kind::SealedChange => refuse(h, Refusal::Malformed),
+        Kind::ClearHello => refuse(h, Refusal::Malformed),
+        Kind::ClearChange => refuse(h, Refusal::Malformed),
+        Kind::ClearAlert => refuse(h, Refusal::Malformed),
+        Kind::OtherClear => refuse(h, Refusal::Malformed),
+    }
+}
+
+// A protected alert is trusted by its code. Its level decides: a fatal one bars the session.
+fn alerted(h: Handshake, content: &[u8]) -> Judged
+    ensures { λ r. ⌜ r ≡ alertedBy h (now (content .entry)) ⌝ }
+{
+    match alert::read(content) {
+        alert::Reading::Malformed => refuse(h, Refusal::Malformed),
+        alert::Reading::WellFormed(a) => {
+            let level = a.level;
+            let description = a.description;
+            match level {
+                Level::Warning => Judged {
+                    answer: Answer::Warning(description),
+                    handshake: h,
+                },
+                Level::Critical => Judged {
+                    answer: Answer::Critical(description),
+                    handshake: h.with_state(State::Closed),
+                },
+                Level::Fatal => Judged {
+                    answer: Answer::Barred(description),
+                    handshake: h.barred(),
+                },
+            }
+        }
+    }
+}
+
+// A protected handshake record: the unit's Finished. With the right contents it opens; with others it closes.
+fn verified(h: Handshake, content: &[u8]) -> Judged
+    ensures { λ r. ⌜ r ≡ verifiedBy h (now (content .entry)) ⌝ }
+{
+    let agreed = h.agreed;
+    let expected = agreed.expected;
+    match finished::judge(content, &expected) {
+        Verified::Malformed => refuse(h, Refusal::Malformed),
+        Verified::Wrong => Judged {
+            answer: Answer::Refused(Refusal::WrongFinished),
+            handshake: h.with_state(State::Closed),
+        },
+        Verified::Right => opened(h),
+    }
+}
+
+// Spec becomes Open; in Open the Finished came again.
+fn opened(h: Handshake) -> Judged
+    ensures { λ r. ⌜ r ≡ finishedIn h (h .state) ⌝ }
+{
+    let state = h.state;
+    match state {
+        State::Open => Judged {
+            answer: Answer::Again,
+            handshake: h,
+        },
+        State::Idle => open(h),
+        State::Replied => open(h),
+        State::Spec => open(h),
+        State::Closed => open(h),
+        State::Barred => open(h),
+    }
+}
+
+fn open(h: Handshake) -> Judged
+    ensures { λ r. ⌜ r ≡ opening h ⌝ }
+{
+    Judged {
+        answer: Answer::Open,
+        handshake: h.with_state(State::Open),
+    }
+}

@@ -1,0 +1,78 @@
+-- Which call a line makes.
+use mathlib.Core.Bool.{Bool, true, false}
+use mathlib.Core.List.{List, [], _∷_}
+use Prim.Native.Nat.{ℕ}
+use lib.Dec.{eqb}
+use Rattle.digest.specs.Pick.{pick}
+use Rattle.digest.specs.Mac.{sameBytes}
+use Rattle.console.specs.Words.{spacesIn, wordAt}
+use Rattle.console.specs.Hex.{isBytes}
+use Rattle.console.specs.Decimal.{isNumber}
+use Rattle.console.specs.declared.call.Call.{Call}
+use Rattle.console.specs.declared.call.Call.the-variants.{Fresh, Receive, Send, Alert, Close, Start, Bad}
+
+-- the word of an index is this one
+abbrev pub isNamed : List ℕ → ℕ → List ℕ → Bool
+isNamed l k name = sameBytes (wordAt l k) name
+
+-- the word of an index is a byte string; is a number of at most `most`
+abbrev pub bytesAt : List ℕ → ℕ → Bool
+bytesAt l k = isBytes (wordAt l k)
+
+abbrev pub numberAt : List ℕ → ℕ → ℕ → Bool
+numberAt l k most = isNumber (wordAt l k) most
+
+-- fresh ID SECRET
+abbrev pub freshWords : List ℕ → Bool
+freshWords l = pick (eqb (spacesIn l) 2) (pick (bytesAt l 1) (bytesAt l 2) false) false
+
+-- receive DATAGRAM RANDOM ROOM
+abbrev pub receiveWords : List ℕ → Bool
+receiveWords l = pick (eqb (spacesIn l) 3) (pick (bytesAt l 1) (pick (bytesAt l 2) (numberAt l 3 2048) false) false) false
+
+-- send DATA ROOM
+abbrev pub sendWords : List ℕ → Bool
+sendWords l = pick (eqb (spacesIn l) 2) (pick (bytesAt l 1) (numberAt l 2 2048) false) false
+
+-- clear|protected
+abbrev pub isSense : List ℕ → Bool
+isSense l = pick (isNamed l 1 (99 ∷ 108 ∷ 101 ∷ 97 ∷ 114 ∷ [])) true (isNamed l 1 (112 ∷ 114 ∷ 111 ∷ 116 ∷ 101 ∷ 99 ∷ 116 ∷ 101 ∷ 100 ∷ []))
+
+-- alert clear|protected LEVEL DESCRIPTION RECORD ROOM
+abbrev pub alertWords : List ℕ → Bool
+alertWords l =
+    pick (eqb (spacesIn l) 5)
+    (pick (isSense l)
+    (pick (numberAt l 2 255) (pick (numberAt l 3 255) (pick (bytesAt l 4) (numberAt l 5 2048) false) false) false)
+    false)
+    false
+
+-- close, start
+abbrev pub noWords : List ℕ → Bool
+noWords l = eqb (spacesIn l) 0
+
+abbrev pub callIf : Call → Bool → Call
+callIf call good = pick good call Bad
+
+-- the call that a line makes
+unfoldable pub callOf : List ℕ → Call
+callOf l =
+    pick (isNamed l 0 (102 ∷ 114 ∷ 101 ∷ 115 ∷ 104 ∷ [])) (callIf Fresh (freshWords l))
+    (pick (isNamed l 0 (114 ∷ 101 ∷ 99 ∷ 101 ∷ 105 ∷ 118 ∷ 101 ∷ [])) (callIf Receive (receiveWords l))
+    (pick (isNamed l 0 (115 ∷ 101 ∷ 110 ∷ 100 ∷ [])) (callIf Send (sendWords l))
+    (pick (isNamed l 0 (97 ∷ 108 ∷ 101 ∷ 114 ∷ 116 ∷ [])) (callIf Alert (alertWords l))
+    (pick (isNamed l 0 (99 ∷ 108 ∷ 111 ∷ 115 ∷ 101 ∷ [])) (callIf Close (noWords l))
+    (pick (isNamed l 0 (115 ∷ 116 ∷ 97 ∷ 114 ∷ 116 ∷ [])) (callIf Start (noWords l)) Bad)))))
+
+-- any call but `fresh` needs a connection
+abbrev pub needing : Call → Call
+needing Fresh = Fresh
+needing Receive = Bad
+needing Send = Bad
+needing Alert = Bad
+needing Close = Bad
+needing Start = Bad
+needing Bad = Bad
+
+abbrev pub callIn : Bool → Call → Call
+callIn connected call = pick connected call (needing call)

@@ -1,0 +1,158 @@
+// Which call a line makes.
+ghost use mathlib.Core.Path.{_≡_};
+ghost use mathlib.Core.Bool.{true, false};
+ghost use Rattle.digest.specs.Pick.{pick};
+ghost use Rattle.console.specs.Call.{isNamed, bytesAt, numberAt, freshWords, receiveWords, sendWords, isSense, alertWords, callIf, callOf, callIn};
+use crate::hex::is_bytes;
+use crate::number::is_number;
+use crate::words::spaces;
+use crate::words::word;
+use digest::same_code;
+
+// The most bytes of output that a line may lend.
+const ROOM: usize = 2048;
+
+pub enum Call {
+    Fresh,
+    Receive,
+    Send,
+    Alert,
+    Close,
+    Start,
+    // no call
+    Bad,
+}
+
+// Any call but `fresh` needs a connection.
+pub fn call_in(connected: bool, call: Call) -> Call
+    ensures { λ r. ⌜ r ≡ callIn connected call ⌝ }
+{
+    if connected {
+        return call;
+    }
+    match call {
+        Call::Fresh => Call::Fresh,
+        Call::Receive => Call::Bad,
+        Call::Send => Call::Bad,
+        Call::Alert => Call::Bad,
+        Call::Close => Call::Bad,
+        Call::Start => Call::Bad,
+        Call::Bad => Call::Bad,
+    }
+}
+
+// The call that a line makes. Its words are all read here, so that a call that is run has arguments.
+pub fn call_of(line: &[u8]) -> Call
+    ensures { λ r. ⌜ r ≡ callOf (now (line .entry)) ⌝ }
+{
+    if named(line, 0, b"fresh") {
+        return call_if(Call::Fresh, fresh_words(line));
+    }
+    if named(line, 0, b"receive") {
+        return call_if(Call::Receive, receive_words(line));
+    }
+    if named(line, 0, b"send") {
+        return call_if(Call::Send, send_words(line));
+    }
+    if named(line, 0, b"alert") {
+        return call_if(Call::Alert, alert_words(line));
+    }
+    if named(line, 0, b"close") {
+        return call_if(Call::Close, spaces(line) == 0);
+    }
+    if named(line, 0, b"start") {
+        return call_if(Call::Start, spaces(line) == 0);
+    }
+    Call::Bad
+}
+
+fn call_if(call: Call, good: bool) -> Call
+    ensures { λ r. ⌜ r ≡ callIf call good ⌝ }
+{
+    if good {
+        return call;
+    }
+    Call::Bad
+}
+
+// fresh ID SECRET
+fn fresh_words(line: &[u8]) -> bool
+    ensures { λ r. ⌜ r ≡ freshWords (now (line .entry)) ⌝ }
+{
+    let rest = both(bytes_at(line, 1), bytes_at(line, 2));
+    both(spaces(line) == 2, rest)
+}
+
+// receive DATAGRAM RANDOM ROOM
+fn receive_words(line: &[u8]) -> bool
+    ensures { λ r. ⌜ r ≡ receiveWords (now (line .entry)) ⌝ }
+{
+    let rest = both(bytes_at(line, 2), number_at(line, 3, ROOM));
+    let rest = both(bytes_at(line, 1), rest);
+    both(spaces(line) == 3, rest)
+}
+
+// send DATA ROOM
+fn send_words(line: &[u8]) -> bool
+    ensures { λ r. ⌜ r ≡ sendWords (now (line .entry)) ⌝ }
+{
+    let rest = both(bytes_at(line, 1), number_at(line, 2, ROOM));
+    both(spaces(line) == 2, rest)
+}
+
+// alert clear|protected LEVEL DESCRIPTION RECORD ROOM
+fn alert_words(line: &[u8]) -> bool
+    ensures { λ r. ⌜ r ≡ alertWords (now (line .entry)) ⌝ }
+{
+    let rest = both(bytes_at(line, 4), number_at(line, 5, ROOM));
+    let rest = both(number_at(line, 3, 255), rest);
+    let rest = both(number_at(line, 2, 255), rest);
+    let rest = both(is_sense(line), rest);
+    both(spaces(line) == 5, rest)
+}
+
+// clear|protected
+fn is_sense(line: &[u8]) -> bool
+    ensures { λ r. ⌜ r ≡ isSense (now (line .entry)) ⌝ }
+{
+    either(named(line, 1, b"clear"), named(line, 1, b"protected"))
+}
+
+fn both(a: bool, b: bool) -> bool
+    ensures { λ r. ⌜ r ≡ pick a b false ⌝ }
+{
+    if a {
+        return b;
+    }
+    false
+}
+
+fn either(a: bool, b: bool) -> bool
+    ensures { λ r. ⌜ r ≡ pick a true b ⌝ }
+{
+    if a {
+        return true;
+    }
+    b
+}
+
+// Whether the word of an index is this one.
+pub fn named(line: &[u8], index: usize, name: &[u8]) -> bool
+    ensures { λ r. ⌜ r ≡ isNamed (now (line .entry)) index (now (name .entry)) ⌝ }
+{
+    same_code(word(line, index), name)
+}
+
+// Whether the word of an index is a byte string.
+fn bytes_at(line: &[u8], index: usize) -> bool
+    ensures { λ r. ⌜ r ≡ bytesAt (now (line .entry)) index ⌝ }
+{
+    is_bytes(word(line, index))
+}
+
+// Whether the word of an index is a number of at most `most`.
+fn number_at(line: &[u8], index: usize, most: usize) -> bool
+    ensures { λ r. ⌜ r ≡ numberAt (now (line .entry)) index most ⌝ }
+{
+    is_number(word(line, index), most)
+}

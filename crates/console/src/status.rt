@@ -1,0 +1,94 @@
+// The state line.
+use crate::console::Console;
+use crate::text::put;
+use crate::text::put_number;
+use crate::text::put_word;
+use connection::handshake::Handshake;
+use connection::handshake::Sending;
+use connection::state::State;
+use connection::tally::Tally;
+use record::window::Window;
+
+// `state NAME n=N marks=M arrived=K sent=P,C checksum=X tally=H,F,O,R`.
+pub fn put_status(console: Console, text: &mut [u8], at: usize) -> usize {
+    let connection = console.connection;
+    let h = connection.handshake;
+    let state = h.state;
+    let window = h.window;
+    let sending = h.sending;
+    let tally = console.tally;
+    let end = put_name(console.connected, state, text, at);
+    let end = put_window(window, text, end);
+    let end = put_sending(sending, text, end);
+    put_tally(tally, text, end)
+}
+
+fn put_name(connected: bool, state: State, text: &mut [u8], at: usize) -> usize {
+    let end = put(text, at, b"state ");
+    if !connected {
+        return put(text, end, b"None");
+    }
+    match state {
+        State::Idle => put(text, end, b"Idle"),
+        State::Replied => put(text, end, b"Replied"),
+        State::Spec => put(text, end, b"Spec"),
+        State::Open => put(text, end, b"Open"),
+        State::Closed => put(text, end, b"Closed"),
+        State::Barred => put(text, end, b"Barred"),
+    }
+}
+
+// The highest number accepted, the marks of the 32 newest, the least significant bit first, and how many of them have arrived.
+fn put_window(window: Window, text: &mut [u8], at: usize) -> usize {
+    let marks = (window.marks % 4294967296) as u32;
+    let end = put(text, at, b" n=");
+    let end = put_highest(window.highest, marks, text, end);
+    let end = put(text, end, b" marks=");
+    let end = put_word(text, end, marks);
+    let end = put(text, end, b" arrived=");
+    put_count(u32::count_ones(marks), text, end)
+}
+
+// `-` in a fresh window, which has no mark.
+fn put_highest(highest: u16, marks: u32, text: &mut [u8], at: usize) -> usize {
+    if marks == 0 {
+        return put(text, at, b"-");
+    }
+    put_number(text, at, highest as u64)
+}
+
+// The next protected and clear numbers, `-,-` before the first reply, which takes number 0 of each; and the last checksum.
+fn put_sending(sending: Sending, text: &mut [u8], at: usize) -> usize {
+    let end = put(text, at, b" sent=");
+    let end = put_numbers(sending.protected, sending.clear, text, end);
+    let end = put(text, end, b" checksum=");
+    put_word(text, end, sending.last)
+}
+
+fn put_numbers(protected: u32, clear: u32, text: &mut [u8], at: usize) -> usize {
+    if protected == 0 {
+        return put(text, at, b"-,-");
+    }
+    let end = put_count(protected, text, at);
+    put_next(clear, text, end)
+}
+
+// Handed out, forged, too old, repeated.
+fn put_tally(tally: Tally, text: &mut [u8], at: usize) -> usize {
+    let end = put(text, at, b" tally=");
+    let end = put_count(tally.handed, text, end);
+    let end = put_next(tally.forged, text, end);
+    let end = put_next(tally.old, text, end);
+    let end = put_next(tally.repeated, text, end);
+    put(text, end, b"\n")
+}
+
+// A number behind another.
+fn put_next(n: u32, text: &mut [u8], at: usize) -> usize {
+    let end = put(text, at, b",");
+    put_count(n, text, end)
+}
+
+fn put_count(n: u32, text: &mut [u8], at: usize) -> usize {
+    put_number(text, at, n as u64)
+}
