@@ -4,3 +4,4 @@ pub mod Running
 pub mod Filling
 pub mod Sending
 pub mod Replying
+pub mod Tallying

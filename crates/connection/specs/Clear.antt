@@ -18,7 +18,7 @@ use Rattle.message.specs.declared.alert.Level.the-variants as L
 use Rattle.message.specs.declared.alert.Description.{Description}
 use Rattle.message.specs.declared.alert.Reading.{Reading}
 use Rattle.message.specs.declared.alert.Reading.the-variants as R
-use Rattle.connection.specs.Handshake.{withState, withWindow, keptHello, keptReply}
+use Rattle.connection.specs.Handshake.{withState, withWindow}
 use Rattle.connection.specs.Answer.{judged, refusing}
 use Rattle.connection.specs.Reply.{replyTo, answeredWith}
 use Rattle.connection.specs.declared.state.State.the-variants as S

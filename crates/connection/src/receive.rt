@@ -4,6 +4,7 @@ ghost use mathlib.Core.Path.{_≡_};
 ghost use lib.ListN.{length, take};
 ghost use Rattle.connection.specs.Receive.{receivedOf, outputOf, wholeOf, runOf, firstReply, sentOfKept};
 ghost use Rattle.digest.specs.Bytes.{laidOver};
+ghost use Rattle.connection.specs.Tally.{countedOf};
 ghost use Rattle.record.specs.Datagram.{walkOf};
 use crate::answer::Answer;
 use crate::answer::Slot;
@@ -12,6 +13,7 @@ use crate::calls::Connection;
 use crate::handshake::Kept;
 use crate::judge::judge;
 use crate::refusal::Refusal;
+use crate::tally::Tally;
 use record::datagram::Outcome;
 use record::datagram::Walk;
 use record::datagram::walked;
@@ -52,6 +54,32 @@ pub fn receive(c: Connection, datagram: &[u8], random: &[u8], out: &mut [u8]) ->
         Outcome::Refused(fault, at) => whole(c, Taken::Misframed(Refusal::Framing(fault), at)),
         Outcome::Sound => each(c, datagram, ours, walk, out),
     }
+}
+
+// The same with the unit's tally lent, which is brought up to date where it stands. A datagram refused as a whole leaves it
+// as it was.
+pub fn receive_counted(
+    c: Connection,
+    datagram: &[u8],
+    random: &[u8],
+    out: &mut [u8],
+    tally: &mut Tally,
+) -> Received
+    ensures exact { λ r. ⌜ r ≡ receivedOf c (now (datagram .entry)) (now (random .entry)) (length (now (out .entry))) ⌝ }
+    ensures bytes { λ _. ⌜ now (out .exit) ≡ outputOf c (now (datagram .entry)) (now (random .entry)) (now (out .entry)) ⌝ }
+    ensures count { λ _. ⌜ now (tally .exit) ≡ countedOf (now (tally .entry)) (receivedOf c (now (datagram .entry)) (now (random .entry)) (length (now (out .entry))) .answers) ⌝ }
+{
+    let received = receive(c, datagram, random, out);
+    *tally = counted(*tally, received);
+    received
+}
+
+// The answers of a receive counted.
+pub fn counted(tally: Tally, received: Received) -> Tally
+    ensures { λ r. ⌜ r ≡ countedOf tally (received .answers) ⌝ }
+{
+    let answers = received.answers;
+    tally.with_answers(answers)
 }
 
 // The datagram refused as a whole: nothing changes.
