@@ -5,3 +5,4 @@ pub mod Filling
 pub mod Sending
 pub mod Replying
 pub mod Tallying
+pub mod Coincide
