@@ -1,22 +1,22 @@
--- Two outcomes that meet the contract of one public call are the same: a theorem for each call, over the very predicate of its `ensures`
--- (`Determined`, in `digest`, says what is stated, and its `Coincide` how it is proved). `exact` is the equation of the result, `bytes`
--- that of the lent output. `handed` gives back a part of the lent datagram: the same bytes. `receive_counted` is walked by hand, and the
--- check makes no predicate of it: its three clauses are written out here.
+-- Two outcomes that meet the contract of one public call are the same: a theorem for each call, over the very predicate of its
+-- `ensures` (`Determined`, in `digest`, says what is stated). A clause `exact`, or the only one, is an equation for the result, and
+-- `bytes` one for the lent output, which w stands for, in its place among the parameters. `handed` gives back a part of the lent
+-- datagram: the same bytes. `receive_counted` is walked by hand, and the check makes no reading of its clauses: `promised` is one.
 use mathlib.Core.Path.{_≡_, refl, sym, _∙_, ap}
-use mathlib.Core.List.{List}
-use Prim.Native.Nat.{ℕ}
-use lib.ListN.{length}
 use denote.Ref.{now}
-use Rattle.digest.specs.Determined.{OneOutcome, OneOutcomeBy}
-use Rattle.connection.specs.Receive.{receivedOf, outputOf}
-use Rattle.connection.specs.Tally.{countedOf}
-use Rattle.connection.specs.declared.calls.Connection.{Connection}
-use Rattle.connection.specs.declared.receive.Received.{Received}
-use Rattle.connection.specs.declared.tally.Tally.{Tally}
+use contract.Lifetimes.{Lfts}
+use denote.Triple.Entry.{Args, Res}
+use denote.Triple.Clauses.{AtExit}
+use base.Logic.{emp}
+use borrow.Fn.Read.{Read, all-models, r-fact, r-last, no-know}
+use borrow.Fn.World.{World, Pr}
+use borrow.Fn.Claims.{AllOf}
+use Rattle.digest.specs.Determined.{OneOutcome, OneOutcomeBy, Promise}
 use Rattle.connection.proofs.calls.fresh as calls-fresh
 use Rattle.connection.proofs.calls.close as calls-close
 use Rattle.connection.proofs.calls.start as calls-start
 use Rattle.connection.proofs.receive.receive as receive-receive
+use Rattle.connection.proofs.receive.receive_counted as receive-receive-counted
 use Rattle.connection.proofs.receive.counted as receive-counted
 use Rattle.connection.proofs.send.send_data as send-send-data
 use Rattle.connection.proofs.send.send_alert as send-send-alert
@@ -36,81 +36,87 @@ use Rattle.connection.proofs.handshake.Handshake.barred as handshake-ha
 use Rattle.connection.proofs.handshake.blank as handshake-blank
 use Rattle.connection.proofs.handshake.made as handshake-made
 
-pub calls-fresh-one : OneOutcome calls-fresh.Kinds.ps calls-fresh.Kinds.r calls-fresh.Reads.Post
+pub calls-fresh-one : OneOutcome calls-fresh.ended calls-fresh.Reads.Learnt
 calls-fresh-one κs a x y s u e f = (e ∙ sym f, refl)
 
-pub calls-close-one : OneOutcome calls-close.Kinds.ps calls-close.Kinds.r calls-close.Reads.Post
+pub calls-close-one : OneOutcome calls-close.ended calls-close.Reads.Learnt
 calls-close-one κs a x y s u e f = (e ∙ sym f, refl)
 
-pub calls-start-one : OneOutcome calls-start.Kinds.ps calls-start.Kinds.r calls-start.Reads.Post
+pub calls-start-one : OneOutcome calls-start.ended calls-start.Reads.Learnt
 calls-start-one κs a x y s u e f = (e ∙ sym f, refl)
 
-pub receive-receive-one : OneOutcome receive-receive.Kinds.ps receive-receive.Kinds.r receive-receive.Reads.Post
+pub receive-receive-one : OneOutcome receive-receive.ended receive-receive.Reads.Learnt
 receive-receive-one κs a x y s u e f = (e .0 ∙ sym (f .0), ap (λ w. (tt, (tt, (tt, (w, tt))))) (e .1 ∙ sym (f .1)))
 
--- what `receive_counted` ensures of what comes back, the output and the tally
-pub record CountedAs (c : Connection) (d random out : List ℕ) (t : Tally) (x : Received) (bytes : List ℕ) (counts : Tally) : Type 0 where
-  pub exact : x ≡ receivedOf c d random (length out)
-  pub written : bytes ≡ outputOf c d random out
-  pub count : counts ≡ countedOf t (receivedOf c d random (length out) .answers)
+-- the three clauses of `receive_counted`, read one by one
+module _ (κs : Lfts 4) (a : Args receive-receive-counted.signature κs) (x : Res receive-receive-counted.signature κs)
+    (s : AtExit receive-receive-counted.ended κs) where
+  abbrev ensured : (w : World) → Pr w
+  ensured w =
+      receive-receive-counted.clauses (w .𝓤) (w .H) (w .𝓖 .A) (w .𝓜 .mem) (w .𝓡 .run) κs a .ensures tt x s
 
-pub receive-receive-counted-one : (c : Connection) (d random out : List ℕ) (t : Tally) (x y : Received) (s u : List ℕ) (p q : Tally)
-    → CountedAs c d random out t x s p
-    → CountedAs c d random out t y u q
-    → (x ≡ y) × ((s ≡ u) × (p ≡ q))
-receive-receive-counted-one c d random out t x y s u p q e f =
-    (e .exact ∙ sym (f .exact), (e .written ∙ sym (f .written), e .count ∙ sym (f .count)))
+  abbrev clauses-read : Read (λ w. emp (w .𝓤)) no-know ensured
+  clauses-read = all-models ensured (λ w. r-fact _ _ (r-fact _ _ (r-last _))) (λ w. refl) (λ w. refl) (λ w. refl)
 
-pub receive-counted-one : OneOutcome receive-counted.Kinds.ps receive-counted.Kinds.r receive-counted.Reads.Post
+abbrev promised : Promise receive-receive-counted.ended
+promised κs a x s = AllOf (clauses-read κs a x s .tells)
+
+pub receive-receive-counted-one : OneOutcome receive-receive-counted.ended promised
+receive-receive-counted-one κs a x y s u e f = (
+  e .0 ∙ sym (f .0),
+  λ i. (tt, (tt, (tt, ((e .1 .0 ∙ sym (f .1 .0)) i, ((e .1 .1 ∙ sym (f .1 .1)) i, tt))))),
+)
+
+pub receive-counted-one : OneOutcome receive-counted.ended receive-counted.Reads.Learnt
 receive-counted-one κs a x y s u e f = (e ∙ sym f, refl)
 
-pub send-send-data-one : OneOutcome send-send-data.Kinds.ps send-send-data.Kinds.r send-send-data.Reads.Post
+pub send-send-data-one : OneOutcome send-send-data.ended send-send-data.Reads.Learnt
 send-send-data-one κs a x y s u e f = (e .0 ∙ sym (f .0), ap (λ w. (tt, (tt, (w, tt)))) (e .1 ∙ sym (f .1)))
 
-pub send-send-alert-one : OneOutcome send-send-alert.Kinds.ps send-send-alert.Kinds.r send-send-alert.Reads.Post
+pub send-send-alert-one : OneOutcome send-send-alert.ended send-send-alert.Reads.Learnt
 send-send-alert-one κs a x y s u e f = (e .0 ∙ sym (f .0), ap (λ w. (tt, (tt, (tt, (tt, (tt, (w, tt))))))) (e .1 ∙ sym (f .1)))
 
-pub answer-handed-one : OneOutcomeBy answer-handed.Kinds.ps answer-handed.Kinds.r (λ κs x y. now x ≡ now y) answer-handed.Reads.Post
+pub answer-handed-one : OneOutcomeBy answer-handed.ended (λ κs x y. now x ≡ now y) answer-handed.Reads.Learnt
 answer-handed-one κs a x y s u e f = (e ∙ sym f, refl)
 
-pub answer-reply-size-one : OneOutcome answer-reply-size.Kinds.ps answer-reply-size.Kinds.r answer-reply-size.Reads.Post
+pub answer-reply-size-one : OneOutcome answer-reply-size.ended answer-reply-size.Reads.Learnt
 answer-reply-size-one κs a x y s u e f = (e ∙ sym f, refl)
 
-pub refusal-number-one : OneOutcome refusal-number.Kinds.ps refusal-number.Kinds.r refusal-number.Reads.Post
+pub refusal-number-one : OneOutcome refusal-number.ended refusal-number.Reads.Learnt
 refusal-number-one κs a x y s u e f = (e ∙ sym f, refl)
 
-pub state-kind-of-one : OneOutcome state-kind-of.Kinds.ps state-kind-of.Kinds.r state-kind-of.Reads.Post
+pub state-kind-of-one : OneOutcome state-kind-of.ended state-kind-of.Reads.Learnt
 state-kind-of-one κs a x y s u e f = (e ∙ sym f, refl)
 
-pub state-rule-of-one : OneOutcome state-rule-of.Kinds.ps state-rule-of.Kinds.r state-rule-of.Reads.Post
+pub state-rule-of-one : OneOutcome state-rule-of.ended state-rule-of.Reads.Learnt
 state-rule-of-one κs a x y s u e f = (e ∙ sym f, refl)
 
-pub tally-tally-fresh-one : OneOutcome tally-tally-fresh.Kinds.ps tally-tally-fresh.Kinds.r tally-tally-fresh.Reads.Post
+pub tally-tally-fresh-one : OneOutcome tally-tally-fresh.ended tally-tally-fresh.Reads.Learnt
 tally-tally-fresh-one κs a x y s u e f = (e ∙ sym f, refl)
 
-pub tally-tally-with-answer-one : OneOutcome tally-tally-with-answer.Kinds.ps tally-tally-with-answer.Kinds.r tally-tally-with-answer.Reads.Post
+pub tally-tally-with-answer-one : OneOutcome tally-tally-with-answer.ended tally-tally-with-answer.Reads.Learnt
 tally-tally-with-answer-one κs a x y s u e f = (e ∙ sym f, refl)
 
-pub tally-tally-with-answers-one : OneOutcome tally-tally-with-answers.Kinds.ps tally-tally-with-answers.Kinds.r tally-tally-with-answers.Reads.Post
+pub tally-tally-with-answers-one : OneOutcome tally-tally-with-answers.ended tally-tally-with-answers.Reads.Learnt
 tally-tally-with-answers-one κs a x y s u e f = (e ∙ sym f, refl)
 
-pub handshake-handshake-with-state-one : OneOutcome handshake-handshake-with-state.Kinds.ps handshake-handshake-with-state.Kinds.r handshake-handshake-with-state.Reads.Post
+pub handshake-handshake-with-state-one : OneOutcome handshake-handshake-with-state.ended handshake-handshake-with-state.Reads.Learnt
 handshake-handshake-with-state-one κs a x y s u e f = (e ∙ sym f, refl)
 
-pub handshake-handshake-with-window-one : OneOutcome handshake-handshake-with-window.Kinds.ps handshake-handshake-with-window.Kinds.r handshake-handshake-with-window.Reads.Post
+pub handshake-handshake-with-window-one : OneOutcome handshake-handshake-with-window.ended handshake-handshake-with-window.Reads.Learnt
 handshake-handshake-with-window-one κs a x y s u e f = (e ∙ sym f, refl)
 
-pub handshake-handshake-with-sending-one : OneOutcome handshake-handshake-with-sending.Kinds.ps handshake-handshake-with-sending.Kinds.r handshake-handshake-with-sending.Reads.Post
+pub handshake-handshake-with-sending-one : OneOutcome handshake-handshake-with-sending.ended handshake-handshake-with-sending.Reads.Learnt
 handshake-handshake-with-sending-one κs a x y s u e f = (e ∙ sym f, refl)
 
-pub handshake-handshake-reopened-one : OneOutcome handshake-handshake-reopened.Kinds.ps handshake-handshake-reopened.Kinds.r handshake-handshake-reopened.Reads.Post
+pub handshake-handshake-reopened-one : OneOutcome handshake-handshake-reopened.ended handshake-handshake-reopened.Reads.Learnt
 handshake-handshake-reopened-one κs a x y s u e f = (e ∙ sym f, refl)
 
-pub handshake-handshake-barred-one : OneOutcome handshake-handshake-barred.Kinds.ps handshake-handshake-barred.Kinds.r handshake-handshake-barred.Reads.Post
+pub handshake-handshake-barred-one : OneOutcome handshake-handshake-barred.ended handshake-handshake-barred.Reads.Learnt
 handshake-handshake-barred-one κs a x y s u e f = (e ∙ sym f, refl)
 
-pub handshake-blank-one : OneOutcome handshake-blank.Kinds.ps handshake-blank.Kinds.r handshake-blank.Reads.Post
+pub handshake-blank-one : OneOutcome handshake-blank.ended handshake-blank.Reads.Learnt
 handshake-blank-one κs a x y s u e f = (e ∙ sym f, refl)
 
-pub handshake-made-one : OneOutcome handshake-made.Kinds.ps handshake-made.Kinds.r handshake-made.Reads.Post
+pub handshake-made-one : OneOutcome handshake-made.ended handshake-made.Reads.Learnt
 handshake-made-one κs a x y s u e f = (e ∙ sym f, refl)

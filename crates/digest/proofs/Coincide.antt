@@ -27,65 +27,59 @@ use Rattle.digest.proofs.mac.Mac.cut as mac-mac-cut
 use Rattle.digest.proofs.mac.Mac.listed as mac-mac-listed
 use Rattle.digest.proofs.mac.same_code as mac-same-code
 
-pub bytes-put-one : OneOutcome bytes-put.Kinds.ps bytes-put.Kinds.r bytes-put.Reads.Post
+pub bytes-put-one : OneOutcome bytes-put.ended bytes-put.Reads.Learnt
 bytes-put-one κs a x y s u e f = (refl, ap (λ w. (w, (tt, (tt, tt)))) (e ∙ sym f))
 
-pub pieces-hasher-new-one : OneOutcome pieces-hasher-new.Kinds.ps pieces-hasher-new.Kinds.r pieces-hasher-new.Reads.Post
+pub pieces-hasher-new-one : OneOutcome pieces-hasher-new.ended pieces-hasher-new.Reads.Learnt
 pieces-hasher-new-one κs a x y s u e f = (e ∙ sym f, refl)
 
-pub pieces-hasher-update-one :
-    OneOutcome pieces-hasher-update.Kinds.ps pieces-hasher-update.Kinds.r pieces-hasher-update.Reads.Post
+pub pieces-hasher-update-one : OneOutcome pieces-hasher-update.ended pieces-hasher-update.Reads.Learnt
 pieces-hasher-update-one κs a x y s u e f = (e .0 ∙ sym (f .0), refl)
 
-pub pieces-hasher-finish-one :
-    OneOutcome pieces-hasher-finish.Kinds.ps pieces-hasher-finish.Kinds.r pieces-hasher-finish.Reads.Post
+pub pieces-hasher-finish-one : OneOutcome pieces-hasher-finish.ended pieces-hasher-finish.Reads.Learnt
 pieces-hasher-finish-one κs a x y s u e f = (e .0 ∙ sym (f .0), refl)
 
-pub pieces-sha1-one : OneOutcome pieces-sha1.Kinds.ps pieces-sha1.Kinds.r pieces-sha1.Reads.Post
+pub pieces-sha1-one : OneOutcome pieces-sha1.ended pieces-sha1.Reads.Learnt
 pieces-sha1-one κs a x y s u e f = (e ∙ sym f, refl)
 
-pub key-key-new-one : OneOutcome key-key-new.Kinds.ps key-key-new.Kinds.r key-key-new.Reads.Post
+pub key-key-new-one : OneOutcome key-key-new.ended key-key-new.Reads.Learnt
 key-key-new-one κs a x y s u e f = (e ∙ sym f, refl)
 
-pub key-key-begin-one : OneOutcome key-key-begin.Kinds.ps key-key-begin.Kinds.r key-key-begin.Reads.Post
+pub key-key-begin-one : OneOutcome key-key-begin.ended key-key-begin.Reads.Learnt
 key-key-begin-one κs a x y s u e f = (e ∙ sym f, refl)
 
-pub key-key-end-one : OneOutcome key-key-end.Kinds.ps key-key-end.Kinds.r key-key-end.Reads.Post
+pub key-key-end-one : OneOutcome key-key-end.ended key-key-end.Reads.Learnt
 key-key-end-one κs a x y s u e f = (e .0 ∙ sym (f .0), refl)
 
-pub key-key-code-one : OneOutcome key-key-code.Kinds.ps key-key-code.Kinds.r key-key-code.Reads.Post
+pub key-key-code-one : OneOutcome key-key-code.ended key-key-code.Reads.Learnt
 key-key-code-one κs a x y s u e f = (e .0 ∙ sym (f .0), refl)
 
-pub key-key-expand-one : OneOutcome key-key-expand.Kinds.ps key-key-expand.Kinds.r key-key-expand.Reads.Post
+pub key-key-expand-one : OneOutcome key-key-expand.ended key-key-expand.Reads.Learnt
 key-key-expand-one κs a x y s u e f = (refl, ap (λ w. (tt, (tt, (tt, (tt, (tt, (w, tt))))))) (e .0 ∙ sym (f .0)))
 
-pub key-prf-one : OneOutcome key-prf.Kinds.ps key-prf.Kinds.r key-prf.Reads.Post
+pub key-prf-one : OneOutcome key-prf.ended key-prf.Reads.Learnt
 key-prf-one κs a x y s u e f = (refl, ap (λ w. (tt, (tt, (tt, (tt, (tt, (w, tt))))))) (e ∙ sym f))
 
-pub mac-mac-number-one : OneOutcome mac-mac-number.Kinds.ps mac-mac-number.Kinds.r mac-mac-number.Reads.Post
+pub mac-mac-number-one : OneOutcome mac-mac-number.ended mac-mac-number.Reads.Learnt
 mac-mac-number-one κs a x y s u e f = (e ∙ sym f, refl)
 
-pub mac-mac-size-one : OneOutcome mac-mac-size.Kinds.ps mac-mac-size.Kinds.r mac-mac-size.Reads.Post
+pub mac-mac-size-one : OneOutcome mac-mac-size.ended mac-mac-size.Reads.Learnt
 mac-mac-size-one κs a x y s u e f = (e ∙ sym f, refl)
 
-pub mac-mac-secret-size-one :
-    OneOutcome mac-mac-secret-size.Kinds.ps mac-mac-secret-size.Kinds.r mac-mac-secret-size.Reads.Post
+pub mac-mac-secret-size-one : OneOutcome mac-mac-secret-size.ended mac-mac-secret-size.Reads.Learnt
 mac-mac-secret-size-one κs a x y s u e f = (e ∙ sym f, refl)
 
-pub mac-mac-client-expansion-one :
-    OneOutcome mac-mac-client-expansion.Kinds.ps mac-mac-client-expansion.Kinds.r mac-mac-client-expansion.Reads.Post
+pub mac-mac-client-expansion-one : OneOutcome mac-mac-client-expansion.ended mac-mac-client-expansion.Reads.Learnt
 mac-mac-client-expansion-one κs a x y s u e f = (e ∙ sym f, refl)
 
-pub mac-mac-server-expansion-one :
-    OneOutcome mac-mac-server-expansion.Kinds.ps mac-mac-server-expansion.Kinds.r mac-mac-server-expansion.Reads.Post
+pub mac-mac-server-expansion-one : OneOutcome mac-mac-server-expansion.ended mac-mac-server-expansion.Reads.Learnt
 mac-mac-server-expansion-one κs a x y s u e f = (e ∙ sym f, refl)
 
-pub mac-mac-cut-one :
-    OneOutcomeBy mac-mac-cut.Kinds.ps mac-mac-cut.Kinds.r (λ κs x y. now x ≡ now y) mac-mac-cut.Reads.Post
+pub mac-mac-cut-one : OneOutcomeBy mac-mac-cut.ended (λ κs x y. now x ≡ now y) mac-mac-cut.Reads.Learnt
 mac-mac-cut-one κs a x y s u e f = (e ∙ sym f, refl)
 
-pub mac-mac-listed-one : OneOutcome mac-mac-listed.Kinds.ps mac-mac-listed.Kinds.r mac-mac-listed.Reads.Post
+pub mac-mac-listed-one : OneOutcome mac-mac-listed.ended mac-mac-listed.Reads.Learnt
 mac-mac-listed-one κs a x y s u e f = (e ∙ sym f, refl)
 
-pub mac-same-code-one : OneOutcome mac-same-code.Kinds.ps mac-same-code.Kinds.r mac-same-code.Reads.Post
+pub mac-same-code-one : OneOutcome mac-same-code.ended mac-same-code.Reads.Learnt
 mac-same-code-one κs a x y s u e f = (e ∙ sym f, refl)

@@ -27,71 +27,66 @@ use Rattle.message.proofs.finished.client_verify as finished-client-ver
 use Rattle.message.proofs.finished.message as finished-message
 use Rattle.message.proofs.finished.judge as finished-judge
 
-pub field-long-end-one : OneOutcome field-long-end.Kinds.ps field-long-end.Kinds.r field-long-end.Reads.Post
+pub field-long-end-one : OneOutcome field-long-end.ended field-long-end.Reads.Learnt
 field-long-end-one κs a x y s u e f = (e .0 ∙ sym (f .0), refl)
 
-pub field-part-one : OneOutcomeBy field-part.Kinds.ps field-part.Kinds.r (λ κs x y. now x ≡ now y) field-part.Reads.Post
+pub field-part-one : OneOutcomeBy field-part.ended (λ κs x y. now x ≡ now y) field-part.Reads.Learnt
 field-part-one κs a x y s u e f = (e ∙ sym f, refl)
 
-pub keys-key-list-one : OneOutcome keys-key-list.Kinds.ps keys-key-list.Kinds.r keys-key-list.Reads.Post
+pub keys-key-list-one : OneOutcome keys-key-list.ended keys-key-list.Reads.Learnt
 keys-key-list-one κs a x y s u e f = (e ∙ sym f, refl)
 
-pub handshake-fills-with-one :
-    OneOutcome handshake-fills-with.Kinds.ps handshake-fills-with.Kinds.r handshake-fills-with.Reads.Post
+pub handshake-fills-with-one : OneOutcome handshake-fills-with.ended handshake-fills-with.Reads.Learnt
 handshake-fills-with-one κs a x y s u e f = (e ∙ sym f, refl)
 
-pub hello-read-one : OneOutcome hello-read.Kinds.ps hello-read.Kinds.r hello-read.Reads.Post
+pub hello-read-one : OneOutcome hello-read.ended hello-read.Reads.Learnt
 hello-read-one κs a x y s u e f = (e ∙ sym f, refl)
 
-pub writer-write-one : OneOutcome writer-write.Kinds.ps writer-write.Kinds.r writer-write.Reads.Post
+pub writer-write-one : OneOutcome writer-write.ended writer-write.Reads.Learnt
 writer-write-one κs a x y s u e f =
     (e .0 ∙ sym (f .0), ap (λ w. (tt, (tt, (tt, (tt, (tt, (tt, (tt, (tt, (tt, (w, tt))))))))))) (e .1 ∙ sym (f .1)))
 
-pub acceptance-hear-one : OneOutcome acceptance-hear.Kinds.ps acceptance-hear.Kinds.r acceptance-hear.Reads.Post
+pub acceptance-hear-one : OneOutcome acceptance-hear.ended acceptance-hear.Reads.Learnt
 acceptance-hear-one κs a x y s u e f = (e ∙ sym f, refl)
 
-pub acceptance-accept-one : OneOutcome acceptance-accept.Kinds.ps acceptance-accept.Kinds.r acceptance-accept.Reads.Post
+pub acceptance-accept-one : OneOutcome acceptance-accept.ended acceptance-accept.Reads.Learnt
 acceptance-accept-one κs a x y s u e f = (e ∙ sym f, refl)
 
-pub server-write-one : OneOutcome server-write.Kinds.ps server-write.Kinds.r server-write.Reads.Post
+pub server-write-one : OneOutcome server-write.ended server-write.Reads.Learnt
 server-write-one κs a x y s u e f = (e .0 ∙ sym (f .0), ap (λ w. (tt, (tt, (tt, (w, tt))))) (e .1 ∙ sym (f .1)))
 
-pub alert-read-one : OneOutcome alert-read.Kinds.ps alert-read.Kinds.r alert-read.Reads.Post
+pub alert-read-one : OneOutcome alert-read.ended alert-read.Reads.Learnt
 alert-read-one κs a x y s u e f = (e ∙ sym f, refl)
 
-pub alert-write-one : OneOutcome alert-write.Kinds.ps alert-write.Kinds.r alert-write.Reads.Post
+pub alert-write-one : OneOutcome alert-write.ended alert-write.Reads.Learnt
 alert-write-one κs a x y s u e f = (e ∙ sym f, refl)
 
-pub alert-grade-one : OneOutcome alert-grade.Kinds.ps alert-grade.Kinds.r alert-grade.Reads.Post
+pub alert-grade-one : OneOutcome alert-grade.ended alert-grade.Reads.Learnt
 alert-grade-one κs a x y s u e f = (e ∙ sym f, refl)
 
-pub alert-level-number-one :
-    OneOutcome alert-level-number.Kinds.ps alert-level-number.Kinds.r alert-level-number.Reads.Post
+pub alert-level-number-one : OneOutcome alert-level-number.ended alert-level-number.Reads.Learnt
 alert-level-number-one κs a x y s u e f = (e ∙ sym f, refl)
 
-pub alert-sort-one : OneOutcome alert-sort.Kinds.ps alert-sort.Kinds.r alert-sort.Reads.Post
+pub alert-sort-one : OneOutcome alert-sort.ended alert-sort.Reads.Learnt
 alert-sort-one κs a x y s u e f = (e ∙ sym f, refl)
 
-pub alert-description-number-one :
-    OneOutcome alert-description-number.Kinds.ps alert-description-number.Kinds.r alert-description-number.Reads.Post
+pub alert-description-number-one : OneOutcome alert-description-number.ended alert-description-number.Reads.Learnt
 alert-description-number-one κs a x y s u e f = (e ∙ sym f, refl)
 
-pub change-is-change-one : OneOutcome change-is-change.Kinds.ps change-is-change.Kinds.r change-is-change.Reads.Post
+pub change-is-change-one : OneOutcome change-is-change.ended change-is-change.Reads.Learnt
 change-is-change-one κs a x y s u e f = (e ∙ sym f, refl)
 
-pub change-change-one : OneOutcome change-change.Kinds.ps change-change.Kinds.r change-change.Reads.Post
+pub change-change-one : OneOutcome change-change.ended change-change.Reads.Learnt
 change-change-one κs a x y s u e f = (e ∙ sym f, refl)
 
-pub finished-server-verify-one :
-    OneOutcome finished-server-verify.Kinds.ps finished-server-verify.Kinds.r finished-server-verify.Reads.Post
+pub finished-server-verify-one : OneOutcome finished-server-verify.ended finished-server-verify.Reads.Learnt
 finished-server-verify-one κs a x y s u e f = (e ∙ sym f, refl)
 
-pub finished-client-verify-one :
-    OneOutcome finished-client-verify.Kinds.ps finished-client-verify.Kinds.r finished-client-verify.Reads.Post
+pub finished-client-verify-one : OneOutcome finished-client-verify.ended finished-client-verify.Reads.Learnt
 finished-client-verify-one κs a x y s u e f = (e ∙ sym f, refl)
 
-pub finished-message-one : OneOutcome finished-message.Kinds.ps finished-message.Kinds.r finished-message.Reads.Post
+pub finished-message-one : OneOutcome finished-message.ended finished-message.Reads.Learnt
 finished-message-one κs a x y s u e f = (e ∙ sym f, refl)
 
-pub finished-judge-one : OneOutcome finished-judge.Kinds.ps finished-judge.Kinds.r finished-judge.Reads.Post
+pub finished-judge-one : OneOutcome finished-judge.ended finished-judge.Reads.Learnt
 finished-judge-one κs a x y s u e f = (e ∙ sym f, refl)

@@ -24,66 +24,61 @@ use Rattle.record.proofs.written.write_clear as written-write-clear
 use Rattle.record.proofs.written.type_byte as written-type-byte
 use Rattle.record.proofs.checksum.checksum as checksum-checksum
 
-pub header-split-one : OneOutcome header-split.Kinds.ps header-split.Kinds.r header-split.Reads.Post
+pub header-split-one : OneOutcome header-split.ended header-split.Reads.Learnt
 header-split-one κs a x y s u e f = (e ∙ sym f, refl)
 
-pub header-built-one : OneOutcome header-built.Kinds.ps header-built.Kinds.r header-built.Reads.Post
+pub header-built-one : OneOutcome header-built.ended header-built.Reads.Learnt
 header-built-one κs a x y s u e f = (e ∙ sym f, refl)
 
-pub header-sound-one : OneOutcome header-sound.Kinds.ps header-sound.Kinds.r header-sound.Reads.Post
+pub header-sound-one : OneOutcome header-sound.ended header-sound.Reads.Learnt
 header-sound-one κs a x y s u e f = (e ∙ sym f, refl)
 
-pub header-content-of-one : OneOutcome header-content-of.Kinds.ps header-content-of.Kinds.r header-content-of.Reads.Post
+pub header-content-of-one : OneOutcome header-content-of.ended header-content-of.Reads.Learnt
 header-content-of-one κs a x y s u e f = (e ∙ sym f, refl)
 
-pub header-number-of-one : OneOutcome header-number-of.Kinds.ps header-number-of.Kinds.r header-number-of.Reads.Post
+pub header-number-of-one : OneOutcome header-number-of.ended header-number-of.Reads.Learnt
 header-number-of-one κs a x y s u e f = (e ∙ sym f, refl)
 
-pub reader-fault-number-one :
-    OneOutcome reader-fault-number.Kinds.ps reader-fault-number.Kinds.r reader-fault-number.Reads.Post
+pub reader-fault-number-one : OneOutcome reader-fault-number.ended reader-fault-number.Reads.Learnt
 reader-fault-number-one κs a x y s u e f = (e ∙ sym f, refl)
 
-pub reader-read-one : OneOutcome reader-read.Kinds.ps reader-read.Kinds.r reader-read.Reads.Post
+pub reader-read-one : OneOutcome reader-read.ended reader-read.Reads.Learnt
 reader-read-one κs a x y s u e f = (e ∙ sym f, refl)
 
-pub datagram-walked-one : OneOutcome datagram-walked.Kinds.ps datagram-walked.Kinds.r datagram-walked.Reads.Post
+pub datagram-walked-one : OneOutcome datagram-walked.ended datagram-walked.Reads.Learnt
 datagram-walked-one κs a x y s u e f = (e ∙ sym f, refl)
 
-pub window-window-fresh-one :
-    OneOutcome window-window-fresh.Kinds.ps window-window-fresh.Kinds.r window-window-fresh.Reads.Post
+pub window-window-fresh-one : OneOutcome window-window-fresh.ended window-window-fresh.Reads.Learnt
 window-window-fresh-one κs a x y s u e f = (e .0 ∙ sym (f .0), refl)
 
-pub window-window-accept-one :
-    OneOutcome window-window-accept.Kinds.ps window-window-accept.Kinds.r window-window-accept.Reads.Post
+pub window-window-accept-one : OneOutcome window-window-accept.ended window-window-accept.Reads.Learnt
 window-window-accept-one κs a x y s u e f = (e .0 ∙ sym (f .0), refl)
 
-pub keys-key-number-one : OneOutcome keys-key-number.Kinds.ps keys-key-number.Kinds.r keys-key-number.Reads.Post
+pub keys-key-number-one : OneOutcome keys-key-number.ended keys-key-number.Reads.Learnt
 keys-key-number-one κs a x y s u e f = (e ∙ sym f, refl)
 
-pub keys-record-key-one : OneOutcome keys-record-key.Kinds.ps keys-record-key.Kinds.r keys-record-key.Reads.Post
+pub keys-record-key-one : OneOutcome keys-record-key.ended keys-record-key.Reads.Learnt
 keys-record-key-one κs a x y s u e f = (e ∙ sym f, refl)
 
-pub keys-derived-one : OneOutcome keys-derived.Kinds.ps keys-derived.Kinds.r keys-derived.Reads.Post
+pub keys-derived-one : OneOutcome keys-derived.ended keys-derived.Reads.Learnt
 keys-derived-one κs a x y s u e f = (e ∙ sym f, refl)
 
-pub code-code-one : OneOutcome code-code.Kinds.ps code-code.Kinds.r code-code.Reads.Post
+pub code-code-one : OneOutcome code-code.ended code-code.Reads.Learnt
 code-code-one κs a x y s u e f = (e .0 ∙ sym (f .0), refl)
 
-pub code-genuine-one : OneOutcome code-genuine.Kinds.ps code-genuine.Kinds.r code-genuine.Reads.Post
+pub code-genuine-one : OneOutcome code-genuine.ended code-genuine.Reads.Learnt
 code-genuine-one κs a x y s u e f = (e .0 ∙ sym (f .0), refl)
 
-pub code-write-protected-one :
-    OneOutcome code-write-protected.Kinds.ps code-write-protected.Kinds.r code-write-protected.Reads.Post
+pub code-write-protected-one : OneOutcome code-write-protected.ended code-write-protected.Reads.Learnt
 code-write-protected-one κs a x y s u e f =
     (e .0 ∙ sym (f .0), ap (λ w. (tt, (tt, (tt, (tt, (tt, (tt, (w, tt)))))))) (e .1 ∙ sym (f .1)))
 
-pub written-write-clear-one :
-    OneOutcome written-write-clear.Kinds.ps written-write-clear.Kinds.r written-write-clear.Reads.Post
+pub written-write-clear-one : OneOutcome written-write-clear.ended written-write-clear.Reads.Learnt
 written-write-clear-one κs a x y s u e f =
     (e .0 ∙ sym (f .0), ap (λ w. (tt, (tt, (tt, (tt, (w, tt)))))) (e .1 ∙ sym (f .1)))
 
-pub written-type-byte-one : OneOutcome written-type-byte.Kinds.ps written-type-byte.Kinds.r written-type-byte.Reads.Post
+pub written-type-byte-one : OneOutcome written-type-byte.ended written-type-byte.Reads.Learnt
 written-type-byte-one κs a x y s u e f = (e ∙ sym f, refl)
 
-pub checksum-checksum-one : OneOutcome checksum-checksum.Kinds.ps checksum-checksum.Kinds.r checksum-checksum.Reads.Post
+pub checksum-checksum-one : OneOutcome checksum-checksum.ended checksum-checksum.Reads.Learnt
 checksum-checksum-one κs a x y s u e f = (e ∙ sym f, refl)
