@@ -7,3 +7,4 @@ pub mod Hashing
 pub mod Codes
 pub mod Terms
 pub mod Same
+pub mod Coincide

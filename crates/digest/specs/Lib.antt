@@ -7,3 +7,4 @@ pub mod Hasher
 pub mod Hmac
 pub mod Expansion
 pub mod Mac
+pub mod Determined

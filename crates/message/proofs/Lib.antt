@@ -13,3 +13,4 @@ pub mod Cases
 pub mod Hearing
 pub mod AlertLaws
 pub mod FinishedLaws
+pub mod Coincide

@@ -1,86 +1,84 @@
--- Two outcomes that meet the contract of one public call are equal: each contract is an equation with a definition of its
--- arguments. One theorem for each call.
-use mathlib.Core.Path.{_≡_, sym, _∙_}
-use mathlib.Core.Bool.{Bool}
-use mathlib.Core.List.{List}
-use Prim.Native.Nat.{ℕ}
-use Rattle.digest.specs.Bytes.{wordAt}
-use Rattle.digest.specs.Hmac.{codeUnder, keyOf}
-use Rattle.digest.specs.Mac.{sizeOf}
-use Rattle.digest.specs.declared.key.Key.{Key}
-use Rattle.digest.specs.declared.mac.Mac.{Mac}
-use Rattle.record.specs.Header.{kindOf, byteOf, soundKind, contentOf, numberOf}
-use Rattle.record.specs.Reader.{faultNumber, readOf}
-use Rattle.record.specs.Datagram.{walkOf}
-use Rattle.record.specs.Window.{freshWindow, acceptOf}
-use Rattle.record.specs.Keys.{keyNumber, macSecret}
-use Rattle.record.specs.Checksum.{checksumOf}
-use Rattle.record.specs.Written.{byteFor, countOf, writtenOf}
-use Rattle.record.specs.Code.{codedOf, genuineBy}
-use Rattle.record.specs.declared.header.Kind.{Kind}
-use Rattle.record.specs.declared.header.Content.{Content}
-use Rattle.record.specs.declared.reader.Fault.{Fault}
-use Rattle.record.specs.declared.window.Window.{Window}
+-- Two outcomes that meet the contract of one public call are the same: a theorem for each call, over the very predicate
+-- of its `ensures` (`Determined`, in `digest`, says what is stated). A clause `exact`, or the only one, is an equation
+-- for the result; of a writer `count` is that, and `bytes` one for the lent buffer, which w stands for, in its place
+-- among the parameters. A `meaning` is not needed.
+use mathlib.Core.Path.{_≡_, refl, sym, _∙_, ap}
+use Rattle.digest.specs.Determined.{OneOutcome}
+use Rattle.record.proofs.header.split as header-split
+use Rattle.record.proofs.header.built as header-built
+use Rattle.record.proofs.header.sound as header-sound
+use Rattle.record.proofs.header.content_of as header-content-of
+use Rattle.record.proofs.header.number_of as header-number-of
+use Rattle.record.proofs.reader.fault_number as reader-fault-number
+use Rattle.record.proofs.reader.read as reader-read
+use Rattle.record.proofs.datagram.walked as datagram-walked
+use Rattle.record.proofs.window.Window.fresh as window-window-fresh
+use Rattle.record.proofs.window.Window.accept as window-window-accept
+use Rattle.record.proofs.keys.key_number as keys-key-number
+use Rattle.record.proofs.keys.record_key as keys-record-key
+use Rattle.record.proofs.keys.derived as keys-derived
+use Rattle.record.proofs.code.code as code-code
+use Rattle.record.proofs.code.genuine as code-genuine
+use Rattle.record.proofs.code.write_protected as code-write-protected
+use Rattle.record.proofs.written.write_clear as written-write-clear
+use Rattle.record.proofs.written.type_byte as written-type-byte
+use Rattle.record.proofs.checksum.checksum as checksum-checksum
 
--- two values of one contract `Met` are equal
-abbrev Determined : {A : Type 0} → (A → Type 0) → Type 0
-Determined {A} Met = (r q : A) → Met r → Met q → r ≡ q
+pub header-split-one : OneOutcome header-split.ended header-split.Reads.Learnt
+header-split-one κs a x y s u e f = (e ∙ sym f, refl)
 
-by-equation : {A : Type 0} (x : A) → Determined (λ r. r ≡ x)
-by-equation x r q e f = e ∙ sym f
+pub header-built-one : OneOutcome header-built.ended header-built.Reads.Learnt
+header-built-one κs a x y s u e f = (e ∙ sym f, refl)
 
-pub split-one : (byte : ℕ) → Determined (λ r. r ≡ kindOf byte)
-split-one byte = by-equation (kindOf byte)
+pub header-sound-one : OneOutcome header-sound.ended header-sound.Reads.Learnt
+header-sound-one κs a x y s u e f = (e ∙ sym f, refl)
 
-pub built-one : (kind : Kind) → Determined (λ r. r ≡ byteOf kind)
-built-one kind = by-equation (byteOf kind)
+pub header-content-of-one : OneOutcome header-content-of.ended header-content-of.Reads.Learnt
+header-content-of-one κs a x y s u e f = (e ∙ sym f, refl)
 
-pub sound-one : (kind : Kind) → Determined (λ r. r ≡ soundKind kind)
-sound-one kind = by-equation (soundKind kind)
+pub header-number-of-one : OneOutcome header-number-of.ended header-number-of.Reads.Learnt
+header-number-of-one κs a x y s u e f = (e ∙ sym f, refl)
 
-pub content-of-one : (number : ℕ) → Determined (λ r. r ≡ contentOf number)
-content-of-one number = by-equation (contentOf number)
+pub reader-fault-number-one : OneOutcome reader-fault-number.ended reader-fault-number.Reads.Learnt
+reader-fault-number-one κs a x y s u e f = (e ∙ sym f, refl)
 
-pub number-of-one : (content : Content) → Determined (λ r. r ≡ numberOf content)
-number-of-one content = by-equation (numberOf content)
+pub reader-read-one : OneOutcome reader-read.ended reader-read.Reads.Learnt
+reader-read-one κs a x y s u e f = (e ∙ sym f, refl)
 
-pub fault-number-one : (fault : Fault) → Determined (λ r. r ≡ faultNumber fault)
-fault-number-one fault = by-equation (faultNumber fault)
+pub datagram-walked-one : OneOutcome datagram-walked.ended datagram-walked.Reads.Learnt
+datagram-walked-one κs a x y s u e f = (e ∙ sym f, refl)
 
-pub read-one : (part : List ℕ) → Determined (λ r. r ≡ readOf part)
-read-one part = by-equation (readOf part)
+pub window-window-fresh-one : OneOutcome window-window-fresh.ended window-window-fresh.Reads.Learnt
+window-window-fresh-one κs a x y s u e f = (e .0 ∙ sym (f .0), refl)
 
-pub walked-one : (d : List ℕ) → Determined (λ r. r ≡ walkOf d)
-walked-one d = by-equation (walkOf d)
+pub window-window-accept-one : OneOutcome window-window-accept.ended window-window-accept.Reads.Learnt
+window-window-accept-one κs a x y s u e f = (e .0 ∙ sym (f .0), refl)
 
-pub fresh-one : Determined (λ r. r ≡ freshWindow)
-fresh-one = by-equation freshWindow
+pub keys-key-number-one : OneOutcome keys-key-number.ended keys-key-number.Reads.Learnt
+keys-key-number-one κs a x y s u e f = (e ∙ sym f, refl)
 
-pub accept-one : (w : Window) (s : ℕ) → Determined (λ r. r ≡ acceptOf 32 w s)
-accept-one w s = by-equation (acceptOf 32 w s)
+pub keys-record-key-one : OneOutcome keys-record-key.ended keys-record-key.Reads.Learnt
+keys-record-key-one κs a x y s u e f = (e ∙ sym f, refl)
 
-pub key-number-one : (refresh number : ℕ) → Determined (λ r. r ≡ keyNumber refresh number)
-key-number-one refresh number = by-equation (keyNumber refresh number)
+pub keys-derived-one : OneOutcome keys-derived.ended keys-derived.Reads.Learnt
+keys-derived-one κs a x y s u e f = (e ∙ sym f, refl)
 
--- `derived`, and `record_key` at the key number of a record's own number
-pub key-one : (secret label : List ℕ) (first : ℕ) (server client : List ℕ) → Determined (λ r. r ≡ keyOf (macSecret secret label first server client))
-key-one secret label first server client = by-equation (keyOf (macSecret secret label first server client))
+pub code-code-one : OneOutcome code-code.ended code-code.Reads.Learnt
+code-code-one κs a x y s u e f = (e .0 ∙ sym (f .0), refl)
 
-pub checksum-one : (s : List ℕ) → Determined (λ r. r ≡ wordAt (checksumOf s) 0)
-checksum-one s = by-equation (wordAt (checksumOf s) 0)
+pub code-genuine-one : OneOutcome code-genuine.ended code-genuine.Reads.Learnt
+code-genuine-one κs a x y s u e f = (e .0 ∙ sym (f .0), refl)
 
-pub type-byte-one : (long protected : Bool) (content : Content) → Determined (λ r. r ≡ byteFor long protected content)
-type-byte-one long protected content = by-equation (byteFor long protected content)
+pub code-write-protected-one : OneOutcome code-write-protected.ended code-write-protected.Reads.Learnt
+code-write-protected-one κs a x y s u e f =
+    (e .0 ∙ sym (f .0), ap (λ w. (tt, (tt, (tt, (tt, (tt, (tt, (w, tt)))))))) (e .1 ∙ sym (f .1)))
 
-pub code-one : (key : Key) (number byte : ℕ) (content : List ℕ) → Determined (λ r. r ≡ codeUnder key (codedOf number byte content))
-code-one key number byte content = by-equation (codeUnder key (codedOf number byte content))
+pub written-write-clear-one : OneOutcome written-write-clear.ended written-write-clear.Reads.Learnt
+written-write-clear-one κs a x y s u e f =
+    (e .0 ∙ sym (f .0), ap (λ w. (tt, (tt, (tt, (tt, (w, tt)))))) (e .1 ∙ sym (f .1)))
 
-pub genuine-one : (key : Key) (mac : Mac) (number byte : ℕ) (fragment : List ℕ) → Determined (λ r. r ≡ genuineBy (codeUnder key) (sizeOf mac) number byte fragment)
-genuine-one key mac number byte fragment = by-equation (genuineBy (codeUnder key) (sizeOf mac) number byte fragment)
+pub written-type-byte-one : OneOutcome written-type-byte.ended written-type-byte.Reads.Learnt
+written-type-byte-one κs a x y s u e f = (e ∙ sym f, refl)
 
--- `write_clear` and `write_protected`: the count, and what the lent bytes hold afterwards
-pub count-one : (out bytes : List ℕ) → Determined (λ r. r ≡ countOf out bytes)
-count-one out bytes = by-equation (countOf out bytes)
-
-pub written-one : (out bytes : List ℕ) → Determined (λ after. after ≡ writtenOf out bytes)
-written-one out bytes = by-equation (writtenOf out bytes)
+pub checksum-checksum-one : OneOutcome checksum-checksum.ended checksum-checksum.Reads.Learnt
+checksum-checksum-one κs a x y s u e f = (e ∙ sym f, refl)
