@@ -15,13 +15,18 @@ use Rattle.digest.specs.Determined.{OneOutcome, OneOutcomeBy, Promise}
 use Rattle.connection.proofs.calls.fresh as calls-fresh
 use Rattle.connection.proofs.calls.close as calls-close
 use Rattle.connection.proofs.calls.start as calls-start
+use Rattle.connection.proofs.calls.refused as calls-refused
 use Rattle.connection.proofs.receive.receive as receive-receive
 use Rattle.connection.proofs.receive.receive_counted as receive-receive-counted
 use Rattle.connection.proofs.receive.counted as receive-counted
+use Rattle.connection.proofs.receive.refused as receive-refused
+use Rattle.connection.proofs.receive.refused_at as receive-refused-at
 use Rattle.connection.proofs.send.send_data as send-send-data
 use Rattle.connection.proofs.send.send_alert as send-send-alert
 use Rattle.connection.proofs.answer.handed as answer-handed
 use Rattle.connection.proofs.answer.reply_size as answer-reply-size
+use Rattle.connection.proofs.answer.refused as answer-refused
+use Rattle.connection.proofs.answer.level as answer-level
 use Rattle.connection.proofs.refusal.number as refusal-number
 use Rattle.connection.proofs.state.kind_of as state-kind-of
 use Rattle.connection.proofs.state.rule_of as state-rule-of
@@ -120,3 +125,18 @@ handshake-blank-one κs a x y s u e f = (e ∙ sym f, refl)
 
 pub handshake-made-one : OneOutcome handshake-made.ended handshake-made.Reads.Learnt
 handshake-made-one κs a x y s u e f = (e ∙ sym f, refl)
+
+pub calls-refused-one : OneOutcome calls-refused.ended calls-refused.Reads.Learnt
+calls-refused-one κs a x y s u e f = (e ∙ sym f, refl)
+
+pub receive-refused-one : OneOutcome receive-refused.ended receive-refused.Reads.Learnt
+receive-refused-one κs a x y s u e f = (e ∙ sym f, refl)
+
+pub receive-refused-at-one : OneOutcome receive-refused-at.ended receive-refused-at.Reads.Learnt
+receive-refused-at-one κs a x y s u e f = (e ∙ sym f, refl)
+
+pub answer-refused-one : OneOutcome answer-refused.ended answer-refused.Reads.Learnt
+answer-refused-one κs a x y s u e f = (e ∙ sym f, refl)
+
+pub answer-level-one : OneOutcome answer-level.ended answer-level.Reads.Learnt
+answer-level-one κs a x y s u e f = (e ∙ sym f, refl)

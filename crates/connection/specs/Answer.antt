@@ -4,6 +4,7 @@ use Prim.Native.Nat.{ℕ, _+_, _-_}
 use lib.ListN.{length, take, drop}
 use lib.Dec.{leb}
 use Rattle.digest.specs.Pick.{pick}
+use Rattle.connection.specs.Refusal.{refusalNumber}
 use Rattle.connection.specs.declared.answer.Answer.{Answer}
 use Rattle.connection.specs.declared.answer.Answer.the-variants.{Nothing, Reply, Resent, Spec, Open, Again, Data, Warning, Critical, Fatal, Barred, Refused}
 use Rattle.connection.specs.declared.answer.Judged.{Judged}
@@ -43,6 +44,36 @@ replySize (Critical description) = 0
 replySize (Fatal description) = 0
 replySize (Barred description) = 0
 replySize (Refused refusal) = 0
+
+-- the number of the refusal that an answer is (01, "Refusal numbers"); 0 where it is none
+abbrev pub answerNumber : Answer → ℕ
+answerNumber Nothing = 0
+answerNumber (Reply size) = 0
+answerNumber (Resent size) = 0
+answerNumber Spec = 0
+answerNumber Open = 0
+answerNumber Again = 0
+answerNumber (Data number start size) = 0
+answerNumber (Warning description) = 0
+answerNumber (Critical description) = 0
+answerNumber (Fatal description) = 0
+answerNumber (Barred description) = 0
+answerNumber (Refused refusal) = refusalNumber refusal
+
+-- the level of the alert that was heard (01, "Alerts": "warning 1, critical 2, fatal 3"); 0 where none was
+abbrev pub answerLevel : Answer → ℕ
+answerLevel Nothing = 0
+answerLevel (Reply size) = 0
+answerLevel (Resent size) = 0
+answerLevel Spec = 0
+answerLevel Open = 0
+answerLevel Again = 0
+answerLevel (Data number start size) = 0
+answerLevel (Warning description) = 1
+answerLevel (Critical description) = 2
+answerLevel (Fatal description) = 3
+answerLevel (Barred description) = 3
+answerLevel (Refused refusal) = 0
 
 -- an answer beside the handshake that it leaves
 abbrev pub judged : Answer → Handshake → Judged

@@ -5,6 +5,7 @@ use Prim.Native.Nat.{ℕ}
 use lib.ListN.{length}
 use lib.Dec.{eqb}
 use Rattle.digest.specs.Pick.{pick}
+use Rattle.connection.specs.Refusal.{refusalNumber}
 use Rattle.connection.specs.Handshake.{newHandshake, blankHandshake, withState, reopened}
 use Rattle.connection.specs.declared.state.State.{State}
 use Rattle.connection.specs.declared.state.State.the-variants as S
@@ -15,6 +16,11 @@ use Rattle.connection.specs.declared.calls.Connection.{Connection}
 use Rattle.connection.specs.declared.calls.Outcome.{Outcome}
 use Rattle.connection.specs.declared.calls.Outcome.the-variants.{Done, Refused}
 use Rattle.connection.specs.declared.calls.Called.{Called}
+
+-- the number of the refusal that an outcome is (01, "Refusal numbers"); 0 where the call was done
+abbrev pub outcomeNumber : Outcome → ℕ
+outcomeNumber Done = 0
+outcomeNumber (Refused refusal) = refusalNumber refusal
 
 -- an outcome, and the connection that it leaves
 abbrev pub leaving : Outcome → Handshake → Called

@@ -53,7 +53,8 @@ unfoldable pub changedBy : Handshake → List ℕ → Judged
 changedBy h fragment =
     pick (isChange fragment) (judged Spec (withState (withWindow h freshWindow) S.Spec)) (refusing Malformed h)
 
--- "Level alone decides: warning changes nothing, critical closes the connection, a clear fatal alert closes only."
+-- "Level alone decides": "warning changes nothing beyond the mark of a protected one's number, critical closes the connection". "A
+-- clear fatal alert closes only" (house rules)
 abbrev pub byLevel : Handshake → Level → Description → Judged
 byLevel h L.Warning description = judged (Warning description) h
 byLevel h L.Critical description = judged (Critical description) (withState h S.Closed)

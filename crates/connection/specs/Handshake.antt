@@ -56,7 +56,7 @@ reopened h =
     record { state = Idle; session = h .session; agreed = h .agreed; kept = nothingKept; window = freshWindow; sending = h .sending }
 
 -- Barred: "required to forget any session identifiers, keys, and secrets" (002 10.2.2). The window, the sending numbers
--- and the last record stay.
+-- and the last record stay, and so do the MAC kind and the refresh, which are no secrets.
 abbrev pub barred : Handshake → Handshake
 barred h =
     record {

@@ -8,6 +8,7 @@ use Rattle.digest.specs.Pick.{pick}
 use Rattle.digest.specs.Bytes.{laidOver}
 use Rattle.record.specs.Datagram.{Framing, framed, faulty, framingOf}
 use Rattle.record.specs.declared.reader.Record.{Record}
+use Rattle.connection.specs.Refusal.{refusalNumber}
 use Rattle.connection.specs.Answer.{replySize}
 use Rattle.connection.specs.Judge.{judgedRecord}
 use Rattle.connection.specs.declared.refusal.Refusal.the-variants.{Framing as Framed, Room, Argument}
@@ -59,6 +60,18 @@ runOf h random d rs =
       written = length (firstReply h random d rs);
       connection = record { handshake = endOf h random d rs };
     }
+
+-- the number of the refusal of a whole datagram (01, "Refusal numbers"), 0 where it was taken; and "the offset of the record at
+-- fault" of 1 to 5
+abbrev pub takenNumber : Taken → ℕ
+takenNumber (Records count) = 0
+takenNumber (Refused refusal) = refusalNumber refusal
+takenNumber (Misframed refusal at) = refusalNumber refusal
+
+abbrev pub takenAt : Taken → ℕ
+takenAt (Records count) = 0
+takenAt (Refused refusal) = 0
+takenAt (Misframed refusal at) = at
 
 -- refused as a whole: nothing changes
 unfoldable pub wholeOf : Connection → Taken → Received

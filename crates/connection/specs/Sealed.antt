@@ -33,7 +33,7 @@ use Rattle.connection.specs.declared.answer.Answer.the-variants as W
 use Rattle.connection.specs.declared.answer.Judged.{Judged}
 use Rattle.connection.specs.declared.handshake.Handshake.{Handshake}
 
--- a Finished with the right contents: "Spec: Open"; "Open: again, Open kept"
+-- a Finished with the right contents: "Spec: Open"; "Open: again, Open kept". The table sends no record here in another state.
 abbrev pub opening : Handshake → Judged
 opening h = judged W.Open (withState h S.Open)
 
@@ -68,7 +68,8 @@ alertedTo h (R.WellFormed a) = sealedLevel h (a .level) (a .description)
 unfoldable pub alertedBy : Handshake → List ℕ → Judged
 alertedBy h content = alertedTo h (alertOf content)
 
--- 12: "empty data", "change cipher spec under protection"; the content stands at `at` in the datagram
+-- 12: "empty data", and change cipher spec under protection; the content stands at `at` in the datagram. The table sends no clear
+-- record here.
 unfoldable pub contentBy : Handshake → Kind → ℕ → ℕ → List ℕ → Judged
 contentBy h SealedData number at content =
     pick (eqb (length content) 0) (refusing Malformed h) (judged (W.Data number at (length content)) h)

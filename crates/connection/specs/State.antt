@@ -25,7 +25,7 @@ kindOf C.Data false first = OtherClear
 kindOf C.Data true first = SealedData
 
 -- The table: what is done with a record in a state. "Everything else is refused. In Open any clear ClientHello is
--- refused 18; other clear records 8." "In Spec the allowed kinds are handshake and alert; in Open all four."
+-- refused 18 (house rule); other clear records 8." "In Spec the allowed kinds are handshake and alert; in Open all four."
 abbrev pub ruleOf : State → Kind → Rule
 ruleOf Idle ClearHello = Greet
 ruleOf Idle ClearChange = NotAllowed

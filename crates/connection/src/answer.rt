@@ -2,9 +2,10 @@
 ghost use mathlib.Core.Path.{_≡_};
 ghost use Prim.Native.Nat.{_+_};
 ghost use lib.ListN.{take, drop};
-ghost use Rattle.connection.specs.Answer.{handedOf, replySize};
+ghost use Rattle.connection.specs.Answer.{handedOf, replySize, answerNumber, answerLevel};
 use crate::handshake::Handshake;
 use crate::refusal::Refusal;
+use crate::refusal::number;
 use message::alert::Description;
 
 pub enum Answer {
@@ -97,6 +98,54 @@ pub fn reply_size(answer: Answer) -> usize
         Answer::Critical(_) => 0,
         Answer::Fatal(_) => 0,
         Answer::Barred(_) => 0,
+        Answer::Refused(_) => 0,
+    }
+}
+
+// The number of the refusal that an answer is; 0 where it is none.
+pub fn refused(answer: Answer) -> u8
+    ensures { λ r. ⌜ r ≡ answerNumber answer ⌝ }
+{
+    match answer {
+        Answer::Nothing => 0,
+        Answer::Reply(_) => 0,
+        Answer::Resent(_) => 0,
+        Answer::Spec => 0,
+        Answer::Open => 0,
+        Answer::Again => 0,
+        Answer::Data {
+            number: _,
+            start: _,
+            size: _,
+        } => 0,
+        Answer::Warning(_) => 0,
+        Answer::Critical(_) => 0,
+        Answer::Fatal(_) => 0,
+        Answer::Barred(_) => 0,
+        Answer::Refused(refusal) => number(refusal),
+    }
+}
+
+// The level of the alert that was heard, 1 to 3; 0 where none was.
+pub fn level(answer: Answer) -> u8
+    ensures { λ r. ⌜ r ≡ answerLevel answer ⌝ }
+{
+    match answer {
+        Answer::Nothing => 0,
+        Answer::Reply(_) => 0,
+        Answer::Resent(_) => 0,
+        Answer::Spec => 0,
+        Answer::Open => 0,
+        Answer::Again => 0,
+        Answer::Data {
+            number: _,
+            start: _,
+            size: _,
+        } => 0,
+        Answer::Warning(_) => 1,
+        Answer::Critical(_) => 2,
+        Answer::Fatal(_) => 3,
+        Answer::Barred(_) => 3,
         Answer::Refused(_) => 0,
     }
 }

@@ -1,12 +1,13 @@
 // A connection, and the calls that take no datagram and send none: fresh, close, start again (01).
 ghost use mathlib.Core.Path.{_≡_};
-ghost use Rattle.connection.specs.Calls.{freshOf, closedOf, startedOf, leaving, sessionOf};
+ghost use Rattle.connection.specs.Calls.{freshOf, closedOf, startedOf, leaving, sessionOf, outcomeNumber};
 ghost use lib.ListN.{length};
 use crate::handshake::Handshake;
 use crate::handshake::Session;
 use crate::handshake::blank;
 use crate::handshake::made;
 use crate::refusal::Refusal;
+use crate::refusal::number;
 use crate::state::State;
 
 // One connection with a unit. Today it is one handshake.
@@ -67,6 +68,16 @@ pub fn start(c: Connection) -> Called
         State::Spec => leave(Outcome::Refused(Refusal::NotAllowed), h),
         State::Open => leave(Outcome::Refused(Refusal::NotAllowed), h),
         State::Closed => leave(Outcome::Done, h.reopened()),
+    }
+}
+
+// The number of the refusal that an outcome is; 0 where the call was done.
+pub fn refused(outcome: Outcome) -> u8
+    ensures { λ r. ⌜ r ≡ outcomeNumber outcome ⌝ }
+{
+    match outcome {
+        Outcome::Done => 0,
+        Outcome::Refused(refusal) => number(refusal),
     }
 }
 

@@ -2,7 +2,7 @@
 ghost use Prim.Native.Nat.{ℕ, _+_, _≤_, _<_};
 ghost use mathlib.Core.Path.{_≡_};
 ghost use lib.ListN.{length, take};
-ghost use Rattle.connection.specs.Receive.{receivedOf, outputOf, wholeOf, runOf, firstReply, sentOfKept};
+ghost use Rattle.connection.specs.Receive.{receivedOf, outputOf, takenNumber, takenAt, wholeOf, runOf, firstReply, sentOfKept};
 ghost use Rattle.digest.specs.Bytes.{laidOver};
 ghost use Rattle.connection.specs.Tally.{countedOf};
 ghost use Rattle.record.specs.Datagram.{walkOf};
@@ -13,6 +13,7 @@ use crate::calls::Connection;
 use crate::handshake::Kept;
 use crate::judge::judge;
 use crate::refusal::Refusal;
+use crate::refusal::number;
 use crate::tally::Tally;
 use record::datagram::Outcome;
 use record::datagram::Walk;
@@ -80,6 +81,28 @@ pub fn counted(tally: Tally, received: Received) -> Tally
 {
     let answers = received.answers;
     tally.with_answers(answers)
+}
+
+// The number of the refusal of a whole datagram; 0 where it was taken.
+pub fn refused(taken: Taken) -> u8
+    ensures { λ r. ⌜ r ≡ takenNumber taken ⌝ }
+{
+    match taken {
+        Taken::Records(_) => 0,
+        Taken::Refused(refusal) => number(refusal),
+        Taken::Misframed(refusal, _) => number(refusal),
+    }
+}
+
+// The offset of the record at fault, of 1 to 5.
+pub fn refused_at(taken: Taken) -> usize
+    ensures { λ r. ⌜ r ≡ takenAt taken ⌝ }
+{
+    match taken {
+        Taken::Records(_) => 0,
+        Taken::Refused(_) => 0,
+        Taken::Misframed(_, at) => at,
+    }
 }
 
 // The datagram refused as a whole: nothing changes.
