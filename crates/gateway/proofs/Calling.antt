@@ -32,6 +32,18 @@ pub both-true : (t x : Bool) → pick t x false ≡ true → (t ≡ true) × (x 
 both-true true x h = (refl, h)
 both-true false x h = (h, cc)
 
+-- by a test that was made
+pub test-yes : {A : Type 0} {r x : A} (y : A) {b t : Bool} → t ≡ b → t ≡ true → r ≡ x → r ≡ pick b x y
+test-yes {A} {r} {x} y {b} s h e = pick-yes A r x y b (sym s ∙ h) e
+
+pub test-no : {A : Type 0} {r y : A} (x : A) {b t : Bool} → t ≡ b → t ≡ false → r ≡ y → r ≡ pick b x y
+test-no {A} {r} {y} x {b} s h e = pick-no A r x y b (sym s ∙ h) e
+
+-- by neither value of it
+pub either : {A : Type 0} {r x y : A} (b : Bool) → r ≡ x → r ≡ y → r ≡ pick b x y
+either true e f = e
+either false e f = f
+
 -- a saved connection has its size
 pub saved-size : (b : List ℕ) → isSaved b ≡ true → length b ≡ 457
 unfolding isSaved
@@ -72,11 +84,7 @@ sense-out A p f other h =
 
 -- whichever it is
 pub sense-same : (A : Type 0) (p : ℕ) (f : Bool → A) (other : A) → ((b : Bool) → other ≡ f b) → other ≡ sense p f other
-sense-same A p f other h = by-bool (eqb p 0) (h false) (by-bool (eqb p 1) (h true) refl)
-  where
-    by-bool : {A : Type 0} {r x y : A} (b : Bool) → r ≡ x → r ≡ y → r ≡ pick b x y
-    by-bool true e f = e
-    by-bool false e f = f
+sense-same A p f other h = either (eqb p 0) (h false) (either (eqb p 1) (h true) refl)
 
 -- no level and no description is above 255
 no-level-above : (n : ℕ) → 255 < n → levelOf n ≡ G.Unassigned

@@ -1,3 +1,8 @@
+-- `gateway_start`: the bytes, then the call.
+use mathlib.Core.Path.{_≡_, refl, sym, _∙_, ap}
+use Rattle.connection.specs.Calls.{startedOf}
+use Rattle.gateway.specs.Calls.{startResult, startState}
+use Rattle.gateway.proofs.Calling.{saved-size, called, test-no}
 use borrow.Author.Needs.{needs}
 use Rattle.gateway.proofs.gateway_start.Statement.{statement}
 use Rattle.gateway.proofs.gateway_start.Tie as tie
@@ -9,41 +14,36 @@ use Rattle.gateway.proofs.load.connection_in.Reads as connection-in-rea
 use Rattle.gateway.proofs.load.is_saved.Reads as is-saved-reads
 use Rattle.gateway.proofs.result.not_taken.Reads as not-taken-reads
 
--- src/lib.rt:133:8
 is-saved-requires : tie.Need-is-saved-requires
 is-saved-requires c κs = search needs
 
--- src/lib.rt:134:42
 connection-in-requires : tie.Need-connection-in-requires
-connection-in-requires c κs = ?
+connection-in-requires c κs = saved-size (c .before .before .before .before .before .args .state .now) (sym (c .before .before .is-saved .ensures) ∙ c .before .if1 .taken)
 
--- src/lib.rt:134:29
 start-requires : tie.Need-start-requires
 start-requires c κs = search needs
 
--- src/lib.rt:134:9
 leave-called-requires : tie.Need-leave-called-requires
-leave-called-requires c κs = ?
+leave-called-requires c κs = saved-size (c .before .before .before .before .before .before .before .before .args .state .now) (sym (c .before .before .before .before .before .is-saved .ensures) ∙ c .before .before .before .before .if1 .taken)
 
--- src/lib.rt:134:9
 same-length : tie.Need-same-length
 same-length c = search needs
 
--- src/lib.rt:134:9
 returns : tie.Need-returns
-returns c = ?
+unfolding startResult startState
+returns c =
+    called startedOf (c .before .before .before .before .before .before .before .before .before .before .before .args .state .now) (c .before .before .before .before .before .before .before .before .is-saved .result) (c .before .before .before .before .start .result) (c .before .before .leave-called .result) (c .before .before .leave-called .last .1 .0) (c .before .before .before .before .before .before .before .before .is-saved .ensures) (c .before .before .before .before .before .before .before .if1 .taken)
+    (c .before .before .before .before .start .ensures ∙ ap startedOf (c .before .before .before .before .before .connection-in .ensures)) (c .before .before .leave-called .ensures .0) (c .before .before .leave-called .ensures .1)
 
--- src/lib.rt:136:5
 not-taken-requires : tie.Need-not-taken-requires
 not-taken-requires c κs = search needs
 
--- src/lib.rt:128:1
 same-length-2 : tie.Need-same-length-2
 same-length-2 c = search needs
 
--- src/lib.rt:128:1
 returns-2 : tie.Need-returns-2
-returns-2 c = ?
+unfolding startResult startState
+returns-2 c = (test-no _ (c .before .before .is-saved .ensures) (c .before .if1 .left) (c .not-taken .ensures), test-no _ (c .before .before .is-saved .ensures) (c .before .if1 .left) refl)
 
 pub gateway-start-spec : {M : Type 1} → statement M
 gateway-start-spec =

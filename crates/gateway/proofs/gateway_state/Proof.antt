@@ -1,3 +1,8 @@
+-- `gateway_state`: the bytes, then the number of the state.
+use mathlib.Core.Path.{_≡_, refl, sym, _∙_, ap}
+use native.Mathlib.Omega.{arith}
+use Rattle.gateway.specs.Calls.{stateResult}
+use Rattle.gateway.proofs.Calling.{saved-size, test-yes, test-no}
 use borrow.Author.Needs.{needs}
 use Rattle.gateway.proofs.gateway_state.Statement.{statement}
 use Rattle.gateway.proofs.gateway_state.Tie as tie
@@ -7,33 +12,28 @@ use Rattle.gateway.proofs.load.is_saved.Reads as is-saved-reads
 use Rattle.gateway.proofs.result.not_taken.Reads as not-taken-reads
 use Rattle.gateway.proofs.result.result_of.Reads as result-of-reads
 
--- src/lib.rt:144:8
 is-saved-requires : tie.Need-is-saved-requires
 is-saved-requires c κs = search needs
 
--- src/lib.rt:145:22
 shared-slice-read-number : tie.Need-shared-slice-read-number
-shared-slice-read-number c = ?
+shared-slice-read-number c = omega (arith, saved-size (c .before .before .before .before .args .state .now) (sym (c .before .before .is-saved .ensures) ∙ c .before .if1 .taken))
 
--- src/lib.rt:146:32
 cast-result-of : tie.Need-cast-result-of
-cast-result-of c = ?
+cast-result-of c = omega (arith, c .shared-slice-known2 .given 4)
 
--- src/lib.rt:146:9
 result-of-requires : tie.Need-result-of-requires
 result-of-requires c κs = search needs
 
--- src/lib.rt:146:9
 returns : tie.Need-returns
-returns c = ?
+unfolding stateResult
+returns c = test-yes _ (c .before .before .before .is-saved .ensures) (c .before .before .if1 .taken) (c .result-of .ensures)
 
--- src/lib.rt:148:5
 not-taken-requires : tie.Need-not-taken-requires
 not-taken-requires c κs = search needs
 
--- src/lib.rt:140:1
 returns-2 : tie.Need-returns-2
-returns-2 c = ?
+unfolding stateResult
+returns-2 c = test-no _ (c .before .before .is-saved .ensures) (c .before .if1 .left) (c .not-taken .ensures)
 
 pub gateway-state-spec : {M : Type 1} → statement M
 gateway-state-spec =

@@ -1,3 +1,8 @@
+-- `leave::leave_received`: refused as a whole, nothing is written; else the connection, the tally and the answers.
+use mathlib.Core.Path.{_≡_, refl, sym, _∙_, ap}
+use Rattle.connection.specs.Tally.{countedOf}
+use Rattle.gateway.specs.Counts.{tallyBytes, tallyIn}
+use Rattle.gateway.specs.Calls.{resultOf}
 use borrow.Author.Needs.{needs}
 use Rattle.gateway.proofs.leave.leave_received.Statement.{statement}
 use Rattle.gateway.proofs.leave.leave_received.Tie as tie
@@ -11,81 +16,64 @@ use Rattle.gateway.proofs.report.put_answers.Reads as put-answers-reads
 use Rattle.gateway.proofs.result.result_of.Reads as result-of-reads
 use Rattle.gateway.proofs.save.put_connection.Reads as put-connection-reads
 
--- src/leave.rt:61:24
 enum-known-taken : tie.Need-enum-known-taken
 enum-known-taken c = search needs
 
--- src/leave.rt:61:46
 number-requires : tie.Need-number-requires
 number-requires c κs = search needs
 
--- src/leave.rt:61:36
 result-of-requires : tie.Need-result-of-requires
 result-of-requires c κs = search needs
 
--- src/leave.rt:62:26
 enum-known-taken-2 : tie.Need-enum-known-taken-2
 enum-known-taken-2 c = search needs
 
--- src/leave.rt:62:52
 number-requires-2 : tie.Need-number-requires-2
 number-requires-2 c κs = search needs
 
--- src/leave.rt:62:42
 result-of-requires-2 : tie.Need-result-of-requires-2
 result-of-requires-2 c κs = search needs
 
--- src/leave.rt:63:24
 enum-known-taken-3 : tie.Need-enum-known-taken-3
 enum-known-taken-3 c = search needs
 
--- src/leave.rt:64:13
 put-connection-requires : tie.Need-put-connection-requires
 put-connection-requires c κs = search needs
 
--- src/leave.rt:65:17
 tally-in-requires : tie.Need-tally-in-requires
 tally-in-requires c κs = search needs
 
--- src/leave.rt:67:30
 with-answers-requires : tie.Need-with-answers-requires
 with-answers-requires c κs = search needs
 
--- src/leave.rt:67:13
 put-tally-requires : tie.Need-put-tally-requires
 put-tally-requires c κs = search needs
 
--- src/leave.rt:68:13
 put-answers-requires : tie.Need-put-answers-requires
 put-answers-requires c κs = search needs
 
--- src/leave.rt:69:13
 result-of-requires-3 : tie.Need-result-of-requires-3
 result-of-requires-3 c κs = search needs
 
--- src/leave.rt:52:1
 returns : tie.Need-returns
-returns c = ?
+returns c = rw (c .before .before .before .taken .given .1) (c .result-of .ensures ∙ ap (λ x. resultOf x 0 0) (c .before .number .ensures), (refl, (refl, refl)))
 
--- src/leave.rt:52:1
 returns-2 : tie.Need-returns-2
-returns-2 c = ?
+returns-2 c = rw (c .before .before .before .taken2 .given .1) (c .result-of2 .ensures ∙ ap (λ x. resultOf x 0 (c .before .before .before .taken2 .given .0 .1 .0)) (c .before .number2 .ensures), (refl, (refl, refl)))
 
--- src/leave.rt:52:1
 same-length : tie.Need-same-length
 same-length c = search needs
 
--- src/leave.rt:52:1
 same-length-2 : tie.Need-same-length-2
 same-length-2 c = search needs
 
--- src/leave.rt:52:1
 same-length-3 : tie.Need-same-length-3
 same-length-3 c = search needs
 
--- src/leave.rt:52:1
 returns-3 : tie.Need-returns-3
-returns-3 c = ?
+returns-3 c =
+    let counted = c .before .before .before .before .before .before .before .put-tally .ensures ∙ ap tallyBytes (c .before .before .before .before .before .before .before .before .with-answers .ensures ∙ ap (λ t. countedOf t (c .before .before .before .before .before .before .before .before .before .before .before .before .before .before .before .before .before .before .before .before .before .before .before .args .received .answers)) (c .before .before .before .before .before .before .before .before .before .before .before .tally-in .ensures)) in
+    rw (c .before .before .before .before .before .before .before .before .before .before .before .before .before .before .before .before .before .before .taken3 .given .1) (c .result-of3 .ensures, (c .before .before .before .before .before .before .before .before .before .before .before .before .before .before .before .put-connection .ensures, (counted, c .before .before .before .put-answers .ensures)))
 
 pub leave-received-spec : {M : Type 1} → statement M
 leave-received-spec =
