@@ -2,3 +2,5 @@
 pub mod Laying
 pub mod Reading
 pub mod Calling
+pub mod Numbers
+pub mod Back

@@ -22,7 +22,8 @@
 --       453      4  the checksum of the last record that we sent
 use mathlib.Core.Bool.{Bool, true, false}
 use mathlib.Core.List.{List, [], _∷_, _++_}
-use Prim.Native.Nat.{ℕ}
+use mathlib.Core.Path.{_≡_}
+use Prim.Native.Nat.{ℕ, _<_}
 use lib.ListN.{length, getD}
 use lib.Dec.{eqb, ltb}
 use Rattle.digest.specs.Pick.{pick}
@@ -151,3 +152,24 @@ pub data Loaded : Type 0 where
 
 unfoldable pub loaded : List ℕ → Loaded
 loaded b = pick (isSaved b) (Is (connectionIn b)) No
+
+-- A connection is what its types say: arrays of their sizes, numbers in their ranges.
+pub record Ranged (c : Connection) : Type 0 where
+  pub id : length (c .handshake .session .id) ≡ 8
+  pub secret : length (c .handshake .session .secret) ≡ 20
+  pub server : length (c .handshake .agreed .server) ≡ 16
+  pub client : length (c .handshake .agreed .client) ≡ 16
+  pub expected : length (c .handshake .agreed .expected) ≡ 12
+  pub hello : length (c .handshake .kept .hello) ≡ 256
+  pub heard : c .handshake .kept .heard < 18446744073709551616
+  pub reply : length (c .handshake .kept .reply) ≡ 84
+  pub size : c .handshake .kept .size < 18446744073709551616
+  pub highest : c .handshake .window .highest < 65536
+  pub marks : c .handshake .window .marks < 18446744073709551616
+  pub protected : c .handshake .sending .protected < 4294967296
+  pub clear : c .handshake .sending .clear < 4294967296
+  pub last : c .handshake .sending .last < 4294967296
+
+-- bytes are below 256
+abbrev pub Bytes : List ℕ → Type 0
+Bytes b = (i : ℕ) → getD b i 0 < 256
