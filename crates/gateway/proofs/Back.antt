@@ -144,31 +144,31 @@ back h b p r =
       state = (ap stateNumbered (byte-back b 4 (stateNumber (h .state)) (p .state)) ∙ state-back (h .state)) i;
       session = record { id = p .id i; secret = p .secret i };
       agreed =
-        record {
-          server = p .server i;
-          client = p .client i;
-          mac = (ap macNumbered (byte-back b 65 (numberOf (h .agreed .mac)) (p .mac)) ∙ mac-back (h .agreed .mac)) i;
-          refresh = byte-back b 66 (h .agreed .refresh) (p .refresh) i;
-          expected = p .expected i;
-        };
+          record {
+            server = p .server i;
+            client = p .client i;
+            mac = (ap macNumbered (byte-back b 65 (numberOf (h .agreed .mac)) (p .mac)) ∙ mac-back (h .agreed .mac)) i;
+            refresh = byte-back b 66 (h .agreed .refresh) (p .refresh) i;
+            expected = p .expected i;
+          };
       kept =
-        record {
-          hello = p .hello i;
-          heard = eight-back b 335 (h .kept .heard) (r .heard) (p .heard) i;
-          reply = p .reply i;
-          size = eight-back b 427 (h .kept .size) (r .size) (p .size) i;
-        };
+          record {
+            hello = p .hello i;
+            heard = eight-back b 335 (h .kept .heard) (r .heard) (p .heard) i;
+            reply = p .reply i;
+            size = eight-back b 427 (h .kept .size) (r .size) (p .size) i;
+          };
       window =
-        record {
-          highest = two-back b 435 (h .window .highest) (r .highest) (p .highest) i;
-          marks = eight-back b 437 (h .window .marks) (r .marks) (p .marks) i;
-        };
+          record {
+            highest = two-back b 435 (h .window .highest) (r .highest) (p .highest) i;
+            marks = eight-back b 437 (h .window .marks) (r .marks) (p .marks) i;
+          };
       sending =
-        record {
-          protected = four-back b 445 (h .sending .protected) (r .protected) (p .protected) i;
-          clear = four-back b 449 (h .sending .clear) (r .clear) (p .clear) i;
-          last = four-back b 453 (h .sending .last) (r .last) (p .last) i;
-        };
+          record {
+            protected = four-back b 445 (h .sending .protected) (r .protected) (p .protected) i;
+            clear = four-back b 449 (h .sending .clear) (r .clear) (p .clear) i;
+            last = four-back b 453 (h .sending .last) (r .last) (p .last) i;
+          };
     }
 
 sound : (h : Handshake) (b : List ℕ) → Placed h b → isSaved b ≡ true
@@ -252,16 +252,16 @@ there b all t =
     = ap (λ x. x ∷ []) (mac-there (getD b 65 0) (t .mac)) ∙ sym (byte-part b 65 (omega arith)) in
     let refresh : getD b 66 0 ∷ [] ≡ bytesIn b 66 1 = sym (byte-part b 66 (omega arith)) in
     let fields : _≡_ {A = List (List ℕ)}
-      (bytes4 mark ∷ (stateNumber (stateNumbered (getD b 4 0)) ∷ []) ∷ bytesIn b 5 8 ∷ bytesIn b 13 20 ∷ bytesIn b 33 16 ∷ bytesIn b 49 16
-      ∷ (numberOf (macNumbered (getD b 65 0)) ∷ []) ∷ (getD b 66 0 ∷ []) ∷ bytesIn b 67 12 ∷ bytesIn b 79 256 ∷ bytes8 (eightIn b 335)
-      ∷ bytesIn b 343 84 ∷ bytes8 (eightIn b 427) ∷ bytes2 (twoIn b 435) ∷ bytes8 (eightIn b 437)
-      ∷ bytes4 (wordAt b 445) ∷ bytes4 (wordAt b 449) ∷ bytes4 (wordAt b 453) ∷ [])
-      (cuts (4 ∷ 1 ∷ 8 ∷ 20 ∷ 16 ∷ 16 ∷ 1 ∷ 1 ∷ 12 ∷ 256 ∷ 8 ∷ 84 ∷ 8 ∷ 2 ∷ 8 ∷ 4 ∷ 4 ∷ 4 ∷ []) 0 b)
+    (bytes4 mark ∷ (stateNumber (stateNumbered (getD b 4 0)) ∷ []) ∷ bytesIn b 5 8 ∷ bytesIn b 13 20 ∷ bytesIn b 33 16 ∷ bytesIn b 49 16
+    ∷ (numberOf (macNumbered (getD b 65 0)) ∷ []) ∷ (getD b 66 0 ∷ []) ∷ bytesIn b 67 12 ∷ bytesIn b 79 256 ∷ bytes8 (eightIn b 335)
+    ∷ bytesIn b 343 84 ∷ bytes8 (eightIn b 427) ∷ bytes2 (twoIn b 435) ∷ bytes8 (eightIn b 437)
+    ∷ bytes4 (wordAt b 445) ∷ bytes4 (wordAt b 449) ∷ bytes4 (wordAt b 453) ∷ [])
+    (cuts (4 ∷ 1 ∷ 8 ∷ 20 ∷ 16 ∷ 16 ∷ 1 ∷ 1 ∷ 12 ∷ 256 ∷ 8 ∷ 84 ∷ 8 ∷ 2 ∷ 8 ∷ 4 ∷ 4 ∷ 4 ∷ []) 0 b)
     = λ i.
-      marks i ∷ state i ∷ bytesIn b 5 8 ∷ bytesIn b 13 20 ∷ bytesIn b 33 16 ∷ bytesIn b 49 16
-      ∷ mac i ∷ refresh i ∷ bytesIn b 67 12 ∷ bytesIn b 79 256 ∷ eight-there b 335 all (omega arith) i
-      ∷ bytesIn b 343 84 ∷ eight-there b 427 all (omega arith) i ∷ two-there b 435 all (omega arith) i ∷ eight-there b 437 all (omega arith) i
-      ∷ four-there b 445 all (omega arith) i ∷ four-there b 449 all (omega arith) i ∷ four-there b 453 all (omega arith) i ∷ [] in
+    marks i ∷ state i ∷ bytesIn b 5 8 ∷ bytesIn b 13 20 ∷ bytesIn b 33 16 ∷ bytesIn b 49 16
+    ∷ mac i ∷ refresh i ∷ bytesIn b 67 12 ∷ bytesIn b 79 256 ∷ eight-there b 335 all (omega arith) i
+    ∷ bytesIn b 343 84 ∷ eight-there b 427 all (omega arith) i ∷ two-there b 435 all (omega arith) i ∷ eight-there b 437 all (omega arith) i
+    ∷ four-there b 445 all (omega arith) i ∷ four-there b 449 all (omega arith) i ∷ four-there b 453 all (omega arith) i ∷ [] in
     ap joined fields
     ∙ cut-joined (4 ∷ 1 ∷ 8 ∷ 20 ∷ 16 ∷ 16 ∷ 1 ∷ 1 ∷ 12 ∷ 256 ∷ 8 ∷ 84 ∷ 8 ∷ 2 ∷ 8 ∷ 4 ∷ 4 ∷ 4 ∷ []) 0 b
     ∙ take-all 457 b (omega arith)

@@ -69,10 +69,10 @@ laid-more {d} {e} {at} {n} {fs} place k f g e' laid p is l room made =
     let size : length (joined (fs ++ (g ∷ []))) ≡ n + k = ap length all ∙ length-append (joined fs) g ∙ ap₂ (λ x y. x + y) (laid .count) l in
     record {
       bytes =
-        over
-        ∙ (λ i. laidOver (laid .bytes i) (there i) (is i))
-        ∙ laid-on d (joined fs) g at (omega arith)
-        ∙ ap (laidOver d at) (sym all);
+          over
+          ∙ (λ i. laidOver (laid .bytes i) (there i) (is i))
+          ∙ laid-on d (joined fs) g at (omega arith)
+          ∙ ap (laidOver d at) (sym all);
       count = size;
       same = ap length over ∙ length-laid e place f fits ∙ laid .same;
     }
@@ -105,10 +105,10 @@ laid-block {d} {e} {at} {n} {fs} place k gs e' laid p l room made =
     let fits : place + length (joined gs) ≤ length e = omega (arith, laid .same) in
     record {
       bytes =
-        made
-        ∙ (λ i. laidOver (laid .bytes i) (there i) (joined gs))
-        ∙ laid-on d (joined fs) (joined gs) at (omega arith)
-        ∙ ap (laidOver d at) (sym all);
+          made
+          ∙ (λ i. laidOver (laid .bytes i) (there i) (joined gs))
+          ∙ laid-on d (joined fs) (joined gs) at (omega arith)
+          ∙ ap (laidOver d at) (sym all);
       count = ap length all ∙ length-append (joined fs) (joined gs) ∙ ap₂ (λ x y. x + y) (laid .count) l;
       same = ap length made ∙ length-laid e place (joined gs) fits ∙ laid .same;
     }

@@ -49,7 +49,12 @@ pub fn leave_sent(sent: Sent, state: &mut [u8]) -> u64
     }
 }
 
-pub fn leave_received(received: Received, state: &mut [u8], tally: &mut [u8], answers: &mut [u8]) -> u64
+pub fn leave_received(
+    received: Received,
+    state: &mut [u8],
+    tally: &mut [u8],
+    answers: &mut [u8],
+) -> u64
     requires { ⌜ (length (now state) ≡ 457) × ((length (now tally) ≡ 16) × (length (now answers) ≡ 192)) ⌝ }
     ensures { λ r. ⌜ r ≡ takenResult (received .written) (received .taken) ⌝ }
     ensures { λ _. ⌜ now (state .exit) ≡ whereTaken (received .taken) (savedOf (received .connection)) (now (state .entry)) ⌝ }

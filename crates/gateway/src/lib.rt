@@ -4,6 +4,7 @@
 ghost use mathlib.Core.Path.{_≡_};
 ghost use lib.ListN.{length};
 ghost use Rattle.gateway.specs.Calls.{freshResult, freshState, closeResult, closeState, startResult, startState, stateResult, dataResult, dataState, dataOut, alertResult, alertState, alertOut, lentFor, receiveResult, receiveState, receiveTally, receiveAnswers, receiveOut};
+
 mod bytes;
 mod counts;
 mod leave;

@@ -6,13 +6,6 @@ use Rattle.gateway.proofs.Calling.{saved-size, called, test-no}
 use borrow.Author.Needs.{needs}
 use Rattle.gateway.proofs.gateway_close.Statement.{statement}
 use Rattle.gateway.proofs.gateway_close.Tie as tie
-use Rattle.gateway.proofs.gateway_close.Reads as reads
-use Rattle.gateway.proofs.gateway_close.Lts as lts
-use Rattle.connection.proofs.calls.close.Reads as close-reads
-use Rattle.gateway.proofs.leave.leave_called.Reads as leave-called-reads
-use Rattle.gateway.proofs.load.connection_in.Reads as connection-in-reads
-use Rattle.gateway.proofs.load.is_saved.Reads as is-saved-reads
-use Rattle.gateway.proofs.result.not_taken.Reads as not-taken-reads
 
 is-saved-requires : tie.Need-is-saved-requires
 is-saved-requires c κs = search needs

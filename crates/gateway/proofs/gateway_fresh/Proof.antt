@@ -6,11 +6,6 @@ use Rattle.gateway.specs.Calls.{freshResult, freshState, resultOf, refus
 use borrow.Author.Needs.{needs}
 use Rattle.gateway.proofs.gateway_fresh.Statement.{statement}
 use Rattle.gateway.proofs.gateway_fresh.Tie as tie
-use Rattle.gateway.proofs.gateway_fresh.Reads as reads
-use Rattle.gateway.proofs.gateway_fresh.Lts as lts
-use Rattle.connection.proofs.calls.fresh.Reads as fresh-reads
-use Rattle.gateway.proofs.leave.leave_called.Reads as leave-called-reads
-use Rattle.gateway.proofs.result.not_taken.Reads as not-taken-reads
 
 not-taken-requires : tie.Need-not-taken-requires
 not-taken-requires c κs = search needs

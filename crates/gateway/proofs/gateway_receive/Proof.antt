@@ -11,13 +11,6 @@ use Rattle.gateway.proofs.Calling.{lent-sizes, test-yes, test-no}
 use borrow.Author.Needs.{needs}
 use Rattle.gateway.proofs.gateway_receive.Statement.{statement}
 use Rattle.gateway.proofs.gateway_receive.Tie as tie
-use Rattle.gateway.proofs.gateway_receive.Reads as reads
-use Rattle.gateway.proofs.gateway_receive.Lts as lts
-use Rattle.connection.proofs.receive.receive.Reads as receive-reads
-use Rattle.gateway.proofs.leave.leave_received.Reads as leave-received-reads
-use Rattle.gateway.proofs.load.connection_in.Reads as connection-in-reads
-use Rattle.gateway.proofs.load.lent_for.Reads as lent-for-reads
-use Rattle.gateway.proofs.result.not_taken.Reads as not-taken-reads
 
 lent-for-requires : tie.Need-lent-for-requires
 lent-for-requires c κs = search needs

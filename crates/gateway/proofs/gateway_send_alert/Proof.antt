@@ -13,13 +13,6 @@ use Rattle.gateway.proofs.Calling.{saved-size, test-yes, test-no, eithe
 use borrow.Author.Needs.{needs}
 use Rattle.gateway.proofs.gateway_send_alert.Statement.{statement}
 use Rattle.gateway.proofs.gateway_send_alert.Tie as tie
-use Rattle.gateway.proofs.gateway_send_alert.Reads as reads
-use Rattle.gateway.proofs.gateway_send_alert.Lts as lts
-use Rattle.connection.proofs.send.send_alert.Reads as send-alert-reads
-use Rattle.gateway.proofs.leave.leave_sent.Reads as leave-sent-reads
-use Rattle.gateway.proofs.load.connection_in.Reads as connection-in-reads
-use Rattle.gateway.proofs.load.is_saved.Reads as is-saved-reads
-use Rattle.gateway.proofs.result.not_taken.Reads as not-taken-reads
 
 not-taken-requires : tie.Need-not-taken-requires
 not-taken-requires c κs = search needs

@@ -7,13 +7,6 @@ use Rattle.gateway.proofs.Calling.{saved-size, test-yes, test-no}
 use borrow.Author.Needs.{needs}
 use Rattle.gateway.proofs.gateway_send_data.Statement.{statement}
 use Rattle.gateway.proofs.gateway_send_data.Tie as tie
-use Rattle.gateway.proofs.gateway_send_data.Reads as reads
-use Rattle.gateway.proofs.gateway_send_data.Lts as lts
-use Rattle.connection.proofs.send.send_data.Reads as send-data-reads
-use Rattle.gateway.proofs.leave.leave_sent.Reads as leave-sent-reads
-use Rattle.gateway.proofs.load.connection_in.Reads as connection-in-reads
-use Rattle.gateway.proofs.load.is_saved.Reads as is-saved-reads
-use Rattle.gateway.proofs.result.not_taken.Reads as not-taken-reads
 
 is-saved-requires : tie.Need-is-saved-requires
 is-saved-requires c κs = search needs

@@ -6,11 +6,6 @@ use Rattle.gateway.proofs.Calling.{saved-size, test-yes, test-no}
 use borrow.Author.Needs.{needs}
 use Rattle.gateway.proofs.gateway_state.Statement.{statement}
 use Rattle.gateway.proofs.gateway_state.Tie as tie
-use Rattle.gateway.proofs.gateway_state.Reads as reads
-use Rattle.gateway.proofs.gateway_state.Lts as lts
-use Rattle.gateway.proofs.load.is_saved.Reads as is-saved-reads
-use Rattle.gateway.proofs.result.not_taken.Reads as not-taken-reads
-use Rattle.gateway.proofs.result.result_of.Reads as result-of-reads
 
 is-saved-requires : tie.Need-is-saved-requires
 is-saved-requires c κs = search needs

@@ -3,8 +3,6 @@ use Rattle.digest.specs.Bytes.{bytes8}
 use borrow.Author.Needs.{needs}
 use Rattle.gateway.proofs.bytes.eight.Statement.{statement}
 use Rattle.gateway.proofs.bytes.eight.Tie as tie
-use Rattle.gateway.proofs.bytes.eight.Reads as reads
-use Rattle.gateway.proofs.bytes.eight.Lts as lts
 
 cast-t6 : tie.Need-cast-t6
 cast-t6 c = search needs

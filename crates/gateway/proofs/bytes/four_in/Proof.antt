@@ -4,9 +4,6 @@ use Rattle.digest.specs.Bytes.{wordAt}
 use borrow.Author.Needs.{needs}
 use Rattle.gateway.proofs.bytes.four_in.Statement.{statement}
 use Rattle.gateway.proofs.bytes.four_in.Tie as tie
-use Rattle.gateway.proofs.bytes.four_in.Reads as reads
-use Rattle.gateway.proofs.bytes.four_in.Lts as lts
-use Rattle.gateway.proofs.bytes.wide32.Reads as wide32-reads
 
 shared-slice-read-wide32 : tie.Need-shared-slice-read-wide32
 shared-slice-read-wide32 c = search needs

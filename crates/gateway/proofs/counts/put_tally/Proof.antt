@@ -7,10 +7,6 @@ use Rattle.gateway.specs.Counts.{tallyBytes}
 use borrow.Author.Needs.{needs}
 use Rattle.gateway.proofs.counts.put_tally.Statement.{statement}
 use Rattle.gateway.proofs.counts.put_tally.Tie as tie
-use Rattle.gateway.proofs.counts.put_tally.Reads as reads
-use Rattle.gateway.proofs.counts.put_tally.Lts as lts
-use Rattle.digest.proofs.put.Reads as put-reads
-use Rattle.gateway.proofs.bytes.four.Reads as four-reads
 
 four-requires : tie.Need-four-requires
 four-requires c κs = search needs

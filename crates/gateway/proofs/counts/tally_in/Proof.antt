@@ -3,9 +3,6 @@ use Rattle.gateway.specs.Counts.{tallyIn}
 use borrow.Author.Needs.{needs}
 use Rattle.gateway.proofs.counts.tally_in.Statement.{statement}
 use Rattle.gateway.proofs.counts.tally_in.Tie as tie
-use Rattle.gateway.proofs.counts.tally_in.Reads as reads
-use Rattle.gateway.proofs.counts.tally_in.Lts as lts
-use Rattle.gateway.proofs.bytes.four_in.Reads as four-in-reads
 
 four-in-requires : tie.Need-four-in-requires
 four-in-requires c κs = search needs

@@ -4,11 +4,6 @@ use Rattle.gateway.specs.Calls.{resultOf, refusalIn, leftIn}
 use borrow.Author.Needs.{needs}
 use Rattle.gateway.proofs.leave.leave_called.Statement.{statement}
 use Rattle.gateway.proofs.leave.leave_called.Tie as tie
-use Rattle.gateway.proofs.leave.leave_called.Reads as reads
-use Rattle.gateway.proofs.leave.leave_called.Lts as lts
-use Rattle.connection.proofs.refusal.number.Reads as number-reads
-use Rattle.gateway.proofs.result.result_of.Reads as result-of-reads
-use Rattle.gateway.proofs.save.put_connection.Reads as put-connection-reads
 
 enum-known-outcome : tie.Need-enum-known-outcome
 enum-known-outcome c = search needs

@@ -6,15 +6,6 @@ use Rattle.gateway.specs.Calls.{resultOf}
 use borrow.Author.Needs.{needs}
 use Rattle.gateway.proofs.leave.leave_received.Statement.{statement}
 use Rattle.gateway.proofs.leave.leave_received.Tie as tie
-use Rattle.gateway.proofs.leave.leave_received.Reads as reads
-use Rattle.gateway.proofs.leave.leave_received.Lts as lts
-use Rattle.connection.proofs.refusal.number.Reads as number-reads
-use Rattle.connection.proofs.tally.Tally.with_answers.Reads as with-answers-reads
-use Rattle.gateway.proofs.counts.put_tally.Reads as put-tally-reads
-use Rattle.gateway.proofs.counts.tally_in.Reads as tally-in-reads
-use Rattle.gateway.proofs.report.put_answers.Reads as put-answers-reads
-use Rattle.gateway.proofs.result.result_of.Reads as result-of-reads
-use Rattle.gateway.proofs.save.put_connection.Reads as put-connection-reads
 
 enum-known-taken : tie.Need-enum-known-taken
 enum-known-taken c = search needs

@@ -7,10 +7,6 @@ use lib.ListN.{getD}
 use borrow.Author.Needs.{needs}
 use Rattle.gateway.proofs.load.agreed_in.Statement.{statement}
 use Rattle.gateway.proofs.load.agreed_in.Tie as tie
-use Rattle.gateway.proofs.load.agreed_in.Reads as reads
-use Rattle.gateway.proofs.load.agreed_in.Lts as lts
-use Rattle.digest.proofs.put.Reads as put-reads
-use Rattle.gateway.proofs.load.mac_numbered.Reads as mac-numbered-reads
 
 slice-aggregate-put : tie.Need-slice-aggregate-put
 slice-aggregate-put c = search needs

@@ -3,14 +3,6 @@ use Rattle.gateway.specs.Saved.{handshakeIn}
 use borrow.Author.Needs.{needs}
 use Rattle.gateway.proofs.load.connection_in.Statement.{statement}
 use Rattle.gateway.proofs.load.connection_in.Tie as tie
-use Rattle.gateway.proofs.load.connection_in.Reads as reads
-use Rattle.gateway.proofs.load.connection_in.Lts as lts
-use Rattle.gateway.proofs.load.agreed_in.Reads as agreed-in-reads
-use Rattle.gateway.proofs.load.kept_in.Reads as kept-in-reads
-use Rattle.gateway.proofs.load.sending_in.Reads as sending-in-reads
-use Rattle.gateway.proofs.load.session_in.Reads as session-in-reads
-use Rattle.gateway.proofs.load.state_numbered.Reads as state-numbered-reads
-use Rattle.gateway.proofs.load.window_in.Reads as window-in-reads
 
 shared-slice-read-state-numbered : tie.Need-shared-slice-read-state-numbered
 shared-slice-read-state-numbered c = search needs

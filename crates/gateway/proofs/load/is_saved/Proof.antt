@@ -8,9 +8,6 @@ use lib.ListN.{getD}
 use borrow.Author.Needs.{needs}
 use Rattle.gateway.proofs.load.is_saved.Statement.{statement}
 use Rattle.gateway.proofs.load.is_saved.Tie as tie
-use Rattle.gateway.proofs.load.is_saved.Reads as reads
-use Rattle.gateway.proofs.load.is_saved.Lts as lts
-use Rattle.gateway.proofs.bytes.four_in.Reads as four-in-reads
 
 returns : tie.Need-returns
 unfolding isSaved

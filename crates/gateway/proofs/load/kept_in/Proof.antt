@@ -6,10 +6,6 @@ use Rattle.gateway.proofs.Reading.{part-filled}
 use borrow.Author.Needs.{needs}
 use Rattle.gateway.proofs.load.kept_in.Statement.{statement}
 use Rattle.gateway.proofs.load.kept_in.Tie as tie
-use Rattle.gateway.proofs.load.kept_in.Reads as reads
-use Rattle.gateway.proofs.load.kept_in.Lts as lts
-use Rattle.digest.proofs.put.Reads as put-reads
-use Rattle.gateway.proofs.bytes.eight_in.Reads as eight-in-reads
 
 slice-aggregate-put : tie.Need-slice-aggregate-put
 slice-aggregate-put c = search needs

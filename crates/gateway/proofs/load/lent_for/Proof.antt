@@ -6,9 +6,6 @@ use Rattle.gateway.specs.Calls.{lentFor}
 use borrow.Author.Needs.{needs}
 use Rattle.gateway.proofs.load.lent_for.Statement.{statement}
 use Rattle.gateway.proofs.load.lent_for.Tie as tie
-use Rattle.gateway.proofs.load.lent_for.Reads as reads
-use Rattle.gateway.proofs.load.lent_for.Lts as lts
-use Rattle.gateway.proofs.load.is_saved.Reads as is-saved-reads
 
 returns : tie.Need-returns
 unfolding lentFor

@@ -6,8 +6,6 @@ use Rattle.digest.specs.declared.mac.Mac.{Mac}
 use Rattle.digest.specs.declared.mac.Mac.the-variants.{Sha80, Sha}
 use Rattle.gateway.proofs.load.mac_numbered.Statement.{statement}
 use Rattle.gateway.proofs.load.mac_numbered.Tie as tie
-use Rattle.gateway.proofs.load.mac_numbered.Reads as reads
-use Rattle.gateway.proofs.load.mac_numbered.Lts as lts
 
 returns : tie.Need-returns
 unfolding macNumbered

@@ -6,8 +6,6 @@ use Rattle.connection.specs.declared.state.State.{State}
 use Rattle.connection.specs.declared.state.State.the-variants.{Idle, Replied, Spec, Open, Closed, Barred}
 use Rattle.gateway.proofs.load.state_numbered.Statement.{statement}
 use Rattle.gateway.proofs.load.state_numbered.Tie as tie
-use Rattle.gateway.proofs.load.state_numbered.Reads as reads
-use Rattle.gateway.proofs.load.state_numbered.Lts as lts
 
 returns : tie.Need-returns
 unfolding stateNumbered

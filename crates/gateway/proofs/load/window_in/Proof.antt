@@ -3,10 +3,6 @@ use Rattle.gateway.specs.Saved.{windowIn}
 use borrow.Author.Needs.{needs}
 use Rattle.gateway.proofs.load.window_in.Statement.{statement}
 use Rattle.gateway.proofs.load.window_in.Tie as tie
-use Rattle.gateway.proofs.load.window_in.Reads as reads
-use Rattle.gateway.proofs.load.window_in.Lts as lts
-use Rattle.gateway.proofs.bytes.eight_in.Reads as eight-in-reads
-use Rattle.gateway.proofs.bytes.two_in.Reads as two-in-reads
 
 two-in-requires : tie.Need-two-in-requires
 two-in-requires c κs = search needs

@@ -4,11 +4,6 @@ use Rattle.gateway.specs.Report.{entry}
 use borrow.Author.Needs.{needs}
 use Rattle.gateway.proofs.report.entry_of.Statement.{statement}
 use Rattle.gateway.proofs.report.entry_of.Tie as tie
-use Rattle.gateway.proofs.report.entry_of.Reads as reads
-use Rattle.gateway.proofs.report.entry_of.Lts as lts
-use Rattle.connection.proofs.refusal.number.Reads as number-reads
-use Rattle.gateway.proofs.report.made.Reads as made-reads
-use Rattle.message.proofs.alert.description_number.Reads as description-number-reads
 
 enum-told : tie.Need-enum-told
 enum-told c = search needs

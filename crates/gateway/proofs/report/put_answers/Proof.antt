@@ -11,10 +11,6 @@ use Rattle.gateway.proofs.Laying.{Laid, laid-none, laid-whole}
 use Rattle.gateway.proofs.Reading.{report-more, length-entry}
 use Rattle.gateway.proofs.report.put_answers.Statement.{statement}
 use Rattle.gateway.proofs.report.put_answers.Tie as tie
-use Rattle.gateway.proofs.report.put_answers.Reads as reads
-use Rattle.gateway.proofs.report.put_answers.Lts as lts
-use Rattle.gateway.proofs.report.entry_of.Reads as entry-of-reads
-use Rattle.gateway.proofs.report.put_entry.Reads as put-entry-reads
 
 abbrev Inv-loop : tie.InvT-loop
 Inv-loop d₀ answers i₀ d i = (i ≤ 8) × Laid d₀ 0 (reportFirst answers i) d (24 * i)

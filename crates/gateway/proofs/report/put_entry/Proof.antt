@@ -9,11 +9,6 @@ use Rattle.gateway.specs.Report.{entryBytes}
 use borrow.Author.Needs.{needs}
 use Rattle.gateway.proofs.report.put_entry.Statement.{statement}
 use Rattle.gateway.proofs.report.put_entry.Tie as tie
-use Rattle.gateway.proofs.report.put_entry.Reads as reads
-use Rattle.gateway.proofs.report.put_entry.Lts as lts
-use Rattle.digest.proofs.put.Reads as put-reads
-use Rattle.gateway.proofs.bytes.eight.Reads as eight-reads
-use Rattle.gateway.proofs.bytes.four.Reads as four-reads
 
 slice-aggregate-put : tie.Need-slice-aggregate-put
 slice-aggregate-put c = search needs

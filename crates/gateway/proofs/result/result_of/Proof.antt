@@ -3,8 +3,6 @@ use Rattle.gateway.specs.Calls.{resultOf}
 use borrow.Author.Needs.{needs}
 use Rattle.gateway.proofs.result.result_of.Statement.{statement}
 use Rattle.gateway.proofs.result.result_of.Tie as tie
-use Rattle.gateway.proofs.result.result_of.Reads as reads
-use Rattle.gateway.proofs.result.result_of.Lts as lts
 
 mul-high : tie.Need-mul-high
 mul-high c = search needs

@@ -9,10 +9,6 @@ use mathlib.Core.Path.{ap}
 use borrow.Author.Needs.{needs}
 use Rattle.gateway.proofs.save.put_agreed.Statement.{statement}
 use Rattle.gateway.proofs.save.put_agreed.Tie as tie
-use Rattle.gateway.proofs.save.put_agreed.Reads as reads
-use Rattle.gateway.proofs.save.put_agreed.Lts as lts
-use Rattle.digest.proofs.put.Reads as put-reads
-use Rattle.digest.proofs.mac.Mac.number.Reads as number-reads
 
 slice-aggregate-put : tie.Need-slice-aggregate-put
 slice-aggregate-put c = search needs

@@ -6,14 +6,6 @@ use Rattle.gateway.specs.Saved.{savedHandshake, headFields, sessionField
 use borrow.Author.Needs.{needs}
 use Rattle.gateway.proofs.save.put_connection.Statement.{statement}
 use Rattle.gateway.proofs.save.put_connection.Tie as tie
-use Rattle.gateway.proofs.save.put_connection.Reads as reads
-use Rattle.gateway.proofs.save.put_connection.Lts as lts
-use Rattle.gateway.proofs.save.put_agreed.Reads as put-agreed-reads
-use Rattle.gateway.proofs.save.put_head.Reads as put-head-reads
-use Rattle.gateway.proofs.save.put_kept.Reads as put-kept-reads
-use Rattle.gateway.proofs.save.put_sending.Reads as put-sending-reads
-use Rattle.gateway.proofs.save.put_session.Reads as put-session-reads
-use Rattle.gateway.proofs.save.put_window.Reads as put-window-reads
 
 put-head-requires : tie.Need-put-head-requires
 put-head-requires c κs = search needs

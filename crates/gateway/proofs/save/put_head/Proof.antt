@@ -10,11 +10,6 @@ use mathlib.Core.Path.{ap}
 use borrow.Author.Needs.{needs}
 use Rattle.gateway.proofs.save.put_head.Statement.{statement}
 use Rattle.gateway.proofs.save.put_head.Tie as tie
-use Rattle.gateway.proofs.save.put_head.Reads as reads
-use Rattle.gateway.proofs.save.put_head.Lts as lts
-use Rattle.digest.proofs.put.Reads as put-reads
-use Rattle.gateway.proofs.bytes.four.Reads as four-reads
-use Rattle.gateway.proofs.save.state_number.Reads as state-number-reads
 
 four-requires : tie.Need-four-requires
 four-requires c κs = search needs

@@ -7,10 +7,6 @@ use Rattle.digest.specs.Bytes.{bytes8}
 use borrow.Author.Needs.{needs}
 use Rattle.gateway.proofs.save.put_kept.Statement.{statement}
 use Rattle.gateway.proofs.save.put_kept.Tie as tie
-use Rattle.gateway.proofs.save.put_kept.Reads as reads
-use Rattle.gateway.proofs.save.put_kept.Lts as lts
-use Rattle.digest.proofs.put.Reads as put-reads
-use Rattle.gateway.proofs.bytes.eight.Reads as eight-reads
 
 slice-aggregate-put : tie.Need-slice-aggregate-put
 slice-aggregate-put c = search needs

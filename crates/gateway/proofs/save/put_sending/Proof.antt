@@ -7,10 +7,6 @@ use Rattle.digest.specs.Bytes.{bytes4}
 use borrow.Author.Needs.{needs}
 use Rattle.gateway.proofs.save.put_sending.Statement.{statement}
 use Rattle.gateway.proofs.save.put_sending.Tie as tie
-use Rattle.gateway.proofs.save.put_sending.Reads as reads
-use Rattle.gateway.proofs.save.put_sending.Lts as lts
-use Rattle.digest.proofs.put.Reads as put-reads
-use Rattle.gateway.proofs.bytes.four.Reads as four-reads
 
 four-requires : tie.Need-four-requires
 four-requires c κs = search needs

@@ -6,9 +6,6 @@ use Rattle.gateway.proofs.Laying.{laid-none, laid-more}
 use borrow.Author.Needs.{needs}
 use Rattle.gateway.proofs.save.put_session.Statement.{statement}
 use Rattle.gateway.proofs.save.put_session.Tie as tie
-use Rattle.gateway.proofs.save.put_session.Reads as reads
-use Rattle.gateway.proofs.save.put_session.Lts as lts
-use Rattle.digest.proofs.put.Reads as put-reads
 
 slice-aggregate-put : tie.Need-slice-aggregate-put
 slice-aggregate-put c = search needs

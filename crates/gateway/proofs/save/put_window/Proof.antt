@@ -7,11 +7,6 @@ use Rattle.digest.specs.Bytes.{bytes2, bytes8}
 use borrow.Author.Needs.{needs}
 use Rattle.gateway.proofs.save.put_window.Statement.{statement}
 use Rattle.gateway.proofs.save.put_window.Tie as tie
-use Rattle.gateway.proofs.save.put_window.Reads as reads
-use Rattle.gateway.proofs.save.put_window.Lts as lts
-use Rattle.digest.proofs.put.Reads as put-reads
-use Rattle.gateway.proofs.bytes.eight.Reads as eight-reads
-use Rattle.gateway.proofs.bytes.two.Reads as two-reads
 
 two-requires : tie.Need-two-requires
 two-requires c κs = search needs
