@@ -1,6 +1,7 @@
 -- One handshake and its changes (01, "Handshake" and "Alerts"; 002 10.2.2).
+use mathlib.Core.List.{List}
 use Prim.Native.Nat.{ℕ}
-use lib.ListN.{replicate}
+use lib.ListN.{take, replicate}
 use Rattle.digest.specs.declared.mac.Mac.{Mac}
 use Rattle.digest.specs.declared.mac.Mac.the-variants.{Sha80}
 use Rattle.record.specs.Window.{freshWindow}
@@ -67,3 +68,11 @@ barred h =
       window = h .window;
       sending = h .sending;
     }
+    }
+
+-- the kept hello and the kept reply, as they were on the wire
+abbrev pub keptHello : Handshake → List ℕ
+keptHello h = take (h .kept .heard) (h .kept .hello)
+
+abbrev pub keptReply : Handshake → List ℕ
+keptReply h = take (h .kept .size) (h .kept .reply)
