@@ -68,7 +68,6 @@ barred h =
       window = h .window;
       sending = h .sending;
     }
-    }
 
 -- the kept hello and the kept reply, as they were on the wire
 abbrev pub keptHello : Handshake → List ℕ
