@@ -1,0 +1,8 @@
+-- The demands on the gateway, as statements over the definitions of the four layers.
+pub mod Runs
+pub mod Genuine
+pub mod Table
+pub mod Events
+pub mod Past
+pub mod Course
+pub mod Open

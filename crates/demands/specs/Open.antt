@@ -1,0 +1,11 @@
+-- Stated, and not yet proved.
+pub mod Kept
+pub mod Finished
+pub mod Refusals
+pub mod Changes
+pub mod LeftOut
+pub mod HandedOut
+pub mod Barred
+pub mod Sends
+pub mod Counts
+pub mod Works
