@@ -1,1 +1,4 @@
 -- The proofs of the demands.
+pub mod Sealing
+pub mod Tables
+pub mod Changing

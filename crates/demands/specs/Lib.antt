@@ -2,6 +2,9 @@
 pub mod Runs
 pub mod Genuine
 pub mod Table
+pub mod Calls
+pub mod Refusals
+pub mod Changes
 pub mod Events
 pub mod Past
 pub mod Course

@@ -1,8 +1,6 @@
 -- Stated, and not yet proved.
 pub mod Kept
 pub mod Finished
-pub mod Refusals
-pub mod Changes
 pub mod LeftOut
 pub mod HandedOut
 pub mod Barred

@@ -61,6 +61,18 @@ helloFor C.Data protected one = false
 abbrev pub isHello : List ℕ → Record → Bool
 isHello d r = helloFor (r .content) (r .protected) (beginsHello d r)
 
+-- "In Open any clear ClientHello is refused 18."
+abbrev pub openIs : State → Bool
+openIs Idle = false
+openIs Replied = false
+openIs Spec = false
+openIs Open = true
+openIs Closed = false
+openIs Barred = false
+
+abbrev pub helloWhileOpen : State → List ℕ → Record → Bool
+helloWhileOpen s d r = pick (openIs s) (isHello d r) false
+
 -- The clear records of the table: ClientHello in Idle, Replied and Spec; change cipher spec in Replied; alert in Replied and
 -- Spec. "Everything else is refused. In Open .. other clear records 8."
 abbrev pub clearAllowed : State → Content → Bool → Bool
@@ -132,9 +144,9 @@ pub data Row (h : Handshake) (random d : List ℕ) (r : Record) : Judged → Typ
   -- 7
   row-ended : ended (h .state) ≡ true → Row h random d r (refusing X.Ended h)
   -- 18: "clear ClientHello while Open"
-  row-hello-while-open : h .state ≡ Open → isHello d r ≡ true → Row h random d r (refusing X.HelloWhileOpen h)
+  row-hello-while-open : helloWhileOpen (h .state) d r ≡ true → Row h random d r (refusing X.HelloWhileOpen h)
   -- 8: "record .. not allowed in this state or place"; a ClientHello "may stand only first in its datagram"
-  row-not-allowed : ended (h .state) ≡ false → (h .state ≡ Open → isHello d r ≡ false) → allowed (h .state) d r ≡ false
+  row-not-allowed : ended (h .state) ≡ false → helloWhileOpen (h .state) d r ≡ false → allowed (h .state) d r ≡ false
       → Row h random d r (refusing X.NotAllowed h)
   row-not-first : allowed (h .state) d r ≡ true → isHello d r ≡ true → (r .start ≡ 0 → ⊥) → Row h random d r (refusing X.NotAllowed h)
   -- "Idle | clear ClientHello | reply; Replied" and "Replied, Spec | another acceptable ClientHello | new reply; Replied"

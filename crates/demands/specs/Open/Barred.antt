@@ -29,7 +29,7 @@ use Rattle.connection.specs.declared.handshake.Handshake.{Handshake}
 use Rattle.demands.specs.Runs.{Call, receive, send-data, send-alert, close, start, Result, received, sent, called, Step, Gateway, stepOf, lastOf}
 use Rattle.demands.specs.Genuine.{Genuine, keysOf}
 use Rattle.demands.specs.Events.{Event, took, Sound, next}
-use Rattle.demands.specs.Open.Refusals.{lentBy}
+use Rattle.demands.specs.Refusals.{lentBy}
 
 -- a protected fatal alert: genuine, and well formed
 pub record FatalUnderCode (h : Handshake) (e : Event) : Type 0 where

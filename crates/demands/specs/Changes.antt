@@ -25,7 +25,7 @@ use Rattle.connection.specs.declared.answer.Answer.the-variants.{Nothing, Reply
 use Rattle.connection.specs.declared.calls.Connection.{Connection}
 use Rattle.connection.specs.declared.calls.Outcome.the-variants as O
 use Rattle.connection.specs.declared.handshake.Handshake.{Handshake}
-use Rattle.demands.specs.Open.Refusals.{marked, refusedLeaves}
+use Rattle.demands.specs.Refusals.{marked, refusedLeaves}
 
 -- what each answer leaves, of the handshake h and a record with number s, protected or clear
 abbrev pub Leaves : Handshake → List ℕ → List ℕ → Bool → ℕ → Handshake → Answer → Type 0
