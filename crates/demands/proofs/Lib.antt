@@ -2,3 +2,4 @@
 pub mod Sealing
 pub mod Tables
 pub mod Changing
+pub mod Calling
