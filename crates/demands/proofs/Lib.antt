@@ -3,3 +3,4 @@ pub mod Sealing
 pub mod Tables
 pub mod Changing
 pub mod Calling
+pub mod Refusing

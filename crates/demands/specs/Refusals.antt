@@ -13,13 +13,14 @@ use Rattle.record.specs.declared.window.Acceptance.the-variants as A
 use Rattle.connection.specs.Answer.{replySize}
 use Rattle.connection.specs.Handshake.{withState, withWindow}
 use Rattle.connection.specs.Judge.{judgedRecord}
-use Rattle.connection.specs.Receive.{slotsOf}
 use Rattle.connection.specs.declared.state.State.the-variants.{Closed}
 use Rattle.connection.specs.declared.refusal.Refusal.{Refusal}
 use Rattle.connection.specs.declared.refusal.Refusal.the-variants as X
 use Rattle.connection.specs.declared.answer.Answer.the-variants as W
 use Rattle.connection.specs.declared.calls.Connection.{Connection}
+use Rattle.connection.specs.declared.calls.Outcome.{Outcome}
 use Rattle.connection.specs.declared.calls.Outcome.the-variants as O
+use Rattle.connection.specs.declared.receive.Taken.{Taken}
 use Rattle.connection.specs.declared.receive.Taken.the-variants as T
 use Rattle.connection.specs.declared.handshake.Handshake.{Handshake}
 use Rattle.demands.specs.Runs.{Call, receive, send-data, send-alert, close, start, Result, received, sent, called, Step, Gateway, stepOf}
@@ -32,12 +33,26 @@ lentBy (send-alert sealed level description answered out) = out
 lentBy close = []
 lentBy start = []
 
--- a call that is refused as a whole: by which refusal; a framing fault has an offset too
-pub data RefusedBy : Result → Type 0 where
-  whole : (x : Refusal) (w : ℕ) → RefusedBy (received (T.Refused x) (slotsOf []) w)
-  misframed : (x : Refusal) (at w : ℕ) → RefusedBy (received (T.Misframed x at) (slotsOf []) w)
-  unsent : (x : Refusal) → RefusedBy (sent (O.Refused x) 0)
-  uncalled : (x : Refusal) → RefusedBy (called (O.Refused x))
+-- a call that is refused as a whole
+abbrev pub NotTaken : Taken → Type 0
+NotTaken (T.Records count) = ⊥
+NotTaken (T.Refused refusal) = Unit
+NotTaken (T.Misframed refusal at) = Unit
+
+abbrev pub NotDone : Outcome → Type 0
+NotDone O.Done = ⊥
+NotDone (O.Refused refusal) = Unit
+
+abbrev pub IsRefused : Result → Type 0
+IsRefused (received taken answers written) = NotTaken taken
+IsRefused (sent outcome written) = NotDone outcome
+IsRefused (called outcome) = NotDone outcome
+
+-- how many bytes it says it wrote
+abbrev pub writtenBy : Result → ℕ
+writtenBy (received taken answers written) = written
+writtenBy (sent outcome written) = written
+writtenBy (called outcome) = 0
 
 -- the handshake with the mark of a number, where it is new
 abbrev pub markedAs : Handshake → Acceptance → Handshake
@@ -69,7 +84,8 @@ refusedLeaves h protected s X.HelloWhileOpen = h
 -- for each call
 unfoldable pub RefusedCallChangesNothing : Gateway → Type 0
 RefusedCallChangesNothing g =
-    (c : Connection) (call : Call) → RefusedBy (g c call .result) → (g c call .connection ≡ c) × (g c call .output ≡ lentBy call)
+    (c : Connection) (call : Call) → IsRefused (g c call .result)
+    → (g c call .connection ≡ c) × (g c call .output ≡ lentBy call) × (writtenBy (g c call .result) ≡ 0)
 
 -- for each record
 unfoldable pub RefusedRecordChangesNothing : Type 0
@@ -82,4 +98,4 @@ unfoldable pub NothingWrittenWithoutReply : Type 0
 NothingWrittenWithoutReply =
     (c : Connection) (d random out : List ℕ) (r : Record) (rs : List Record) → framingOf d ≡ framed (r ∷ rs)
     → replySize (judgedRecord (c .handshake) random d r .answer) ≡ 0
-    → (stepOf c (receive d random out) .output ≡ out)
+    → (stepOf c (receive d random out) .output ≡ out) × (writtenBy (stepOf c (receive d random out) .result) ≡ 0)
