@@ -4,3 +4,4 @@ pub mod Tables
 pub mod Changing
 pub mod Calling
 pub mod Refusing
+pub mod Keeping

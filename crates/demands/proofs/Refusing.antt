@@ -91,7 +91,7 @@ unfolding laidOver
 laid-front out bytes = take-at bytes (drop (0 + length bytes) out) (length bytes) refl
 
 -- what stands in a step of a send
-abbrev outcomeIn : Result → Outcome
+abbrev pub outcomeIn : Result → Outcome
 outcomeIn (received taken answers written) = O.Done
 outcomeIn (sent outcome written) = outcome
 outcomeIn (called outcome) = outcome

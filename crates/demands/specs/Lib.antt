@@ -7,5 +7,6 @@ pub mod Refusals
 pub mod Changes
 pub mod Events
 pub mod Past
+pub mod Kept
 pub mod Course
 pub mod Open

@@ -1,5 +1,4 @@
 -- Stated, and not yet proved.
-pub mod Kept
 pub mod Finished
 pub mod LeftOut
 pub mod HandedOut

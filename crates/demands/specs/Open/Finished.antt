@@ -18,7 +18,7 @@ use Rattle.connection.specs.declared.handshake.Session.{Session}
 use Rattle.demands.specs.Genuine.{Genuine}
 use Rattle.demands.specs.Events.{Event, took, Sound, AllSound, Happened, answered, wrote, closed, started, refused, after, history}
 use Rattle.demands.specs.Past.{Greeting, greeting, lastReply, isReply, isData, shuts, keysIn}
-use Rattle.demands.specs.Open.Kept.{freshWith}
+use Rattle.demands.specs.Kept.{freshWith}
 
 -- no new reply, no closing and no start
 abbrev pub Quiet : List Happened → Type 0

@@ -17,7 +17,7 @@ use Rattle.connection.specs.declared.handshake.Session.{Session}
 use Rattle.demands.specs.Events.{Event, took, Sound, AllSound, Happened, after, history}
 use Rattle.demands.specs.Past.{isData, keysIn, expectedIn, acceptedIn}
 use Rattle.demands.specs.Course.{Course, courseOf, Ongoing, Due}
-use Rattle.demands.specs.Open.Kept.{freshWith}
+use Rattle.demands.specs.Kept.{freshWith}
 
 -- the course from a place of a run on: the numbers accepted up to there, and nothing closed
 abbrev pub courseFrom : Session → List Happened → List Event → Course

@@ -25,7 +25,7 @@ use Rattle.connection.specs.declared.calls.Outcome.the-variants as O
 use Rattle.demands.specs.Genuine.{Keys}
 use Rattle.demands.specs.Events.{Event, AllSound, Happened, connectionOf, after, history}
 use Rattle.demands.specs.Past.{keysIn, nextSealed, nextClearNumber}
-use Rattle.demands.specs.Open.Kept.{freshWith}
+use Rattle.demands.specs.Kept.{freshWith}
 
 -- our MAC secret for number s
 abbrev pub ourKey : Keys → ℕ → List ℕ

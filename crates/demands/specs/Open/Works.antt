@@ -28,7 +28,7 @@ use Rattle.connection.specs.declared.receive.Taken.the-variants as T
 use Rattle.demands.specs.Runs.{Call, receive, Result, received, Step, Gateway, stepsOf}
 use Rattle.demands.specs.Genuine.{Keys, unitKey}
 use Rattle.demands.specs.Events.{connectionOf}
-use Rattle.demands.specs.Open.Kept.{freshWith}
+use Rattle.demands.specs.Kept.{freshWith}
 
 -- what the unit sends: each a datagram of one record without a length
 abbrev pub clearDatagram : Content → ℕ → List ℕ → List ℕ
