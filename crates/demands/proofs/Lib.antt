@@ -5,3 +5,4 @@ pub mod Changing
 pub mod Calling
 pub mod Refusing
 pub mod Keeping
+pub mod Finishing

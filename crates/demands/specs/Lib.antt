@@ -8,5 +8,6 @@ pub mod Changes
 pub mod Events
 pub mod Past
 pub mod Kept
+pub mod Finished
 pub mod Course
 pub mod Open

@@ -1,5 +1,4 @@
 -- Stated, and not yet proved.
-pub mod Finished
 pub mod LeftOut
 pub mod HandedOut
 pub mod Barred
