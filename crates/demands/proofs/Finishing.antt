@@ -267,24 +267,24 @@ module _ (session : Session) (past : List Happened) (h : Handshake) (p : Progres
       record {
         kept = k;
         greeted = λ z. let g = p .greeted (sym (ap hasReplied es) ∙ z) in
-        record { hello = g .hello; ours = g .ours; plan = g .plan; replied = el ∙ g .replied; heard = g .heard };
+            record { hello = g .hello; ours = g .ours; plan = g .plan; replied = el ∙ g .replied; heard = g .heard };
         verified = λ z. let v = p .verified (sym es ∙ z) in
-        record {
-          between = what ∷ v .between;
-          random = v .random;
-          d = v .d;
-          r = v .r;
-          before = v .before;
-          split = ap (λ y. what ∷ y) (v .split);
-          quiet = q (v .between) (v .quiet);
-          hello = v .hello;
-          ours = v .ours;
-          plan = v .plan;
-          replied = v .replied;
-          heard = v .heard;
-          handshake = v .handshake;
-          genuine = v .genuine;
-        };
+            record {
+              between = what ∷ v .between;
+              random = v .random;
+              d = v .d;
+              r = v .r;
+              before = v .before;
+              split = ap (λ y. what ∷ y) (v .split);
+              quiet = q (v .between) (v .quiet);
+              hello = v .hello;
+              ours = v .ours;
+              plan = v .plan;
+              replied = v .replied;
+              heard = v .heard;
+              handshake = v .handshake;
+              genuine = v .genuine;
+            };
       }
 
   still-refused : (x : Handshake) → KeptAs session (refused ∷ past) x → x .state ≡ h .state → Progress session (refused ∷ past) x

@@ -6,3 +6,5 @@ pub mod Calling
 pub mod Refusing
 pub mod Keeping
 pub mod Finishing
+pub mod Leaving
+pub mod Handing

@@ -9,5 +9,7 @@ pub mod Events
 pub mod Past
 pub mod Kept
 pub mod Finished
+pub mod LeftOut
 pub mod Course
+pub mod HandedOut
 pub mod Open

@@ -1,6 +1,4 @@
 -- Stated, and not yet proved.
-pub mod LeftOut
-pub mod HandedOut
 pub mod Barred
 pub mod Sends
 pub mod Counts

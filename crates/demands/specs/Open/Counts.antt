@@ -15,7 +15,7 @@ use Rattle.connection.specs.declared.refusal.Refusal.the-variants as X
 use Rattle.connection.specs.declared.tally.Tally.{Tally}
 use Rattle.demands.specs.Runs.{Call, Result, Step, Gateway}
 use Rattle.demands.specs.Past.{isData}
-use Rattle.demands.specs.Open.LeftOut.{answersIn}
+use Rattle.demands.specs.LeftOut.{answersIn}
 
 -- the refusal that an answer is, if it is this one: 9, 10 or 11
 abbrev pub isForged : Refusal → Bool
