@@ -8,3 +8,5 @@ pub mod Keeping
 pub mod Finishing
 pub mod Leaving
 pub mod Handing
+pub mod Barring
+pub mod Counting

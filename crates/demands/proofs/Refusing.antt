@@ -66,7 +66,7 @@ laid-nothing out = refl
 framed-one : (rs qs : List Record) (f : Framing) → f ≡ framed rs → f ≡ framed qs → rs ≡ qs
 framed-one rs qs f e g = cc
 
-no-reply : (c : Connection) (random d : List ℕ) (r : Record) (rs : List Record) → replySize (judgedRecord (c .handshake) random d r .answer) ≡ 0
+pub no-reply : (c : Connection) (random d : List ℕ) (r : Record) (rs : List Record) → replySize (judgedRecord (c .handshake) random d r .answer) ≡ 0
     → firstReply (c .handshake) random d (r ∷ rs) ≡ []
 unfolding firstReply
 no-reply c random d r rs e = ap (λ n. take n (judgedRecord (c .handshake) random d r .handshake .kept .reply)) e

@@ -12,4 +12,8 @@ pub mod Finished
 pub mod LeftOut
 pub mod Course
 pub mod HandedOut
-pub mod Open
+pub mod Barred
+pub mod Sends
+pub mod Counts
+-- stated, and not yet proved
+pub mod Works
