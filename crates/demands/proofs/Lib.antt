@@ -10,3 +10,6 @@ pub mod Leaving
 pub mod Handing
 pub mod Barring
 pub mod Counting
+pub mod Wire
+pub mod Sendings
+pub mod Working

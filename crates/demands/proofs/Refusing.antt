@@ -96,7 +96,7 @@ outcomeIn (received taken answers written) = O.Done
 outcomeIn (sent outcome written) = outcome
 outcomeIn (called outcome) = outcome
 
-refused-done : {P : Type 0} (x : Refusal) → O.Refused x ≡ O.Done → P
+pub refused-done : {P : Type 0} (x : Refusal) → O.Refused x ≡ O.Done → P
 refused-done x e = let z : _≡_ {A = ℕ} 0 1 = cc in absurd (omega arith)
 
 data-after : (c : Connection) (bytes out : List ℕ) {s : Step} → CallRow c (send-data bytes out) s → outcomeIn (s .result) ≡ O.Done

@@ -15,5 +15,4 @@ pub mod HandedOut
 pub mod Barred
 pub mod Sends
 pub mod Counts
--- stated, and not yet proved
 pub mod Works
