@@ -13,3 +13,4 @@ pub mod Counting
 pub mod Wire
 pub mod Sendings
 pub mod Working
+pub mod Placing

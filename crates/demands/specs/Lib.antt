@@ -16,3 +16,6 @@ pub mod Barred
 pub mod Sends
 pub mod Counts
 pub mod Works
+pub mod Places
+pub mod Gateways
+pub mod Example
