@@ -14,3 +14,5 @@ pub mod Wire
 pub mod Sendings
 pub mod Working
 pub mod Placing
+pub mod Examples
+pub mod Gating

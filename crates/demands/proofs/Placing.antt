@@ -30,7 +30,7 @@ unfolding after
 after-more h [] fs = refl
 after-more h (e ∷ es) fs = after-more (next h e) es fs
 
-sound-more : (es fs : List Event) → AllSound es → AllSound fs → AllSound (es ++ fs)
+pub sound-more : (es fs : List Event) → AllSound es → AllSound fs → AllSound (es ++ fs)
 sound-more [] fs a b = b
 sound-more (e ∷ es) fs a b = (a .0, sound-more es fs (a .1) b)
 

@@ -119,6 +119,33 @@ expected-size session random m plan =
 
 -- ---- the four datagrams
 
+-- a handshake and one data record, as the table takes them
+pub record Walk (id secret random bytes : List ℕ) : Type 0 where
+  pub d₁ : List ℕ
+  pub d₂ : List ℕ
+  pub d₃ : List ℕ
+  pub d₄ : List ℕ
+  pub r₁ : Record
+  pub r₂ : Record
+  pub r₃ : Record
+  pub r₄ : Record
+  pub h₁ : Handshake
+  pub h₂ : Handshake
+  pub h₃ : Handshake
+  pub h₄ : Handshake
+  pub reply : ℕ
+  pub framed₁ : framingOf d₁ ≡ framed (r₁ ∷ [])
+  pub framed₂ : framingOf d₂ ≡ framed (r₂ ∷ [])
+  pub framed₃ : framingOf d₃ ≡ framed (r₃ ∷ [])
+  pub framed₄ : framingOf d₄ ≡ framed (r₄ ∷ [])
+  pub row₁ : Row (freshWith id secret) random d₁ r₁ (judged (W.Reply reply) h₁)
+  pub row₂ : Row h₁ random d₂ r₂ (judged W.Spec h₂)
+  pub row₃ : Row h₂ random d₃ r₃ (judged W.Open h₃)
+  pub row₄ : Row h₃ random d₄ r₄ (judged (W.Data 1 3 (length bytes)) h₄)
+  pub replied-is : h₁ .state ≡ S.Replied
+  pub spec-is : h₂ .state ≡ S.Spec
+  pub open-is : h₃ .state ≡ S.Open
+
 module _ (id secret m random out bytes : List ℕ) (plan : Plan) (lr : length random ≡ 16) (lo : 128 ≤ length out) (e : heardOf m id ≡ H.Accepted plan) (some : 1 ≤ length bytes) (most : length bytes ≤ 1300) where
   abbrev session : Session
   session = sessionOf id secret
@@ -258,6 +285,37 @@ module _ (id secret m random out bytes : List ℕ) (plan : Plan) (lr : length ra
   as-sent : handedOf (sealedDatagram k C.Data 1 bytes) (W.Data 1 3 (length bytes)) ≡ bytes
   unfolding d₄ r₄
   as-sent = handed-part k d₄ r₄ bytes some sealed₄
+
+  -- the datagrams, the records in them, and what each leaves
+  pub walk : Walk id secret random bytes
+  unfolding d₁ d₂ d₃ d₄ r₁ r₂ r₃ r₄ h₁ answeredWith h₂ h₃
+  walk =
+      record {
+        d₁ = d₁;
+        d₂ = d₂;
+        d₃ = d₃;
+        d₄ = d₄;
+        r₁ = r₁;
+        r₂ = r₂;
+        r₃ = r₃;
+        r₄ = r₄;
+        h₁ = h₁;
+        h₂ = h₂;
+        h₃ = h₃;
+        h₄ = h₄;
+        reply = length (replyTo session random m plan);
+        framed₁ = clear-framed C.Handshake 0 (omega arith) m hello-some hello-most;
+        framed₂ = clear-framed C.ChangeCipherSpec 1 (omega arith) changeBytes (omega arith) (omega arith);
+        framed₃ = sealed-framed C.Handshake 0 (omega arith) (unitKey k 0) (plan .mac) (finishedOf expected) (omega (arith, size-most (plan .mac), expected-size session random m plan));
+        framed₄ = sealed-framed C.Data 1 (omega arith) (unitKey k 1) (plan .mac) bytes (omega (arith, size-most (plan .mac)));
+        row₁ = row₁;
+        row₂ = row₂;
+        row₃ = row₃;
+        row₄ = row₄;
+        replied-is = refl;
+        spec-is = refl;
+        open-is = refl;
+      }
 
   pub worked : Worked stepOf id secret m random out bytes plan
   worked =
