@@ -23,11 +23,11 @@ use Rattle.message.specs.declared.alert.Graded.{Graded}
 use Rattle.message.specs.declared.alert.Graded.the-variants as G
 use Rattle.message.specs.declared.alert.Sorted.{Sorted}
 use Rattle.message.specs.declared.alert.Sorted.the-variants as D
-use Rattle.connection.specs.Handshake.{withState, reopened}
+use Rattle.connection.specs.Handshake.{withState, reopened, blankHandshake}
 use Rattle.connection.specs.Judge.{judgedRecord}
 use Rattle.connection.specs.Receive.{slotsOf, firstReply, endOf, answersOf, receivedOf, outputOf, wholeOf, runOf, framedTo, sentOf}
 use Rattle.connection.specs.Send.{nextProtected, nextAlert, afterProtected, afterAlert, alertBody, mayData, maySeal, mayClear, andThen, numberedBy, dataRefused, alertRefused, alertOutcome, sentTo, outputTo, done, dataSent, dataOutput, dataOutcome, alertSent, alertOutput, alertSentAs, alertOutputAs}
-use Rattle.connection.specs.Calls.{closedOf, closedIn, startedOf, startedIn}
+use Rattle.connection.specs.Calls.{closedOf, closedIn, startedOf, startedIn, freshOf, leaving}
 use Rattle.connection.specs.declared.state.State.{State}
 use Rattle.connection.specs.declared.state.State.the-variants as S
 use Rattle.connection.specs.declared.refusal.Refusal.{Refusal}
@@ -35,13 +35,14 @@ use Rattle.connection.specs.declared.refusal.Refusal.the-variants as X
 use Rattle.connection.specs.declared.answer.Answer.{Answer}
 use Rattle.connection.specs.declared.answer.Judged.{Judged}
 use Rattle.connection.specs.declared.calls.Connection.{Connection}
+use Rattle.connection.specs.declared.calls.Called.{Called}
 use Rattle.connection.specs.declared.calls.Outcome.{Outcome}
 use Rattle.connection.specs.declared.calls.Outcome.the-variants as O
 use Rattle.connection.specs.declared.receive.Taken.the-variants as T
 use Rattle.connection.specs.declared.handshake.Handshake.{Handshake}
-use Rattle.demands.specs.Runs.{Call, receive, send-data, send-alert, close, start, received, sent, called, receivedAs, sentAs, calledAs, Step, stepOf}
+use Rattle.demands.specs.Runs.{Call, receive, send-data, send-alert, close, start, received, sent, called, receivedAs, sentAs, calledAs, Step, stepOf, freshWith}
 use Rattle.demands.specs.Table.{Row, ended}
-use Rattle.demands.specs.Calls.{Chain, chain-end, chain-more, ofHandshake, notTaken, notSent, notCalled, taken, wasSent, wasCalled, mayAlert, numberFor, codeFor, BadData, BadAlert, GoodData, GoodAlert, CallRow, CallsHold}
+use Rattle.demands.specs.Calls.{Chain, chain-end, chain-more, ofHandshake, notTaken, notSent, notCalled, taken, wasSent, wasCalled, mayAlert, numberFor, codeFor, BadData, BadAlert, GoodData, GoodAlert, CallRow, CallsHold, FreshRow, fresh-16, fresh-done, FreshHolds}
 use Rattle.demands.specs.Calls.{receive-16, receive-6, receive-framing, receive-records, data-16, data-7, data-8, data-15, data-6, data-sent, alert-16, alert-7, alert-8, alert-15, alert-6, alert-sent, close-7, close-done, start-7, start-8, start-done}
 use Rattle.demands.proofs.Sealing.{true-false}
 use Rattle.demands.proofs.Tables.{row-of, row-is}
@@ -495,3 +496,36 @@ call-is c (start-done e) = ap (λ s. calledAs (startedIn (c .handshake) s)) e
 pub calls-hold : CallsHold
 unfolding CallsHold
 calls-hold c call s = (λ e. subst (CallRow c call) e (call-of c call), call-is c)
+
+-- ---- fresh
+
+module _ (id secret : List ℕ) where
+  abbrev freshBy : Bool → Bool → Called
+  freshBy eight twenty =
+      pick eight (pick twenty (leaving O.Done (freshWith id secret)) (leaving (O.Refused X.Argument) blankHandshake)) (leaving (O.Refused X.Argument) blankHandshake)
+
+  fresh-is : freshOf id secret ≡ freshBy (eqb (length id) 8) (eqb (length secret) 20)
+  unfolding freshOf
+  fresh-is = refl
+
+  fresh-by : (a b : Bool) → eqb (length id) 8 ≡ a → eqb (length secret) 20 ≡ b → FreshRow id secret (freshBy a b)
+  fresh-by false b ea eb = fresh-16 (inl (eqb-false (length id) 8 ea))
+  fresh-by true false ea eb = fresh-16 (inr (eqb-false (length secret) 20 eb))
+  fresh-by true true ea eb = fresh-done (eqb-true (length id) 8 ea) (eqb-true (length secret) 20 eb)
+
+  fresh-of : FreshRow id secret (freshOf id secret)
+  fresh-of = subst (FreshRow id secret) (sym fresh-is) (fresh-by (eqb (length id) 8) (eqb (length secret) 20) refl refl)
+
+  not-twenty : (b : Bool) → freshBy b false ≡ leaving (O.Refused X.Argument) blankHandshake
+  not-twenty true = refl
+  not-twenty false = refl
+
+  fresh-row : {s : Called} → FreshRow id secret s → freshOf id secret ≡ s
+  fresh-row (fresh-16 (inl n)) = fresh-is ∙ ap (λ b. freshBy b (eqb (length secret) 20)) (ne-eqb (length id) 8 n)
+  fresh-row (fresh-16 (inr n)) =
+      fresh-is ∙ ap (λ b. freshBy (eqb (length id) 8) b) (ne-eqb (length secret) 20 n) ∙ not-twenty (eqb (length id) 8)
+  fresh-row (fresh-done a b) = fresh-is ∙ ap₂ freshBy (eq-eqb (length id) 8 a) (eq-eqb (length secret) 20 b)
+
+pub fresh-holds : FreshHolds
+unfolding FreshHolds
+fresh-holds id secret s = (λ e. subst (FreshRow id secret) e (fresh-of id secret), fresh-row id secret)

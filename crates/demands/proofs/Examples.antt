@@ -21,7 +21,7 @@ use Rattle.connection.specs.declared.state.State.the-variants.{Open}
 use Rattle.connection.specs.declared.handshake.Handshake.{Handshake}
 use Rattle.demands.specs.Genuine.{RecordOf}
 use Rattle.demands.specs.Events.{Event, took, AllSound, after}
-use Rattle.demands.specs.Kept.{freshWith}
+use Rattle.demands.specs.Runs.{freshWith}
 use Rattle.demands.specs.Example.{exampleId, exampleSecret, exampleHello, exampleRandom, examplePlan, exampleOut, exampleData}
 use Rattle.demands.proofs.Tables.{row-is}
 use Rattle.demands.proofs.Working.{Walk, walk}

@@ -52,7 +52,8 @@ use Rattle.demands.specs.Calls.{CallRow, data-16, data-7, data-8, data-1
 use Rattle.demands.specs.Refusals.{writtenBy}
 use Rattle.demands.specs.Events.{Event, took, sending, alerting, closing, starting, Sound, AllSound, Happened, answered, wrote, closed, started, refused, ifDone, connectionOf, next, happening, after, history}
 use Rattle.demands.specs.Past.{Greeting, none, greeting, isReply, isData, shuts, lastReply, agreedFor, agreedAs, keysWith, keysIn, expectedIn, barredIn}
-use Rattle.demands.specs.Kept.{KeptAs, freshWith}
+use Rattle.demands.specs.Runs.{freshWith}
+use Rattle.demands.specs.Kept.{KeptAs}
 use Rattle.demands.specs.Finished.{Quiet, Verified, OnlyAfterFinished}
 use Rattle.demands.proofs.Sealing.{true-false}
 use Rattle.demands.proofs.Tables.{row-of}
@@ -409,6 +410,6 @@ data-open h random d r (row-wrong-finished c w n e m) z = true-false false z ref
 
 pub only-after-finished : OnlyAfterFinished
 unfolding OnlyAfterFinished
-only-after-finished id secret li ls es sound random d r here z =
+only-after-finished id secret es sound random d r here z =
     progress-all (sessionOf id secret) es [] (freshWith id secret) sound (progress-fresh id secret) .verified
     (data-open (after (freshWith id secret) es) random d r (row-of (after (freshWith id secret) es) random d r) z)

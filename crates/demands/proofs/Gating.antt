@@ -41,13 +41,13 @@ use Rattle.demands.specs.Table.{Row, ended, allowed, helloWhileOpen, row
 use Rattle.demands.specs.Calls.{Chain, chain-end, chain-more, taken, receive-records}
 use Rattle.demands.specs.Events.{Event, took, sending, alerting, closing, starting, AllSound, Happened, eventsOf, connectionOf, after, history}
 use Rattle.demands.specs.Past.{isData, keysIn}
-use Rattle.demands.specs.Kept.{freshWith}
+use Rattle.demands.specs.Runs.{freshWith}
 use Rattle.demands.specs.LeftOut.{answersIn}
 use Rattle.demands.specs.Course.{Course, Ongoing, Due}
 use Rattle.demands.specs.HandedOut.{courseFrom, answerAt, HandedOut}
 use Rattle.demands.specs.Counts.{countIn, countOver, tallyAfter, upToStop, OnConnection, refusedAs, isForged, isOld, isRepeated, CountsRight}
 use Rattle.demands.specs.Places.{answerOf, RunsAreEvents, AnswersInPlace}
-use Rattle.demands.specs.Gateways.{AnswersByTable, Demand2, HandsOut, Demand3, refusesCalls, byRecords, answersAlike, doesNothing, firstThen, firstLeaves, firstOnly, invented}
+use Rattle.demands.specs.Gateways.{AnswersByTable, Demand2, Demand2IsTable, FiveFail, HandsOut, Demand3, refusesCalls, byRecords, answersAlike, doesNothing, firstThen, firstLeaves, firstOnly, invented}
 use Rattle.demands.specs.Example.{exampleId, exampleSecret, exampleRandom, exampleOut, exampleData}
 use Rattle.demands.proofs.Sealing.{true-false}
 use Rattle.demands.proofs.Tables.{row-is}
@@ -74,6 +74,15 @@ pub meets-2 : Demand2 stepOf
 unfolding Demand2
 meets-2 c call = call-of c call
 
+-- a gateway that goes by the rows gives what ours gives
+pub demand-2-table : Demand2IsTable
+unfolding Demand2IsTable Demand2 AnswersByTable
+demand-2-table g rows c d random out rs e l f =
+    let same : stepOf c (receive d random out) ≡ g c (receive d random out) = call-is c (rows c (receive d random out)) in
+    subst
+    (λ s. (answers : List Answer) × (written : ℕ) × (s .result ≡ received (T.Records (length rs)) (slotsOf answers) written) × Chain random d (c .handshake) rs answers (s .connection .handshake))
+    same (answers-by-table c d random out rs e l f)
+
 ongoing-more : (es fs : List Event) → Ongoing es → Ongoing fs → Ongoing (es ++ fs)
 ongoing-more [] fs a b = b
 ongoing-more (took random d r ∷ es) fs a b = ongoing-more es fs a b
@@ -88,7 +97,7 @@ records-ongoing random d (r ∷ rs) = records-ongoing random d rs
 
 pub hands-out : HandsOut stepOf
 unfolding HandsOut HandedOut RunsAreEvents AnswersInPlace
-hands-out id secret li ls es sound is-open calls go d random out before r behind e l f =
+hands-out id secret es sound is-open calls go d random out before r behind e l f =
     let h : Handshake = after (freshWith id secret) es in
     let c : Connection = lastOf stepOf (connectionOf h) calls in
     let later : List Event = eventsOf calls ++ map (took random d) before in
@@ -98,7 +107,7 @@ hands-out id secret li ls es sound is-open calls go d random out before r behind
     = answers-in-place c d random out before r behind e l f
     ∙ ap (λ x. judgedRecord (after x (map (took random d) before)) random d r .answer) (runs-are-events (connectionOf h) calls .0)
     ∙ ap (λ x. judgedRecord x random d r .answer) (sym (after-more h (eventsOf calls) (map (took random d) before))) in
-    let q = handed-out id secret li ls es sound is-open later (sound-more (eventsOf calls) (map (took random d) before) (run-sound calls) (records-sound random d e [] before (r ∷ behind) f)) (ongoing-more (eventsOf calls) (map (took random d) before) go (records-ongoing random d before)) random d r (e, record { before = before; behind = behind; framing = f }) in
+    let q = handed-out id secret es sound is-open later (sound-more (eventsOf calls) (map (took random d) before) (run-sound calls) (records-sound random d e [] before (r ∷ behind) f)) (ongoing-more (eventsOf calls) (map (took random d) before) go (records-ongoing random d before)) random d r (e, record { before = before; behind = behind; framing = f }) in
     subst (λ a. ((isData a ≡ true) ↔ ((x : List ℕ) × Due (keysIn session past) (courseFrom session past later) d r x)) × ((x : List ℕ) → Due (keysIn session past) (courseFrom session past later) d r x → handedOf d a ≡ x)) (sym same) q
 
 pub meets-3 : Demand3 stepOf
@@ -134,9 +143,9 @@ due-example g hands =
     let es : List Event = opening exampleId exampleSecret exampleRandom exampleData sixteen w in
     let sound = opening-sound exampleId exampleSecret exampleRandom exampleData sixteen w in
     let is-open = opening-open exampleId exampleSecret exampleRandom exampleData sixteen w in
-    let ours = hands-out exampleId exampleSecret refl refl es sound is-open [] tt (w .d₄) exampleRandom exampleOut [] (w .r₄) [] sixteen room (w .framed₄) in
+    let ours = hands-out exampleId exampleSecret es sound is-open [] tt (w .d₄) exampleRandom exampleOut [] (w .r₄) [] sixteen room (w .framed₄) in
     let at : after start₀ es ≡ w .h₃ = opening-leaves exampleId exampleSecret exampleRandom exampleData sixteen w in
-    hands exampleId exampleSecret refl refl es sound is-open [] tt (w .d₄) exampleRandom exampleOut [] (w .r₄) [] sixteen room (w .framed₄) .0 .1 (ours .0 .0 (ap isData (example-data (after start₀ es) at)))
+    hands exampleId exampleSecret es sound is-open [] tt (w .d₄) exampleRandom exampleOut [] (w .r₄) [] sixteen room (w .framed₄) .0 .1 (ours .0 .0 (ap isData (example-data (after start₀ es) at)))
 
 -- ---- one that refuses everything
 
@@ -272,3 +281,16 @@ invented-tally t right =
     = ap (λ x. x .handed) (right (handing ∷ handing ∷ [])) in
     let z : _≡_ {A = ℕ} 1 2 = sym (ap (λ n. upToStop (n + 0)) handing-counts) ∙ sym one ∙ two ∙ ap (λ n. upToStop (n + (n + 0))) handing-counts in
     omega arith
+
+pub five-fail : FiveFail
+five-fail =
+    record {
+      refuses-calls-table = refusing-calls-table;
+      refuses-calls-hands = refusing-calls-hands;
+      refuses-records-table = λ x. alike-table (W.Refused x);
+      refuses-records-hands = λ x. alike-hands (W.Refused x) refl;
+      answers-alike-table = alike-table;
+      does-nothing-table = nothing-table;
+      first-only-table = first-only-table;
+      invented-tally = invented-tally;
+    }

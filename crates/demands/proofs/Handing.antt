@@ -51,7 +51,7 @@ use Rattle.demands.specs.Calls.{CallRow, data-16, data-7, data-8, data-1
 use Rattle.demands.specs.Events.{Event, took, sending, alerting, closing, starting, Sound, AllSound, Happened, connectionOf, next, after, history}
 use Rattle.demands.specs.Past.{isData, keysIn, expectedIn, acceptedIn, barredIn}
 use Rattle.demands.specs.Course.{Course, genuineBytes, contentBytes, isNew, levelShuts, alertShuts, finishedShuts, contentShuts, withRecord, withEvent, courseOf, Ongoing, Due}
-use Rattle.demands.specs.Kept.{freshWith}
+use Rattle.demands.specs.Runs.{freshWith}
 use Rattle.demands.specs.HandedOut.{courseFrom, answerAt, HandedOut, HandedOnce}
 use Rattle.demands.proofs.Sealing.{true-false, sealed-right, sealed-content, right-sealed}
 use Rattle.demands.proofs.Tables.{row-of, row-is}
@@ -424,7 +424,7 @@ module _ (k : Keys) (expected : List ℕ) (course : Course) (h : Handshake) (a :
 
 pub handed-out : HandedOut
 unfolding HandedOut
-handed-out id secret li ls es sound is-open later more go random d r here =
+handed-out id secret es sound is-open later more go random d r here =
     let h₀ : Handshake = freshWith id secret in
     let session : Session = sessionOf id secret in
     let past : List Happened = history h₀ es [] in
@@ -492,14 +492,14 @@ ongoing-front (starting ∷ es) fs g = absurd g
 
 pub handed-once : HandedOnce
 unfolding HandedOnce HandedOut courseOf
-handed-once id secret li ls es sound is-open later between sl sb random d r random′ d′ r′ here there go x y same =
+handed-once id secret es sound is-open later between sl sb random d r random′ d′ r′ here there go x y same =
     let h₀ : Handshake = freshWith id secret in
     let session : Session = sessionOf id secret in
     let past : List Happened = history h₀ es [] in
     let k : Keys = keysIn session past in
     let expected : List ℕ = expectedIn session past in
-    let first = handed-out id secret li ls es sound is-open later sl (ongoing-front later (took random d r ∷ between) go) random d r here .0 .0 x in
-    let second = handed-out id secret li ls es sound is-open (later ++ (took random d r ∷ between)) (sound-more later (took random d r ∷ between) sl (here, sb)) go random′ d′ r′ there .0 .0 y in
+    let first = handed-out id secret es sound is-open later sl (ongoing-front later (took random d r ∷ between) go) random d r here .0 .0 x in
+    let second = handed-out id secret es sound is-open (later ++ (took random d r ∷ between)) (sound-more later (took random d r ∷ between) sl (here, sb)) go random′ d′ r′ there .0 .0 y in
     let used : accepted (withRecord k expected (courseFrom session past later) d r .numbers) (r .number) ≡ true
     = due-used k expected (courseFrom session past later) d r (first .0) (first .1) in
     let still : accepted (courseFrom session past (later ++ (took random d r ∷ between)) .numbers) (r .number) ≡ true

@@ -46,7 +46,8 @@ use Rattle.demands.specs.Calls.{CallRow, data-16, data-7, data-8, data-1
 use Rattle.demands.specs.Refusals.{writtenBy}
 use Rattle.demands.specs.Events.{Event, took, sending, alerting, closing, starting, Sound, AllSound, Happened, answered, wrote, closed, started, refused, ifDone, connectionOf, next, happening, after, history}
 use Rattle.demands.specs.Past.{greeting, isReply, isSpec, isBarred, marks, lastReply, keptGreeting, agreedFor, agreedAs, helloAs, replyFor, replyHeard, nextSealed, nextClearNumber, lastWritten, lastHeard, acceptedIn, barredIn}
-use Rattle.demands.specs.Kept.{KeptAs, freshWith, KeptIsWhatHappened}
+use Rattle.demands.specs.Runs.{freshWith}
+use Rattle.demands.specs.Kept.{KeptAs, KeptIsWhatHappened}
 use Rattle.demands.proofs.Sealing.{true-false}
 use Rattle.demands.proofs.Tables.{row-of}
 use Rattle.demands.proofs.Changing.{hello-clear}
@@ -396,5 +397,5 @@ kept-fresh id secret =
 
 pub kept-is-what-happened : KeptIsWhatHappened
 unfolding KeptIsWhatHappened
-kept-is-what-happened id secret li ls es sound =
+kept-is-what-happened id secret es =
     kept-all (sessionOf id secret) es [] (freshWith id secret) (kept-fresh id secret)

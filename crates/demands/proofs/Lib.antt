@@ -16,3 +16,4 @@ pub mod Working
 pub mod Placing
 pub mod Examples
 pub mod Gating
+pub mod Reading

@@ -37,7 +37,8 @@ use Rattle.demands.specs.Calls.{mayAlert, numberFor, CallRow, data-16, d
 use Rattle.demands.specs.Refusals.{writtenBy}
 use Rattle.demands.specs.Events.{Event, AllSound, Happened, connectionOf, after, history}
 use Rattle.demands.specs.Past.{keysIn, nextSealed, nextClearNumber, barredIn}
-use Rattle.demands.specs.Kept.{KeptAs, freshWith}
+use Rattle.demands.specs.Runs.{freshWith}
+use Rattle.demands.specs.Kept.{KeptAs}
 use Rattle.demands.specs.Sends.{ourKey, SealedRecord, ClearRecord, AlertRecord, DataSentRight, AlertSentRight}
 use Rattle.demands.proofs.Sealing.{true-false}
 use Rattle.demands.proofs.Calling.{call-of}
@@ -134,14 +135,14 @@ module _ (session : Session) (past : List Happened) (h : Handshake) (p : Progres
 
 pub data-sent-right : DataSentRight
 unfolding DataSentRight stepOf
-data-sent-right id secret li ls es sound bytes out x =
+data-sent-right id secret es sound bytes out x =
     let h₀ : Handshake = freshWith id secret in
     data-by (sessionOf id secret) (history h₀ es []) (after h₀ es) (progress-all (sessionOf id secret) es [] h₀ sound (progress-fresh id secret)) bytes out
     (call-of (connectionOf (after h₀ es)) (send-data bytes out)) x
 
 pub alert-sent-right : AlertSentRight
 unfolding AlertSentRight stepOf
-alert-sent-right id secret li ls es sound sealed level description l k lent out el ek x =
+alert-sent-right id secret es sound sealed level description l k lent out el ek x =
     let h₀ : Handshake = freshWith id secret in
     alert-by (sessionOf id secret) (history h₀ es []) (after h₀ es) (progress-all (sessionOf id secret) es [] h₀ sound (progress-fresh id secret)) sealed level description l k lent out el ek
     (call-of (connectionOf (after h₀ es)) (send-alert sealed level description lent out)) x

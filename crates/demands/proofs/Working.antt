@@ -60,7 +60,7 @@ use Rattle.demands.specs.Genuine.{Keys, Sealed, RecordOf, keysOf, unitKe
 use Rattle.demands.specs.Table.{Row, New, Guarded, Greets, isHello, row-reply, row-change, row-open, row-data}
 use Rattle.demands.specs.Calls.{chain-end, chain-more, taken, receive-records}
 use Rattle.demands.specs.Events.{connectionOf}
-use Rattle.demands.specs.Kept.{freshWith}
+use Rattle.demands.specs.Runs.{freshWith}
 use Rattle.demands.specs.Works.{clearDatagram, sealedDatagram, keysAfter, oneAnswer, Worked, Works}
 use Rattle.demands.proofs.Sealing.{true-false}
 use Rattle.demands.proofs.Tables.{row-is}
@@ -333,4 +333,4 @@ module _ (id secret m random out bytes : List ℕ) (plan : Plan) (lr : length ra
 
 pub it-works : Works stepOf
 unfolding Works
-it-works id secret m random out bytes plan li ls lr lo e some most = worked id secret m random out bytes plan lr lo e some most
+it-works id secret m random out bytes plan lr lo e some most = worked id secret m random out bytes plan lr lo e some most

@@ -18,7 +18,8 @@ use Rattle.message.specs.declared.alert.Level.{Level}
 use Rattle.message.specs.declared.alert.Description.{Description}
 use Rattle.message.specs.declared.alert.Graded.the-variants as G
 use Rattle.message.specs.declared.alert.Sorted.the-variants as D
-use Rattle.connection.specs.Handshake.{withState, reopened}
+use Rattle.connection.specs.Calls.{freshOf, leaving}
+use Rattle.connection.specs.Handshake.{withState, reopened, blankHandshake}
 use Rattle.connection.specs.Receive.{slotsOf, firstReply}
 use Rattle.connection.specs.Send.{nextProtected, nextAlert, afterProtected, afterAlert, alertBody}
 use Rattle.connection.specs.declared.state.State.{State}
@@ -28,12 +29,13 @@ use Rattle.connection.specs.declared.refusal.Refusal.the-variants as X
 use Rattle.connection.specs.declared.answer.Answer.{Answer}
 use Rattle.connection.specs.declared.answer.Judged.{Judged}
 use Rattle.connection.specs.declared.calls.Connection.{Connection}
+use Rattle.connection.specs.declared.calls.Called.{Called}
 use Rattle.connection.specs.declared.calls.Outcome.{Outcome}
 use Rattle.connection.specs.declared.calls.Outcome.the-variants as O
 use Rattle.connection.specs.declared.receive.Taken.{Taken}
 use Rattle.connection.specs.declared.receive.Taken.the-variants as T
 use Rattle.connection.specs.declared.handshake.Handshake.{Handshake}
-use Rattle.demands.specs.Runs.{Call, receive, send-data, send-alert, close, start, received, sent, called, Step, stepOf}
+use Rattle.demands.specs.Runs.{Call, receive, send-data, send-alert, close, start, received, sent, called, Step, stepOf, freshWith}
 use Rattle.demands.specs.Table.{Row, ended}
 
 -- Records one after the other, each in the handshake that those before it left: an answer for each, and what the last one leaves.
@@ -155,6 +157,14 @@ pub data CallRow (c : Connection) : Call → Step → Type 0 where
   start-7 : c .handshake .state ≡ Barred → CallRow c start (notCalled c X.Ended)
   start-8 : c .handshake .state ≢ Barred → c .handshake .state ≢ Closed → CallRow c start (notCalled c X.NotAllowed)
   start-done : c .handshake .state ≡ Closed → CallRow c start (wasCalled (reopened (c .handshake)))
+
+-- "Fresh connection: 16 only": "identifier not 8, secret not 20". What stands beside the refusal is blank and Barred.
+pub data FreshRow (id secret : List ℕ) : Called → Type 0 where
+  fresh-16 : (length id ≢ 8) ⊎ (length secret ≢ 20) → FreshRow id secret (leaving (O.Refused X.Argument) blankHandshake)
+  fresh-done : length id ≡ 8 → length secret ≡ 20 → FreshRow id secret (leaving O.Done (freshWith id secret))
+
+unfoldable pub FreshHolds : Type 0
+FreshHolds = (id secret : List ℕ) (s : Called) → (freshOf id secret ≡ s) ↔ FreshRow id secret s
 
 -- a call gives this exactly if there is a row that says so
 unfoldable pub CallsHold : Type 0

@@ -17,6 +17,7 @@ use Rattle.connection.specs.Receive.{slotsOf}
 use Rattle.connection.specs.declared.state.State.the-variants.{Open}
 use Rattle.connection.specs.declared.refusal.Refusal.{Refusal}
 use Rattle.connection.specs.declared.answer.Answer.{Answer}
+use Rattle.connection.specs.declared.answer.Answer.the-variants.{Refused}
 use Rattle.connection.specs.declared.calls.Connection.{Connection}
 use Rattle.connection.specs.declared.receive.Taken.the-variants as T
 use Rattle.connection.specs.declared.tally.Tally.{Tally}
@@ -26,12 +27,12 @@ use Rattle.demands.specs.Calls.{Chain, CallRow, notTaken, notSent, notCa
 use Rattle.demands.specs.Refusals.{lentBy}
 use Rattle.demands.specs.Events.{Event, took, AllSound, eventsOf, connectionOf, after, history}
 use Rattle.demands.specs.Past.{isData, keysIn}
-use Rattle.demands.specs.Kept.{freshWith}
+use Rattle.demands.specs.Runs.{freshWith}
 use Rattle.demands.specs.LeftOut.{LeavesOut}
 use Rattle.demands.specs.Course.{Ongoing, Due}
 use Rattle.demands.specs.HandedOut.{courseFrom}
 use Rattle.demands.specs.Places.{answerOf}
-use Rattle.demands.specs.Counts.{Counting}
+use Rattle.demands.specs.Counts.{Counting, CountsRight}
 
 -- Demand 2: "one answer per record", each by the table, in the state that the records before it left; and the connection is what the last
 -- one leaves
@@ -41,14 +42,17 @@ AnswersByTable g =
     → (answers : List Answer) × (written : ℕ) × (g c (receive d random out) .result ≡ received (T.Records (length rs)) (slotsOf answers) written)
     × Chain random d (c .handshake) rs answers (g c (receive d random out) .connection .handshake)
 
--- every call by its row
+-- every call by its row; then its receives answer by the table
 unfoldable pub Demand2 : Gateway → Type 0
 Demand2 g = (c : Connection) (call : Call) → CallRow c call (g c call)
+
+unfoldable pub Demand2IsTable : Type 0
+Demand2IsTable = (g : Gateway) → Demand2 g → AnswersByTable g
 
 -- Demand 3, the handing out: from an open connection, with its past, by the calls of the gateway itself
 unfoldable pub HandsOut : Gateway → Type 0
 HandsOut g =
-    (id secret : List ℕ) → length id ≡ 8 → length secret ≡ 20 → (es : List Event) → AllSound es
+    (id secret : List ℕ) (es : List Event) → AllSound es
     → after (freshWith id secret) es .state ≡ Open → (calls : List Call) → Ongoing (eventsOf calls)
     → (d random out : List ℕ) (before : List Record) (r : Record) (behind : List Record) → length random ≡ 16 → 128 ≤ length out
     → framingOf d ≡ framed (before ++ (r ∷ behind))
@@ -111,3 +115,14 @@ firstOnly a c start = stepOf c start
 -- an invented tally: whatever the answers were
 abbrev pub invented : Tally → Counting
 invented t u result = t
+
+-- None of them passes. 01 names for each what it fails: the table, the handing out, one answer per record, the history rule.
+pub record FiveFail : Type 0 where
+  pub refuses-calls-table : (x : Refusal) → AnswersByTable (refusesCalls x) → ⊥
+  pub refuses-calls-hands : (x : Refusal) → HandsOut (refusesCalls x) → ⊥
+  pub refuses-records-table : (x : Refusal) → AnswersByTable (answersAlike (Refused x)) → ⊥
+  pub refuses-records-hands : (x : Refusal) → HandsOut (answersAlike (Refused x)) → ⊥
+  pub answers-alike-table : (a : Answer) → AnswersByTable (answersAlike a) → ⊥
+  pub does-nothing-table : AnswersByTable doesNothing → ⊥
+  pub first-only-table : (a : Answer) → AnswersByTable (firstOnly a) → ⊥
+  pub invented-tally : (t : Tally) → CountsRight stepOf (invented t) → ⊥

@@ -17,7 +17,7 @@ use Rattle.connection.specs.declared.handshake.Session.{Session}
 use Rattle.demands.specs.Events.{Event, took, Sound, AllSound, Happened, after, history}
 use Rattle.demands.specs.Past.{isData, keysIn, expectedIn, acceptedIn}
 use Rattle.demands.specs.Course.{Course, courseOf, Ongoing, Due}
-use Rattle.demands.specs.Kept.{freshWith}
+use Rattle.demands.specs.Runs.{freshWith}
 
 -- the course from a place of a run on: the numbers accepted up to there, and nothing closed
 abbrev pub courseFrom : Session → List Happened → List Event → Course
@@ -32,7 +32,7 @@ answerAt h random d r = judgedRecord h random d r .answer
 -- it is due, and what is handed out is its content.
 unfoldable pub HandedOut : Type 0
 HandedOut =
-    (id secret : List ℕ) → length id ≡ 8 → length secret ≡ 20 → (es : List Event) → AllSound es
+    (id secret : List ℕ) (es : List Event) → AllSound es
     → after (freshWith id secret) es .state ≡ Open → (later : List Event) → AllSound later → Ongoing later
     → (random d : List ℕ) (r : Record) → Sound (took random d r)
     → let past = history (freshWith id secret) es [] in
@@ -45,7 +45,7 @@ HandedOut =
 -- "once": two records that are both handed out have different numbers
 unfoldable pub HandedOnce : Type 0
 HandedOnce =
-    (id secret : List ℕ) → length id ≡ 8 → length secret ≡ 20 → (es : List Event) → AllSound es
+    (id secret : List ℕ) (es : List Event) → AllSound es
     → after (freshWith id secret) es .state ≡ Open → (later between : List Event) → AllSound later → AllSound between
     → (random d : List ℕ) (r : Record) (random′ d′ : List ℕ) (r′ : Record) → Sound (took random d r) → Sound (took random′ d′ r′)
     → Ongoing (later ++ (took random d r ∷ between))

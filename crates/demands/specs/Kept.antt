@@ -4,16 +4,16 @@ use mathlib.Core.Path.{_≡_}
 use mathlib.Core.Bool.{Bool, true, false}
 use mathlib.Core.List.{List, []}
 use Prim.Native.Nat.{ℕ}
-use lib.ListN.{length}
 use Rattle.digest.specs.Bytes.{wordAt}
 use Rattle.record.specs.Checksum.{checksumOf}
 use Rattle.record.specs.History.{windowOf}
-use Rattle.connection.specs.Handshake.{newHandshake, noSession, nothingKept, keptHello, keptReply}
+use Rattle.demands.specs.Runs.{freshWith}
+use Rattle.connection.specs.Handshake.{noSession, nothingKept, keptHello, keptReply}
 use Rattle.connection.specs.Calls.{sessionOf}
 use Rattle.connection.specs.declared.handshake.Handshake.{Handshake}
 use Rattle.connection.specs.declared.handshake.Session.{Session}
-use Rattle.connection.specs.declared.state.State.the-variants.{Idle, Barred}
-use Rattle.demands.specs.Events.{Event, AllSound, Happened, after, history}
+use Rattle.connection.specs.declared.state.State.the-variants.{Barred}
+use Rattle.demands.specs.Events.{Event, Happened, after, history}
 use Rattle.demands.specs.Past.{lastReply, keptGreeting, agreedFor, helloAs, replyFor, nextSealed, nextClearNumber, lastWritten, acceptedIn, barredIn}
 
 pub record KeptAs (session : Session) (past : List Happened) (h : Handshake) : Type 0 where
@@ -34,11 +34,7 @@ pub record KeptAs (session : Session) (past : List Happened) (h : Handshake) : T
   -- "required to forget any session identifiers, keys, and secrets" (002 10.2.2)
   pub barred-is : barredIn past ≡ true → (h .state ≡ Barred) × (h .session ≡ noSession) × (h .kept ≡ nothingKept)
 
--- a connection fresh from a planted session (8-byte identifier, 20-byte master secret)
-abbrev pub freshWith : List ℕ → List ℕ → Handshake
-freshWith id secret = newHandshake (sessionOf id secret) Idle
-
 unfoldable pub KeptIsWhatHappened : Type 0
 KeptIsWhatHappened =
-    (id secret : List ℕ) → length id ≡ 8 → length secret ≡ 20 → (es : List Event) → AllSound es
+    (id secret : List ℕ) (es : List Event)
     → KeptAs (sessionOf id secret) (history (freshWith id secret) es []) (after (freshWith id secret) es)

@@ -16,6 +16,7 @@ pub mod Barred
 pub mod Sends
 pub mod Counts
 pub mod Works
+pub mod Written
 pub mod Places
 pub mod Gateways
 pub mod Example

@@ -6,7 +6,8 @@ use Prim.Native.Nat.{ℕ}
 use lib.ListN.{length}
 use Rattle.connection.specs.Receive.{receivedOf, outputOf}
 use Rattle.connection.specs.Send.{dataSent, dataOutput, alertSent, alertOutput}
-use Rattle.connection.specs.Calls.{closedOf, startedOf}
+use Rattle.connection.specs.Handshake.{newHandshake}
+use Rattle.connection.specs.Calls.{closedOf, startedOf, sessionOf}
 use Rattle.connection.specs.declared.answer.Slot.{Slot}
 use Rattle.connection.specs.declared.calls.Connection.{Connection}
 use Rattle.connection.specs.declared.calls.Called.{Called}
@@ -14,6 +15,8 @@ use Rattle.connection.specs.declared.calls.Outcome.{Outcome}
 use Rattle.connection.specs.declared.receive.Taken.{Taken}
 use Rattle.connection.specs.declared.receive.Received.{Received}
 use Rattle.connection.specs.declared.send.Sent.{Sent}
+use Rattle.connection.specs.declared.handshake.Handshake.{Handshake}
+use Rattle.connection.specs.declared.state.State.the-variants.{Idle}
 
 -- The calls on a connection, each with its arguments and the bytes that the caller lends for the output. (01: "The calls are:
 -- fresh connection, receive datagram, send data, send alert, close, start again.")
@@ -66,3 +69,7 @@ stepsOf g c (call ∷ calls) = g c call ∷ stepsOf g (g c call .connection) cal
 unfoldable pub lastOf : Gateway → Connection → List Call → Connection
 lastOf g c [] = c
 lastOf g c (call ∷ calls) = lastOf g (g c call .connection) calls
+
+-- a connection fresh from a planted session
+abbrev pub freshWith : List ℕ → List ℕ → Handshake
+freshWith id secret = newHandshake (sessionOf id secret) Idle

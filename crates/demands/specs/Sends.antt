@@ -25,7 +25,7 @@ use Rattle.connection.specs.declared.calls.Outcome.the-variants as O
 use Rattle.demands.specs.Genuine.{Keys}
 use Rattle.demands.specs.Events.{Event, AllSound, Happened, connectionOf, after, history}
 use Rattle.demands.specs.Past.{keysIn, nextSealed, nextClearNumber}
-use Rattle.demands.specs.Kept.{freshWith}
+use Rattle.demands.specs.Runs.{freshWith}
 
 -- our MAC secret for number s
 abbrev pub ourKey : Keys → ℕ → List ℕ
@@ -55,7 +55,7 @@ pub record ClearRecord (s : ℕ) (body bytes : List ℕ) : Type 0 where
 -- in any run from fresh, what a send writes at the front of the output
 unfoldable pub DataSentRight : Type 0
 DataSentRight =
-    (id secret : List ℕ) → length id ≡ 8 → length secret ≡ 20 → (es : List Event) → AllSound es → (bytes out : List ℕ)
+    (id secret : List ℕ) (es : List Event) → AllSound es → (bytes out : List ℕ)
     → let c = connectionOf (after (freshWith id secret) es) in
     let past = history (freshWith id secret) es [] in
     dataSent c bytes (length out) .outcome ≡ O.Done
@@ -68,7 +68,7 @@ AlertRecord false k past body bytes = ClearRecord (nextClearNumber past) body by
 
 unfoldable pub AlertSentRight : Type 0
 AlertSentRight =
-    (id secret : List ℕ) → length id ≡ 8 → length secret ≡ 20 → (es : List Event) → AllSound es
+    (id secret : List ℕ) (es : List Event) → AllSound es
     → (sealed : Bool) (level description : ℕ) (l : Level) (k : Description) (answered out : List ℕ)
     → levelOf level ≡ G.Is l → sortedOf description ≡ D.Assigned k
     → let c = connectionOf (after (freshWith id secret) es) in

@@ -28,7 +28,7 @@ use Rattle.connection.specs.declared.receive.Taken.the-variants as T
 use Rattle.demands.specs.Runs.{Call, receive, Result, received, Step, Gateway, stepsOf}
 use Rattle.demands.specs.Genuine.{Keys, unitKey}
 use Rattle.demands.specs.Events.{connectionOf}
-use Rattle.demands.specs.Kept.{freshWith}
+use Rattle.demands.specs.Runs.{freshWith}
 
 -- what the unit sends: each a datagram of one record without a length
 abbrev pub clearDatagram : Content → ℕ → List ℕ → List ℕ
@@ -66,5 +66,5 @@ pub record Worked (g : Gateway) (id secret m random out bytes : List ℕ) (plan 
 
 unfoldable pub Works : Gateway → Type 0
 Works g =
-    (id secret m random out bytes : List ℕ) (plan : Plan) → length id ≡ 8 → length secret ≡ 20 → length random ≡ 16 → 128 ≤ length out
+    (id secret m random out bytes : List ℕ) (plan : Plan) → length random ≡ 16 → 128 ≤ length out
     → heardOf m id ≡ Accepted plan → 1 ≤ length bytes → length bytes ≤ 1300 → Worked g id secret m random out bytes plan
