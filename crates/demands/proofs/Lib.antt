@@ -17,3 +17,4 @@ pub mod Placing
 pub mod Examples
 pub mod Gating
 pub mod Reading
+pub mod Trapping

@@ -19,4 +19,5 @@ pub mod Works
 pub mod Written
 pub mod Places
 pub mod Gateways
+pub mod Traps
 pub mod Example
