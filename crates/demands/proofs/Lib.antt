@@ -18,3 +18,4 @@ pub mod Examples
 pub mod Gating
 pub mod Reading
 pub mod Trapping
+pub mod Framings

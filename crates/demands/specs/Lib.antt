@@ -3,6 +3,7 @@ pub mod Runs
 pub mod Genuine
 pub mod Table
 pub mod Calls
+pub mod Framing
 pub mod Refusals
 pub mod Changes
 pub mod Events
