@@ -176,7 +176,7 @@ module _ (c : Connection) (b : c .handshake .state ≡ S.Barred) where
     received-seven,
     λ bytes out some most. ap (λ s. s .result) (call-is c (data-7 {out = out} (record { some = some; most = most }) is-over)),
     λ sealed level description l k answered out el ek m.
-    ap (λ s. s .result) (call-is c (alert-7 {sealed = sealed} {out = out} (record { level-is = el; description-is = ek; lent-most = m }) is-over)),
+        ap (λ s. s .result) (call-is c (alert-7 {sealed = sealed} {out = out} (record { level-is = el; description-is = ek; lent-most = m }) is-over)),
     ap (λ s. s .result) (call-is c (close-7 b)),
     ap (λ s. s .result) (call-is c (start-7 b)),
   )

@@ -44,8 +44,10 @@ bumped-is n =
   where
     reached : (n : ℕ) → 4294967295 ≤ n → min n 4294967295 ≡ min (n + 1) 4294967295
     reached n l = omega arith
+
     below : (n : ℕ) → (4294967295 ≤ n → ⊥) → min n 4294967295 ≡ 4294967295 → ⊥
     below n l e = omega arith
+
     not-yet : (n : ℕ) → (4294967295 ≤ n → ⊥) → min n 4294967295 + 1 ≡ min (n + 1) 4294967295
     not-yet n l = omega arith
 

@@ -222,16 +222,16 @@ nothing-table table =
 -- ---- one that acts on the first record and only acknowledges the rest
 
 -- clear data, which is refused, and then change cipher spec
-two : List ℕ
+unfoldable pub two : List ℕ
 two = 0xc4 ∷ 0x00 ∷ 0x00 ∷ 0x00 ∷ 0x01 ∷ 0x00 ∷ 0x41 ∷ 0x00 ∷ 0x01 ∷ 0x01 ∷ []
 
-one-of-two : Record
+unfoldable pub one-of-two : Record
 one-of-two = record { byte = 0xc4; content = C.Data; protected = false; number = 0; start = 0; head = 5; size = 1; used = 6 }
 
-two-of-two : Record
+unfoldable pub two-of-two : Record
 two-of-two = record { byte = 0x41; content = C.ChangeCipherSpec; protected = false; number = 1; start = 6; head = 3; size = 1; used = 4 }
 
-two-framed : framingOf two ≡ framed (one-of-two ∷ two-of-two ∷ [])
+pub two-framed : framingOf two ≡ framed (one-of-two ∷ two-of-two ∷ [])
 unfolding two one-of-two two-of-two framingOf framingFrom readOf readAs framedOf kindOf soundKind contentOf
 two-framed = refl
 

@@ -19,3 +19,4 @@ pub mod Gating
 pub mod Reading
 pub mod Trapping
 pub mod Framings
+pub mod Instancing

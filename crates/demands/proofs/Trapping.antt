@@ -63,13 +63,13 @@ left-by c d random out r rs j answers last e l f row more =
     ap (λ s. s .connection) (call-is c (receive-records {out = out} e l f (chain-more row more)))
 
 -- the windows
-w₀ : Window
+unfoldable pub w₀ : Window
 w₀ = record { highest = 0; marks = 1 }
 
-w₇ : Window
+unfoldable pub w₇ : Window
 w₇ = record { highest = 7; marks = 129 }
 
-w₈ : Window
+unfoldable pub w₈ : Window
 w₈ = record { highest = 8; marks = 259 }
 
 takes-7 : acceptOf 32 w₀ 7 ≡ A.New w₇ 2
@@ -88,7 +88,7 @@ module _ (h : Handshake) (is-open : h .state ≡ S.Open) (window-is : h .window 
   guarded : (x : Window) (r : Record) → r .protected ≡ true → Guarded (withWindow h x) r
   guarded x r p = record { protection = p; kind = ap (λ s. sealedAllowed s (r .content)) is-open }
 
-  new-7 : (d : List ℕ) (r : Record) (c : List ℕ) → r .number ≡ 7 → Sealed (keysOf h) d r c → New h d r c w₇
+  pub new-7 : (d : List ℕ) (r : Record) (c : List ℕ) → r .number ≡ 7 → Sealed (keysOf h) d r c → New h d r c w₇
   new-7 d r c e s =
       record {
         guarded = record { protection = s .is-protected; kind = ap (λ x. sealedAllowed x (r .content)) is-open };
@@ -107,7 +107,7 @@ module _ (h : Handshake) (is-open : h .state ≡ S.Open) (window-is : h .window 
 -- ---- a record alone in its datagram
 
 module _ (k : Keys) (content : Content) (s : ℕ) (inside : s ≤ 65535) (body : List ℕ) where
-  pub alone : Record
+  unfoldable pub alone : Record
   alone = readBack false true content s (length body + sizeOf (k .mac))
 
   pub alone-framed : length body ≤ 1300 → framingOf (lastSealed k content s body) ≡ framed (alone ∷ [])

@@ -145,6 +145,8 @@ pub record Walk (id secret random bytes : List ℕ) : Type 0 where
   pub replied-is : h₁ .state ≡ S.Replied
   pub spec-is : h₂ .state ≡ S.Spec
   pub open-is : h₃ .state ≡ S.Open
+  pub window-is : h₃ .window ≡ record { highest = 0; marks = 1 }
+  pub next-is : h₃ .sending .protected ≡ 1
 
 module _ (id secret m random out bytes : List ℕ) (plan : Plan) (lr : length random ≡ 16) (lo : 128 ≤ length out) (e : heardOf m id ≡ H.Accepted plan) (some : 1 ≤ length bytes) (most : length bytes ≤ 1300) where
   abbrev session : Session
@@ -288,7 +290,7 @@ module _ (id secret m random out bytes : List ℕ) (plan : Plan) (lr : length ra
 
   -- the datagrams, the records in them, and what each leaves
   pub walk : Walk id secret random bytes
-  unfolding d₁ d₂ d₃ d₄ r₁ r₂ r₃ r₄ h₁ answeredWith h₂ h₃
+  unfolding d₁ d₂ d₃ d₄ r₁ r₂ r₃ r₄ h₁ answeredWith h₂ h₃ w₃
   walk =
       record {
         d₁ = d₁;
@@ -315,6 +317,8 @@ module _ (id secret m random out bytes : List ℕ) (plan : Plan) (lr : length ra
         replied-is = refl;
         spec-is = refl;
         open-is = refl;
+        window-is = refl;
+        next-is = refl;
       }
 
   pub worked : Worked stepOf id secret m random out bytes plan

@@ -22,3 +22,4 @@ pub mod Places
 pub mod Gateways
 pub mod Traps
 pub mod Example
+pub mod Instances
