@@ -1,0 +1,171 @@
+-- The calls: what each gives, and exactly when each refusal is given (01, "Refusal numbers"). "Receive: 16, 6, 1, then framing from
+-- the front (per record 5, 3, 2, 4), then one answer per record." "Send: 16, 7, 8, 15, 6. Data is sent only in Open, protected alerts in
+-- Replied, Spec and Open, clear ones in Replied and Spec. Start again: 7, then 8 unless Closed. Close: 7."
+use mathlib.Core.Path.{_≡_}
+use mathlib.Core.Logic.{_↔_, _⊎_, _≢_}
+use mathlib.Core.Bool.{Bool, true, false}
+use mathlib.Core.List.{List, [], _∷_}
+use Prim.Native.Nat.{ℕ, _+_, _≤_, _<_}
+use lib.ListN.{length}
+use Rattle.digest.specs.Bytes.{laidOver}
+use Rattle.digest.specs.Mac.{sizeOf}
+use Rattle.record.specs.Datagram.{framed, faulty, framingOf}
+use Rattle.record.specs.declared.header.Content.the-variants as C
+use Rattle.record.specs.declared.reader.Fault.{Fault}
+use Rattle.record.specs.declared.reader.Record.{Record}
+use Rattle.message.specs.Alert.{levelOf, sortedOf}
+use Rattle.message.specs.declared.alert.Level.{Level}
+use Rattle.message.specs.declared.alert.Description.{Description}
+use Rattle.message.specs.declared.alert.Graded.the-variants as G
+use Rattle.message.specs.declared.alert.Sorted.the-variants as D
+use Rattle.connection.specs.Calls.{freshOf, leaving}
+use Rattle.connection.specs.Handshake.{withState, reopened, blankHandshake}
+use Rattle.connection.specs.Receive.{slotsOf, firstReply}
+use Rattle.connection.specs.Send.{nextProtected, nextAlert, afterProtected, afterAlert, alertBody}
+use Rattle.connection.specs.declared.state.State.{State}
+use Rattle.connection.specs.declared.state.State.the-variants.{Idle, Replied, Spec, Open, Closed, Barred}
+use Rattle.connection.specs.declared.refusal.Refusal.{Refusal}
+use Rattle.connection.specs.declared.refusal.Refusal.the-variants as X
+use Rattle.connection.specs.declared.answer.Answer.{Answer}
+use Rattle.connection.specs.declared.answer.Judged.{Judged}
+use Rattle.connection.specs.declared.calls.Connection.{Connection}
+use Rattle.connection.specs.declared.calls.Called.{Called}
+use Rattle.connection.specs.declared.calls.Outcome.{Outcome}
+use Rattle.connection.specs.declared.calls.Outcome.the-variants as O
+use Rattle.connection.specs.declared.receive.Taken.{Taken}
+use Rattle.connection.specs.declared.receive.Taken.the-variants as T
+use Rattle.connection.specs.declared.handshake.Handshake.{Handshake}
+use Rattle.demands.specs.Runs.{Call, receive, send-data, send-alert, close, start, received, sent, called, Step, stepOf, freshWith}
+use Rattle.demands.specs.Table.{Row, ended}
+
+-- Records one after the other, each in the handshake that those before it left: an answer for each, and what the last one leaves.
+-- "One answer per record."
+pub data Chain (random d : List ℕ) : Handshake → List Record → List Answer → Handshake → Type 0 where
+  chain-end : {h : Handshake} → Chain random d h [] [] h
+  chain-more : {h : Handshake} {r : Record} {rs : List Record} {j : Judged} {answers : List Answer} {left : Handshake} → Row h random d r j
+      → Chain random d (j .handshake) rs answers left → Chain random d h (r ∷ rs) (j .answer ∷ answers) left
+
+abbrev pub ofHandshake : Handshake → Connection
+ofHandshake h = record { handshake = h }
+
+-- refused as a whole: "a refusal changes neither buffer nor connection"
+abbrev pub notTaken : Connection → List ℕ → Taken → Step
+notTaken c out taken = record { result = received taken (slotsOf []) 0; output = out; connection = c }
+
+abbrev pub notSent : Connection → List ℕ → Refusal → Step
+notSent c out refusal = record { result = sent (O.Refused refusal) 0; output = out; connection = c }
+
+abbrev pub notCalled : Connection → Refusal → Step
+notCalled c refusal = record { result = called (O.Refused refusal); output = []; connection = c }
+
+-- "A success writes the counted bytes at the front and no others."
+abbrev pub taken : List ℕ → List Record → List Answer → List ℕ → Handshake → Step
+taken out rs answers reply left =
+    record {
+      result = received (T.Records (length rs)) (slotsOf answers) (length reply);
+      output = laidOver out 0 reply;
+      connection = ofHandshake left;
+    }
+
+abbrev pub wasSent : List ℕ → List ℕ → Handshake → Step
+wasSent out bytes left =
+    record { result = sent O.Done (length bytes); output = laidOver out 0 bytes; connection = ofHandshake left }
+
+abbrev pub wasCalled : Handshake → Step
+wasCalled left = record { result = called O.Done; output = []; connection = ofHandshake left }
+
+-- "protected alerts in Replied, Spec and Open, clear ones in Replied and Spec"
+abbrev pub mayAlert : Bool → State → Bool
+mayAlert sealed Idle = false
+mayAlert sealed Replied = true
+mayAlert sealed Spec = true
+mayAlert sealed Open = sealed
+mayAlert sealed Closed = false
+mayAlert sealed Barred = false
+
+-- the number that a send would carry, and the size of its code
+abbrev pub numberFor : Bool → Handshake → ℕ
+numberFor true h = h .sending .protected
+numberFor false h = h .sending .clear
+
+abbrev pub codeFor : Bool → Handshake → ℕ
+codeFor true h = sizeOf (h .agreed .mac)
+codeFor false h = 0
+
+-- 16: "data not 1 to 1,300"; "level or description unknown, record lent for an alert over 1,400"
+abbrev pub BadData : List ℕ → Type 0
+BadData bytes = (length bytes ≡ 0) ⊎ (1300 < length bytes)
+
+abbrev pub BadAlert : ℕ → ℕ → List ℕ → Type 0
+BadAlert level description answered =
+    (levelOf level ≡ G.Unassigned) ⊎ ((sortedOf description ≡ D.Unassigned) ⊎ (1400 < length answered))
+
+pub record GoodData (bytes : List ℕ) : Type 0 where
+  pub some : 1 ≤ length bytes
+  pub most : length bytes ≤ 1300
+
+pub record GoodAlert (level description : ℕ) (answered : List ℕ) (l : Level) (k : Description) : Type 0 where
+  pub level-is : levelOf level ≡ G.Is l
+  pub description-is : sortedOf description ≡ D.Assigned k
+  pub lent-most : length answered ≤ 1400
+
+pub data CallRow (c : Connection) : Call → Step → Type 0 where
+  -- receive
+  receive-16 : {d random out : List ℕ} → length random ≢ 16 → CallRow c (receive d random out) (notTaken c out (T.Refused X.Argument))
+  receive-6 : {d random out : List ℕ} → length random ≡ 16 → length out < 128
+      → CallRow c (receive d random out) (notTaken c out (T.Refused X.Room))
+  receive-framing : {d random out : List ℕ} {fault : Fault} {at : ℕ} → length random ≡ 16 → 128 ≤ length out → framingOf d ≡ faulty fault at
+      → CallRow c (receive d random out) (notTaken c out (T.Misframed (X.Framing fault) at))
+  receive-records : {d random out : List ℕ} {rs : List Record} {answers : List Answer} {left : Handshake} → length random ≡ 16 → 128 ≤ length out
+      → framingOf d ≡ framed rs → Chain random d (c .handshake) rs answers left
+      → CallRow c (receive d random out) (taken out rs answers (firstReply (c .handshake) random d rs) left)
+  -- send data
+  data-16 : {bytes out : List ℕ} → BadData bytes → CallRow c (send-data bytes out) (notSent c out X.Argument)
+  data-7 : {bytes out : List ℕ} → GoodData bytes → ended (c .handshake .state) ≡ true → CallRow c (send-data bytes out) (notSent c out X.Ended)
+  data-8 : {bytes out : List ℕ} → GoodData bytes → ended (c .handshake .state) ≡ false → c .handshake .state ≢ Open
+      → CallRow c (send-data bytes out) (notSent c out X.NotAllowed)
+  data-15 : {bytes out : List ℕ} → GoodData bytes → c .handshake .state ≡ Open → 65535 < numberFor true (c .handshake)
+      → CallRow c (send-data bytes out) (notSent c out X.Spent)
+  data-6 : {bytes out : List ℕ} → GoodData bytes → c .handshake .state ≡ Open → numberFor true (c .handshake) ≤ 65535
+      → length out < 3 + length bytes + codeFor true (c .handshake) → CallRow c (send-data bytes out) (notSent c out X.Room)
+  data-sent : {bytes out : List ℕ} → GoodData bytes → c .handshake .state ≡ Open → numberFor true (c .handshake) ≤ 65535
+      → 3 + length bytes + codeFor true (c .handshake) ≤ length out
+      → CallRow c (send-data bytes out)
+      (wasSent out (nextProtected (c .handshake) C.Data bytes) (afterProtected (c .handshake) (nextProtected (c .handshake) C.Data bytes)))
+  -- send an alert
+  alert-16 : {sealed : Bool} {level description : ℕ} {answered out : List ℕ} → BadAlert level description answered
+      → CallRow c (send-alert sealed level description answered out) (notSent c out X.Argument)
+  alert-7 : {sealed : Bool} {level description : ℕ} {answered out : List ℕ} {l : Level} {k : Description} → GoodAlert level description answered l k
+      → ended (c .handshake .state) ≡ true → CallRow c (send-alert sealed level description answered out) (notSent c out X.Ended)
+  alert-8 : {sealed : Bool} {level description : ℕ} {answered out : List ℕ} {l : Level} {k : Description} → GoodAlert level description answered l k
+      → ended (c .handshake .state) ≡ false → mayAlert sealed (c .handshake .state) ≡ false
+      → CallRow c (send-alert sealed level description answered out) (notSent c out X.NotAllowed)
+  alert-15 : {sealed : Bool} {level description : ℕ} {answered out : List ℕ} {l : Level} {k : Description} → GoodAlert level description answered l k
+      → mayAlert sealed (c .handshake .state) ≡ true → 65535 < numberFor sealed (c .handshake)
+      → CallRow c (send-alert sealed level description answered out) (notSent c out X.Spent)
+  alert-6 : {sealed : Bool} {level description : ℕ} {answered out : List ℕ} {l : Level} {k : Description} → GoodAlert level description answered l k
+      → mayAlert sealed (c .handshake .state) ≡ true → numberFor sealed (c .handshake) ≤ 65535 → length out < 9 + codeFor sealed (c .handshake)
+      → CallRow c (send-alert sealed level description answered out) (notSent c out X.Room)
+  alert-sent : {sealed : Bool} {level description : ℕ} {answered out : List ℕ} {l : Level} {k : Description} → GoodAlert level description answered l k
+      → mayAlert sealed (c .handshake .state) ≡ true → numberFor sealed (c .handshake) ≤ 65535 → 9 + codeFor sealed (c .handshake) ≤ length out
+      → CallRow c (send-alert sealed level description answered out)
+      (wasSent out (nextAlert sealed (c .handshake) (alertBody l k answered))
+      (afterAlert sealed (c .handshake) (nextAlert sealed (c .handshake) (alertBody l k answered))))
+  -- close, and start again
+  close-7 : c .handshake .state ≡ Barred → CallRow c close (notCalled c X.Ended)
+  close-done : c .handshake .state ≢ Barred → CallRow c close (wasCalled (withState (c .handshake) Closed))
+  start-7 : c .handshake .state ≡ Barred → CallRow c start (notCalled c X.Ended)
+  start-8 : c .handshake .state ≢ Barred → c .handshake .state ≢ Closed → CallRow c start (notCalled c X.NotAllowed)
+  start-done : c .handshake .state ≡ Closed → CallRow c start (wasCalled (reopened (c .handshake)))
+
+-- "Fresh connection: 16 only": "identifier not 8, secret not 20". What stands beside the refusal is blank and Barred.
+pub data FreshRow (id secret : List ℕ) : Called → Type 0 where
+  fresh-16 : (length id ≢ 8) ⊎ (length secret ≢ 20) → FreshRow id secret (leaving (O.Refused X.Argument) blankHandshake)
+  fresh-done : length id ≡ 8 → length secret ≡ 20 → FreshRow id secret (leaving O.Done (freshWith id secret))
+
+unfoldable pub FreshHolds : Type 0
+FreshHolds = (id secret : List ℕ) (s : Called) → (freshOf id secret ≡ s) ↔ FreshRow id secret s
+
+-- a call gives this exactly if there is a row that says so
+unfoldable pub CallsHold : Type 0
+CallsHold = (c : Connection) (call : Call) (s : Step) → (stepOf c call ≡ s) ↔ CallRow c call s

@@ -1,0 +1,54 @@
+-- Demand 3: "Call a protected record genuine if its datagram is soundly framed and its code is right under the key for its
+-- number." Said over the bytes, with the key and code definitions of layer 2.
+use mathlib.Core.Path.{_≡_}
+use mathlib.Core.Bool.{true}
+use mathlib.Core.List.{List, [], _∷_, _++_}
+use Prim.Native.Nat.{ℕ}
+use Rattle.digest.specs.Hmac.{hmac}
+use Rattle.digest.specs.Mac.{sizeOf, clientExpansion}
+use Rattle.digest.specs.declared.mac.Mac.{Mac}
+use Rattle.record.specs.Keys.{keyNumber, macSecret}
+use Rattle.record.specs.Code.{fragmentBy}
+use Rattle.record.specs.Datagram.{framed, framingOf}
+use Rattle.record.specs.declared.reader.Record.{Record}
+use Rattle.connection.specs.Judge.{fragmentOf}
+use Rattle.connection.specs.declared.handshake.Handshake.{Handshake}
+
+-- what the keys of a connection are made of
+pub record Keys : Type 0 where
+  pub secret : List ℕ
+  pub mac : Mac
+  pub refresh : ℕ
+  pub server : List ℕ
+  pub client : List ℕ
+
+-- "the key for its number": the unit's MAC secret for number s
+abbrev pub unitKey : Keys → ℕ → List ℕ
+unitKey k s = macSecret (k .secret) clientExpansion (keyNumber (k .refresh) s) (k .server) (k .client)
+
+-- r is a record of the datagram d, which is soundly framed
+pub record RecordOf (d : List ℕ) (r : Record) : Type 0 where
+  pub before : List Record
+  pub behind : List Record
+  pub framing : framingOf d ≡ framed (before ++ (r ∷ behind))
+
+-- the record is protected, and its fragment is the content c with the right code behind it
+pub record Sealed (k : Keys) (d : List ℕ) (r : Record) (c : List ℕ) : Type 0 where
+  pub is-protected : r .protected ≡ true
+  pub is-coded : fragmentOf d r ≡ fragmentBy (hmac (unitKey k (r .number))) (sizeOf (k .mac)) (r .number) (r .byte) c
+
+-- r is a genuine record of d with the content c
+pub record Genuine (k : Keys) (d : List ℕ) (r : Record) (c : List ℕ) : Type 0 where
+  pub in-place : RecordOf d r
+  pub is-sealed : Sealed k d r c
+
+-- the keys that a handshake holds
+abbrev pub keysOf : Handshake → Keys
+keysOf h =
+    record {
+      secret = h .session .secret;
+      mac = h .agreed .mac;
+      refresh = h .agreed .refresh;
+      server = h .agreed .server;
+      client = h .agreed .client;
+    }

@@ -1,0 +1,40 @@
+-- What is kept is what happened: after any run from fresh, each field of the connection is what the history of the run says. So that
+-- "the key", "the expected Finished", "the same reply" and "the window" elsewhere are no mere fields.
+use mathlib.Core.Path.{_≡_}
+use mathlib.Core.Bool.{Bool, true, false}
+use mathlib.Core.List.{List, []}
+use Prim.Native.Nat.{ℕ}
+use Rattle.digest.specs.Bytes.{wordAt}
+use Rattle.record.specs.Checksum.{checksumOf}
+use Rattle.record.specs.History.{windowOf}
+use Rattle.demands.specs.Runs.{freshWith}
+use Rattle.connection.specs.Handshake.{noSession, nothingKept, keptHello, keptReply}
+use Rattle.connection.specs.Calls.{sessionOf}
+use Rattle.connection.specs.declared.handshake.Handshake.{Handshake}
+use Rattle.connection.specs.declared.handshake.Session.{Session}
+use Rattle.connection.specs.declared.state.State.the-variants.{Barred}
+use Rattle.demands.specs.Events.{Event, Happened, after, history}
+use Rattle.demands.specs.Past.{lastReply, keptGreeting, agreedFor, helloAs, replyFor, nextSealed, nextClearNumber, lastWritten, acceptedIn, barredIn}
+
+pub record KeptAs (session : Session) (past : List Happened) (h : Handshake) : Type 0 where
+  -- the session is the planted one, until it is barred
+  pub session-is : barredIn past ≡ false → h .session ≡ session
+  -- randoms, MAC kind, refresh and expected Finished are those of the last new reply
+  pub agreed-is : barredIn past ≡ false → h .agreed ≡ agreedFor session (lastReply past)
+  -- the kept hello is the one of the last new reply, until a start again forgets it; the kept reply is the reply to it
+  pub hello-is : barredIn past ≡ false → keptHello h ≡ helloAs (keptGreeting past)
+  pub reply-is : barredIn past ≡ false → keptReply h ≡ replyFor session (keptGreeting past)
+  -- "After each new reply our data and protected alerts count on from 1, clear alerts from 2"
+  pub sealed-is : h .sending .protected ≡ nextSealed past
+  pub clear-is : h .sending .clear ≡ nextClearNumber past
+  -- "the checksum of the last record that we sent, a resent reply not counted"
+  pub last-is : h .sending .last ≡ wordAt (checksumOf (lastWritten session past)) 0
+  -- the window holds exactly the numbers accepted since the last change cipher spec that was taken
+  pub window-is : h .window ≡ windowOf 32 (acceptedIn past)
+  -- "required to forget any session identifiers, keys, and secrets" (002 10.2.2)
+  pub barred-is : barredIn past ≡ true → (h .state ≡ Barred) × (h .session ≡ noSession) × (h .kept ≡ nothingKept)
+
+unfoldable pub KeptIsWhatHappened : Type 0
+KeptIsWhatHappened =
+    (id secret : List ℕ) (es : List Event)
+    → KeptAs (sessionOf id secret) (history (freshWith id secret) es []) (after (freshWith id secret) es)

@@ -1,0 +1,93 @@
+-- Demand 3: "Take an open connection, .. and any run of datagrams, up to the first genuine record that closes it or our own closing.
+-- .. Leave out every datagram without a genuine record: the data handed out, its order and the connection are the same."
+use mathlib.Core.Path.{_≡_}
+use mathlib.Core.Bool.{Bool, true, false}
+use mathlib.Core.List.{List, [], _∷_, _++_}
+use Prim.Native.Nat.{ℕ}
+use Rattle.digest.specs.Pick.{pick}
+use Rattle.record.specs.declared.reader.Record.{Record}
+use Rattle.connection.specs.Answer.{handedOf}
+use Rattle.connection.specs.Tally.{countedOf}
+use Rattle.connection.specs.declared.answer.Slot.{Slot}
+use Rattle.connection.specs.declared.calls.Connection.{Connection}
+use Rattle.connection.specs.declared.state.State.the-variants.{Open}
+use Rattle.connection.specs.declared.tally.Tally.{Tally}
+use Rattle.demands.specs.Runs.{Call, receive, send-data, send-alert, close, start, Result, received, sent, called, Step, Gateway, stepsOf, lastOf}
+use Rattle.demands.specs.Genuine.{Keys, Genuine, keysOf}
+use Rattle.demands.specs.Past.{isData}
+
+-- a datagram without a genuine record
+abbrev pub NoneGenuine : Keys → List ℕ → Type 0
+NoneGenuine k d = (r : Record) (c : List ℕ) → Genuine k d r c → ⊥
+
+-- the calls of such a run: to start again comes only after a closing
+abbrev pub Continues : Call → Type 0
+Continues (receive d random out) = Unit
+Continues (send-data bytes out) = Unit
+Continues (send-alert sealed level description answered out) = Unit
+Continues close = Unit
+Continues start = ⊥
+
+-- the second list is the first with some datagrams left out, each without a genuine record
+pub data LeftOut (k : Keys) : List Call → List Call → Type 0 where
+  end : LeftOut k [] []
+  stays : {call : Call} {calls rest : List Call} → Continues call → LeftOut k calls rest → LeftOut k (call ∷ calls) (call ∷ rest)
+  left : {d random out : List ℕ} {calls rest : List Call} → NoneGenuine k d → LeftOut k calls rest → LeftOut k (receive d random out ∷ calls) rest
+
+-- the steps of the calls that stay
+unfoldable pub stepsLeft : {k : Keys} {calls rest : List Call} → LeftOut k calls rest → List Step → List Step
+stepsLeft end steps = []
+stepsLeft (stays go more) [] = []
+stepsLeft (stays go more) (step ∷ steps) = step ∷ stepsLeft more steps
+stepsLeft (left none more) [] = []
+stepsLeft (left none more) (step ∷ steps) = stepsLeft more steps
+
+-- the byte strings that a step hands out, in order
+unfoldable pub handedParts : List ℕ → List Slot → List (List ℕ)
+handedParts d [] = []
+handedParts d (slot ∷ slots) = pick (isData (slot .answer)) (handedOf d (slot .answer) ∷ handedParts d slots) (handedParts d slots)
+
+abbrev pub answersIn : Result → List Slot
+answersIn (received taken answers written) = answers
+answersIn (sent outcome written) = []
+answersIn (called outcome) = []
+
+abbrev pub datagramOf : Call → List ℕ
+datagramOf (receive d random out) = d
+datagramOf (send-data bytes out) = []
+datagramOf (send-alert sealed level description answered out) = []
+datagramOf close = []
+datagramOf start = []
+
+unfoldable pub handedBy : Gateway → Connection → List Call → List (List ℕ)
+handedBy g c [] = []
+handedBy g c (call ∷ calls) = handedParts (datagramOf call) (answersIn (g c call .result)) ++ handedBy g (g c call .connection) calls
+
+-- the tally after a run
+abbrev pub talliedIn : Tally → Result → Tally
+talliedIn t (received taken answers written) = countedOf t answers
+talliedIn t (sent outcome written) = t
+talliedIn t (called outcome) = t
+
+unfoldable pub talliedBy : Gateway → Tally → Connection → List Call → Tally
+talliedBy g t c [] = t
+talliedBy g t c (call ∷ calls) = talliedBy g (talliedIn t (g c call .result)) (g c call .connection) calls
+
+-- two tallies that differ at most in forged
+pub record ButForged (t u : Tally) : Type 0 where
+  pub handed-same : t .handed ≡ u .handed
+  pub old-same : t .old ≡ u .old
+  pub repeated-same : t .repeated ≡ u .repeated
+
+-- "the data handed out, its order and the connection are the same": the whole value; and each call that stays gives the same result
+-- and writes the same bytes
+pub record SameWithout (g : Gateway) (k : Keys) (c : Connection) (calls rest : List Call) (out : LeftOut k calls rest) : Type 0 where
+  pub same-connection : lastOf g c calls ≡ lastOf g c rest
+  pub same-handed : handedBy g c calls ≡ handedBy g c rest
+  pub same-steps : stepsLeft out (stepsOf g c calls) ≡ stepsOf g c rest
+  pub same-tally : (t : Tally) → ButForged (talliedBy g t c calls) (talliedBy g t c rest)
+
+unfoldable pub LeavesOut : Gateway → Type 0
+LeavesOut g =
+    (c : Connection) → c .handshake .state ≡ Open → (calls rest : List Call) (out : LeftOut (keysOf (c .handshake)) calls rest)
+    → SameWithout g (keysOf (c .handshake)) c calls rest out
