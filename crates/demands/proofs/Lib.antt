@@ -18,5 +18,5 @@ pub mod Examples
 pub mod Gating
 pub mod Reading
 pub mod Trapping
-pub mod Framings
 pub mod Instancing
+pub mod Exactly

@@ -3,7 +3,6 @@ pub mod Runs
 pub mod Genuine
 pub mod Table
 pub mod Calls
-pub mod Framing
 pub mod Refusals
 pub mod Changes
 pub mod Events
@@ -23,3 +22,4 @@ pub mod Gateways
 pub mod Traps
 pub mod Example
 pub mod Instances
+pub mod Exactly

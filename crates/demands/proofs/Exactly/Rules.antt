@@ -1,0 +1,216 @@
+-- The state table by the bytes. The idea: what a record is, as the definitions sort it, is decided by its protected bit, its content number
+-- and its first byte; so each rule of the table has its reason there, and each reason its rule.
+use mathlib.Core.Path.{_≡_, refl, sym, ap, subst, _∙_}
+use mathlib.Core.Logic.{_⊎_, _≢_, inl, inr}
+use mathlib.Core.Bool.{Bool, true, false}
+use mathlib.Core.List.{List}
+use Prim.Native.Nat.{ℕ}
+use native.Mathlib.Omega.{arith}
+use lib.ListN.{getD}
+use lib.Dec.{eqb}
+use borrow.Author.Tests.{eq-eqb, eqb-true}
+use Rattle.digest.specs.Pick.{pick}
+use Rattle.record.specs.Header.{numberOf}
+use Rattle.record.specs.declared.header.Content.{Content}
+use Rattle.record.specs.declared.header.Content.the-variants as C
+use Rattle.connection.specs.State.{kindOf, ruleOf}
+use Rattle.connection.specs.declared.state.State.{State}
+use Rattle.connection.specs.declared.state.State.the-variants as S
+use Rattle.connection.specs.declared.state.Kind.{Kind}
+use Rattle.connection.specs.declared.state.Kind.the-variants as K
+use Rattle.connection.specs.declared.state.Rule.{Rule}
+use Rattle.connection.specs.declared.state.Rule.the-variants as T
+use Rattle.demands.specs.Exactly.Numbers.{Over}
+use Rattle.demands.specs.Exactly.Record.{Seen, IsHello, Hears, Guarded, Allowed, hello, change, alert, guarded}
+
+-- what a record's fields say of its bytes
+abbrev pub seenOf : ℕ → Bool → Content → ℕ → List ℕ → ℕ → Seen
+seenOf byte protected content number fragment at =
+    record { byte = byte; protected = protected; content = numberOf content; number = number; fragment = fragment; at = at }
+
+-- the kind, with the test of the first byte as it came out
+abbrev pub kindBy : Content → Bool → Bool → Kind
+kindBy C.ChangeCipherSpec false one = K.ClearChange
+kindBy C.ChangeCipherSpec true one = K.SealedChange
+kindBy C.Alert false one = K.ClearAlert
+kindBy C.Alert true one = K.SealedAlert
+kindBy C.Handshake false one = pick one K.ClearHello K.OtherClear
+kindBy C.Handshake true one = K.SealedHandshake
+kindBy C.Data false one = K.OtherClear
+kindBy C.Data true one = K.SealedData
+
+pub kind-by : (content : Content) (protected : Bool) (first : ℕ) → kindOf content protected first ≡ kindBy content protected (eqb first 1)
+kind-by C.ChangeCipherSpec false first = refl
+kind-by C.ChangeCipherSpec true first = refl
+kind-by C.Alert false first = refl
+kind-by C.Alert true first = refl
+kind-by C.Handshake false first = refl
+kind-by C.Handshake true first = refl
+kind-by C.Data false first = refl
+kind-by C.Data true first = refl
+
+-- a content has its own number
+pub number-one : (content : Content) → numberOf content ≡ 1 → content ≡ C.ChangeCipherSpec
+number-one C.ChangeCipherSpec e = refl
+number-one C.Alert e = absurd (omega arith)
+number-one C.Handshake e = absurd (omega arith)
+number-one C.Data e = absurd (omega arith)
+
+pub number-two : (content : Content) → numberOf content ≡ 2 → content ≡ C.Alert
+number-two C.ChangeCipherSpec e = absurd (omega arith)
+number-two C.Alert e = refl
+number-two C.Handshake e = absurd (omega arith)
+number-two C.Data e = absurd (omega arith)
+
+pub number-three : (content : Content) → numberOf content ≡ 3 → content ≡ C.Handshake
+number-three C.ChangeCipherSpec e = absurd (omega arith)
+number-three C.Alert e = absurd (omega arith)
+number-three C.Handshake e = refl
+number-three C.Data e = absurd (omega arith)
+
+pub number-four : (content : Content) → numberOf content ≡ 4 → content ≡ C.Data
+number-four C.ChangeCipherSpec e = absurd (omega arith)
+number-four C.Alert e = absurd (omega arith)
+number-four C.Handshake e = absurd (omega arith)
+number-four C.Data e = refl
+
+-- the kind of a protected record is its content's
+abbrev pub sealedKind : Content → Kind
+sealedKind C.ChangeCipherSpec = K.SealedChange
+sealedKind C.Alert = K.SealedAlert
+sealedKind C.Handshake = K.SealedHandshake
+sealedKind C.Data = K.SealedData
+
+pub kind-sealed : (content : Content) (p one : Bool) → p ≡ true → kindBy content p one ≡ sealedKind content
+kind-sealed C.ChangeCipherSpec p one e = ap (λ b. kindBy C.ChangeCipherSpec b one) e
+kind-sealed C.Alert p one e = ap (λ b. kindBy C.Alert b one) e
+kind-sealed C.Handshake p one e = ap (λ b. kindBy C.Handshake b one) e
+kind-sealed C.Data p one e = ap (λ b. kindBy C.Data b one) e
+
+-- protected, in Open: all four kinds
+open-unseals : (content : Content) (one : Bool) → ruleOf S.Open (kindBy content true one) ≡ T.Unseal
+open-unseals C.ChangeCipherSpec one = refl
+open-unseals C.Alert one = refl
+open-unseals C.Handshake one = refl
+open-unseals C.Data one = refl
+
+module _ (byte number : ℕ) (f : List ℕ) (at : ℕ) where
+  -- ---- from a reason to its rule
+
+  module _ (state : State) (content : Content) (p one : Bool) (first : eqb (getD f 0 0) 1 ≡ one) where
+    abbrev q : Seen
+    q = seenOf byte p content number f at
+
+    abbrev rule : Rule
+    rule = ruleOf state (kindBy content p one)
+
+    hello-kind : IsHello q → kindBy content p one ≡ K.ClearHello
+    hello-kind i =
+        let is-one : one ≡ true = sym first ∙ eq-eqb (getD f 0 0) 1 (i .begins) in
+        (λ j. kindBy (number-three content (i .handshake) j) (i .clear j) (is-one j))
+
+    change-kind : p ≡ false → numberOf content ≡ 1 → kindBy content p one ≡ K.ClearChange
+    change-kind c n = λ j. kindBy (number-one content n j) (c j) one
+
+    alert-kind : p ≡ false → numberOf content ≡ 2 → kindBy content p one ≡ K.ClearAlert
+    alert-kind c n = λ j. kindBy (number-two content n j) (c j) one
+
+    pub over-rule : Over state → rule ≡ T.Ended
+    over-rule (inl e) = ap (λ s. ruleOf s (kindBy content p one)) e
+    over-rule (inr e) = ap (λ s. ruleOf s (kindBy content p one)) e
+
+    pub open-rule : state ≡ S.Open → IsHello q → rule ≡ T.HelloWhileOpen
+    open-rule e i = λ j. ruleOf (e j) (hello-kind i j)
+
+    pub idle-rule : state ≡ S.Idle → IsHello q → rule ≡ T.Greet
+    idle-rule e i = λ j. ruleOf (e j) (hello-kind i j)
+
+    pub hears-rule : Hears state → IsHello q → rule ≡ T.GreetAgain
+    hears-rule (inl e) i = λ j. ruleOf (e j) (hello-kind i j)
+    hears-rule (inr e) i = λ j. ruleOf (e j) (hello-kind i j)
+
+    pub change-rule : state ≡ S.Replied → p ≡ false → numberOf content ≡ 1 → rule ≡ T.Change
+    change-rule e c n = λ j. ruleOf (e j) (change-kind c n j)
+
+    pub alert-rule : Hears state → p ≡ false → numberOf content ≡ 2 → rule ≡ T.Hear
+    alert-rule (inl e) c n = λ j. ruleOf (e j) (alert-kind c n j)
+    alert-rule (inr e) c n = λ j. ruleOf (e j) (alert-kind c n j)
+
+    pub guarded-rule : Guarded state q → rule ≡ T.Unseal
+    guarded-rule g = go (g .kind)
+      where
+        go : ((state ≡ S.Spec) × ((numberOf content ≡ 2) ⊎ (numberOf content ≡ 3))) ⊎ (state ≡ S.Open) → rule ≡ T.Unseal
+        go (inl (e, inl n)) = λ j. ruleOf (e j) (kindBy (number-two content n j) (g .protection j) one)
+        go (inl (e, inr n)) = λ j. ruleOf (e j) (kindBy (number-three content n j) (g .protection j) one)
+        go (inr e) = (λ j. ruleOf (e j) (kindBy content (g .protection j) one)) ∙ open-unseals content one
+
+    -- ---- from a rule to its reason
+
+    abbrev pub RuleHolds : Rule → Type 0
+    RuleHolds T.Ended = Over state
+    RuleHolds T.NotAllowed = (Over state → ⊥) × (state ≡ S.Open → IsHello q → ⊥) × (Allowed state q → ⊥)
+    RuleHolds T.HelloWhileOpen = (state ≡ S.Open) × IsHello q
+    RuleHolds T.Greet = (state ≡ S.Idle) × IsHello q
+    RuleHolds T.GreetAgain = Hears state × IsHello q
+    RuleHolds T.Change = (state ≡ S.Replied) × (p ≡ false) × (numberOf content ≡ 1)
+    RuleHolds T.Hear = Hears state × (p ≡ false) × (numberOf content ≡ 2)
+    RuleHolds T.Unseal = Guarded state q
+
+    not-allowed : rule ≡ T.NotAllowed → Allowed state q → ⊥
+    not-allowed e (hello (inl s) i z) = let t : T.NotAllowed ≡ T.Greet = sym e ∙ idle-rule s i in let n : _≡_ {A = ℕ} 0 1 = cc in omega arith
+    not-allowed e (hello (inr s) i z) = let t : T.NotAllowed ≡ T.GreetAgain = sym e ∙ hears-rule s i in let n : _≡_ {A = ℕ} 0 1 = cc in omega arith
+    not-allowed e (change s c n) = let t : T.NotAllowed ≡ T.Change = sym e ∙ change-rule s c n in let z : _≡_ {A = ℕ} 0 1 = cc in omega arith
+    not-allowed e (alert s c n) = let t : T.NotAllowed ≡ T.Hear = sym e ∙ alert-rule s c n in let z : _≡_ {A = ℕ} 0 1 = cc in omega arith
+    not-allowed e (guarded g) = let t : T.NotAllowed ≡ T.Unseal = sym e ∙ guarded-rule g in let z : _≡_ {A = ℕ} 0 1 = cc in omega arith
+
+    none-of : rule ≡ T.NotAllowed → RuleHolds T.NotAllowed
+    none-of e = (
+      λ o. let t : T.NotAllowed ≡ T.Ended = sym e ∙ over-rule o in let z : _≡_ {A = ℕ} 0 1 = cc in omega arith,
+      λ s i. let t : T.NotAllowed ≡ T.HelloWhileOpen = sym e ∙ open-rule s i in let z : _≡_ {A = ℕ} 0 1 = cc in omega arith,
+      not-allowed e,
+    )
+
+  as-hello : (first : eqb (getD f 0 0) 1 ≡ true) → IsHello (seenOf byte false C.Handshake number f at)
+  as-hello first = record { clear = refl; handshake = refl; begins = eqb-true (getD f 0 0) 1 first }
+
+  -- the cells of the table
+  pub rule-holds : (state : State) (content : Content) (p one : Bool) (first : eqb (getD f 0 0) 1 ≡ one)
+      → RuleHolds state content p one first (ruleOf state (kindBy content p one))
+  rule-holds S.Idle C.ChangeCipherSpec false one e = none-of S.Idle C.ChangeCipherSpec false one e refl
+  rule-holds S.Idle C.ChangeCipherSpec true one e = none-of S.Idle C.ChangeCipherSpec true one e refl
+  rule-holds S.Idle C.Alert false one e = none-of S.Idle C.Alert false one e refl
+  rule-holds S.Idle C.Alert true one e = none-of S.Idle C.Alert true one e refl
+  rule-holds S.Idle C.Handshake false true e = (refl, as-hello e)
+  rule-holds S.Idle C.Handshake false false e = none-of S.Idle C.Handshake false false e refl
+  rule-holds S.Idle C.Handshake true one e = none-of S.Idle C.Handshake true one e refl
+  rule-holds S.Idle C.Data false one e = none-of S.Idle C.Data false one e refl
+  rule-holds S.Idle C.Data true one e = none-of S.Idle C.Data true one e refl
+  rule-holds S.Replied C.ChangeCipherSpec false one e = (refl, refl, refl)
+  rule-holds S.Replied C.ChangeCipherSpec true one e = none-of S.Replied C.ChangeCipherSpec true one e refl
+  rule-holds S.Replied C.Alert false one e = (inl refl, refl, refl)
+  rule-holds S.Replied C.Alert true one e = none-of S.Replied C.Alert true one e refl
+  rule-holds S.Replied C.Handshake false true e = (inl refl, as-hello e)
+  rule-holds S.Replied C.Handshake false false e = none-of S.Replied C.Handshake false false e refl
+  rule-holds S.Replied C.Handshake true one e = none-of S.Replied C.Handshake true one e refl
+  rule-holds S.Replied C.Data false one e = none-of S.Replied C.Data false one e refl
+  rule-holds S.Replied C.Data true one e = none-of S.Replied C.Data true one e refl
+  rule-holds S.Spec C.ChangeCipherSpec false one e = none-of S.Spec C.ChangeCipherSpec false one e refl
+  rule-holds S.Spec C.ChangeCipherSpec true one e = none-of S.Spec C.ChangeCipherSpec true one e refl
+  rule-holds S.Spec C.Alert false one e = (inr refl, refl, refl)
+  rule-holds S.Spec C.Alert true one e = record { protection = refl; kind = inl (refl, inl refl) }
+  rule-holds S.Spec C.Handshake false true e = (inr refl, as-hello e)
+  rule-holds S.Spec C.Handshake false false e = none-of S.Spec C.Handshake false false e refl
+  rule-holds S.Spec C.Handshake true one e = record { protection = refl; kind = inl (refl, inr refl) }
+  rule-holds S.Spec C.Data false one e = none-of S.Spec C.Data false one e refl
+  rule-holds S.Spec C.Data true one e = none-of S.Spec C.Data true one e refl
+  rule-holds S.Open C.ChangeCipherSpec false one e = none-of S.Open C.ChangeCipherSpec false one e refl
+  rule-holds S.Open C.ChangeCipherSpec true one e = record { protection = refl; kind = inr refl }
+  rule-holds S.Open C.Alert false one e = none-of S.Open C.Alert false one e refl
+  rule-holds S.Open C.Alert true one e = record { protection = refl; kind = inr refl }
+  rule-holds S.Open C.Handshake false true e = (refl, as-hello e)
+  rule-holds S.Open C.Handshake false false e = none-of S.Open C.Handshake false false e refl
+  rule-holds S.Open C.Handshake true one e = record { protection = refl; kind = inr refl }
+  rule-holds S.Open C.Data false one e = none-of S.Open C.Data false one e refl
+  rule-holds S.Open C.Data true one e = record { protection = refl; kind = inr refl }
+  rule-holds S.Closed content p one e = inl refl
+  rule-holds S.Barred content p one e = inr refl
