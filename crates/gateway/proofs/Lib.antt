@@ -4,3 +4,6 @@ pub mod Reading
 pub mod Calling
 pub mod Numbers
 pub mod Back
+pub mod Results
+pub mod Sizes
+pub mod Coincide

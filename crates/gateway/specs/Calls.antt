@@ -3,7 +3,7 @@
 -- call leaves every lent byte as it was.
 use mathlib.Core.Bool.{Bool, true, false}
 use mathlib.Core.List.{List}
-use Prim.Native.Nat.{ℕ, _+_, _*_, _%_}
+use Prim.Native.Nat.{ℕ, _+_, _*_, _/_, _%_}
 use lib.ListN.{length, getD}
 use lib.Dec.{eqb}
 use Rattle.digest.specs.Pick.{pick}
@@ -28,6 +28,16 @@ use Rattle.gateway.specs.Counts.{tallyBytes, tallyIn}
 -- count; sixteen bits each, the count lowest.
 unfoldable pub resultOf : ℕ → ℕ → ℕ → ℕ
 resultOf refusal written count = (refusal * 65536 + written % 65536) * 65536 + count % 65536
+
+-- the three parts, as include/gateway.h takes them out
+abbrev pub refusalPart : ℕ → ℕ
+refusalPart result = result / 65536 / 65536
+
+abbrev pub writtenPart : ℕ → ℕ
+writtenPart result = result / 65536 % 65536
+
+abbrev pub countPart : ℕ → ℕ
+countPart result = result % 65536
 
 -- "16: argument out of range"
 abbrev pub notTaken : ℕ
