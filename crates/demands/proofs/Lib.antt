@@ -20,3 +20,4 @@ pub mod Reading
 pub mod Trapping
 pub mod Framings
 pub mod Instancing
+pub mod Replying
