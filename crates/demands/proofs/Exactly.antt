@@ -9,3 +9,4 @@ pub mod Content
 pub mod Hello
 pub mod Rules
 pub mod Record
+pub mod Answers

@@ -20,3 +20,4 @@ pub mod Reading
 pub mod Trapping
 pub mod Instancing
 pub mod Exactly
+pub mod Replying

@@ -2,7 +2,7 @@
 use mathlib.Core.Path.{_≡_, refl, sym, _∙_, ap, ap₂, subst}
 use mathlib.Core.Bool.{Bool, true, false}
 use mathlib.Core.List.{List, [], _∷_, _++_}
-use Prim.Native.Nat.{ℕ, _+_}
+use Prim.Native.Nat.{ℕ, _+_, _≤_}
 use native.Mathlib.Omega.{arith}
 use lib.ListN.{length, take, drop}
 use lib.Seq.{take-at}
@@ -11,6 +11,11 @@ use Rattle.record.specs.Datagram.{Framing, framed, faulty, framingOf}
 use Rattle.record.specs.Checksum.{checksumOf}
 use Rattle.record.specs.declared.header.Content.the-variants as C
 use Rattle.record.specs.declared.reader.Record.{Record}
+use lib.Dec.{lit≤}
+use Rattle.record.specs.Reader.{faultNumber}
+use Rattle.record.specs.declared.reader.Fault.{Fault}
+use Rattle.record.specs.declared.reader.Fault.the-variants as F
+use Rattle.connection.specs.Refusal.{refusalNumber}
 use Rattle.connection.specs.Answer.{replySize}
 use Rattle.connection.specs.Handshake.{withSending}
 use Rattle.connection.specs.Judge.{judgedRecord}
@@ -24,7 +29,7 @@ use Rattle.connection.specs.declared.calls.Outcome.the-variants as O
 use Rattle.connection.specs.declared.handshake.Handshake.{Handshake}
 use Rattle.demands.specs.Runs.{Call, receive, send-data, send-alert, close, start, Result, received, sent, called, Step, stepOf}
 use Rattle.demands.specs.Calls.{CallRow, receive-16, receive-6, receive-framing, receive-records, data-16, data-7, data-8, data-15, data-6, data-sent, alert-16, alert-7, alert-8, alert-15, alert-6, alert-sent, close-7, close-done, start-7, start-8, start-done}
-use Rattle.demands.specs.Refusals.{lentBy, IsRefused, writtenBy, RefusedCallChangesNothing, NothingWrittenWithoutReply}
+use Rattle.demands.specs.Refusals.{lentBy, IsRefused, writtenBy, RefusedCallChangesNothing, NothingWrittenWithoutReply, RefusedByTheList}
 use Rattle.demands.specs.Changes.{afterSending, DataChangesOnly, AlertChangesOnly}
 use Rattle.demands.proofs.Calling.{call-of}
 
@@ -133,3 +138,32 @@ pub alert-changes-only : AlertChangesOnly
 unfolding AlertChangesOnly stepOf
 alert-changes-only c sealed level description answered out x =
     alert-after c sealed level description answered out (call-of c (send-alert sealed level description answered out)) x
+
+-- ---- the numbers of the list
+
+fault-listed : (fault : Fault) → (1 ≤ faultNumber fault) × (faultNumber fault ≤ 18)
+fault-listed F.Size = (lit≤ tt, lit≤ tt)
+fault-listed F.Header = (lit≤ tt, lit≤ tt)
+fault-listed F.Kind = (lit≤ tt, lit≤ tt)
+fault-listed F.Fragment = (lit≤ tt, lit≤ tt)
+fault-listed F.Ninth = (lit≤ tt, lit≤ tt)
+
+listed : (x : Refusal) → (1 ≤ refusalNumber x) × (refusalNumber x ≤ 18)
+listed (X.Framing fault) = fault-listed fault
+listed X.Room = (lit≤ tt, lit≤ tt)
+listed X.Ended = (lit≤ tt, lit≤ tt)
+listed X.NotAllowed = (lit≤ tt, lit≤ tt)
+listed X.Forged = (lit≤ tt, lit≤ tt)
+listed X.TooOld = (lit≤ tt, lit≤ tt)
+listed X.Repeated = (lit≤ tt, lit≤ tt)
+listed X.Malformed = (lit≤ tt, lit≤ tt)
+listed X.Unacceptable = (lit≤ tt, lit≤ tt)
+listed X.Checksum = (lit≤ tt, lit≤ tt)
+listed X.Spent = (lit≤ tt, lit≤ tt)
+listed X.Argument = (lit≤ tt, lit≤ tt)
+listed X.WrongFinished = (lit≤ tt, lit≤ tt)
+listed X.HelloWhileOpen = (lit≤ tt, lit≤ tt)
+
+pub refused-by-the-list : RefusedByTheList
+unfolding RefusedByTheList
+refused-by-the-list = listed

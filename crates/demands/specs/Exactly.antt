@@ -5,3 +5,5 @@ pub mod Sends
 pub mod Calls
 pub mod Whole
 pub mod Record
+pub mod Answers
+pub mod All

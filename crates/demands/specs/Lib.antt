@@ -12,6 +12,7 @@ pub mod Finished
 pub mod LeftOut
 pub mod Course
 pub mod HandedOut
+pub mod Replies
 pub mod Barred
 pub mod Sends
 pub mod Counts

@@ -4,13 +4,14 @@
 use mathlib.Core.Path.{_≡_}
 use mathlib.Core.Bool.{Bool, true, false}
 use mathlib.Core.List.{List, [], _∷_}
-use Prim.Native.Nat.{ℕ}
+use Prim.Native.Nat.{ℕ, _≤_}
 use Rattle.record.specs.Window.{acceptOf}
 use Rattle.record.specs.Datagram.{framed, framingOf}
 use Rattle.record.specs.declared.reader.Record.{Record}
 use Rattle.record.specs.declared.window.Acceptance.{Acceptance}
 use Rattle.record.specs.declared.window.Acceptance.the-variants as A
 use Rattle.connection.specs.Answer.{replySize}
+use Rattle.connection.specs.Refusal.{refusalNumber}
 use Rattle.connection.specs.Handshake.{withState, withWindow}
 use Rattle.connection.specs.Judge.{judgedRecord}
 use Rattle.connection.specs.declared.state.State.the-variants.{Closed}
@@ -99,3 +100,7 @@ NothingWrittenWithoutReply =
     (c : Connection) (d random out : List ℕ) (r : Record) (rs : List Record) → framingOf d ≡ framed (r ∷ rs)
     → replySize (judgedRecord (c .handshake) random d r .answer) ≡ 0
     → (stepOf c (receive d random out) .output ≡ out) × (writtenBy (stepOf c (receive d random out) .result) ≡ 0)
+
+-- Demand 1: "Bad input is refused with a number from the list."
+unfoldable pub RefusedByTheList : Type 0
+RefusedByTheList = (x : Refusal) → (1 ≤ refusalNumber x) × (refusalNumber x ≤ 18)
