@@ -1,0 +1,88 @@
+//! What happened to a datagram, for the log.
+
+use crate::refusals;
+use std::fmt;
+
+#[derive(Clone, Copy, PartialEq, Eq, Hash, Debug)]
+pub enum Note {
+    /// Neither does its sender have a route, nor is it a hello with an identifier.
+    Stranger,
+    /// A hello that names no planted session.
+    UnknownSession,
+    /// One more ship would share the sender's address.
+    TooManyShips,
+    /// A datagram refused as a whole; 1 to 5 begin at an offset.
+    RefusedWhole {
+        number: u8,
+        offset: usize,
+    },
+    /// The record with this index is refused.
+    Refused {
+        number: u8,
+        record: usize,
+    },
+    Opened,
+    ClosedByAlert {
+        description: u8,
+    },
+    ClosedByWrongFinished,
+    BarredByAlert {
+        description: u8,
+    },
+    /// The warning 57 went out.
+    Warned,
+    /// The connection was closed and started again for a hello.
+    Reopened,
+    /// An alert of ours could not be sent.
+    AlertRefused {
+        number: u8,
+    },
+}
+
+impl Note {
+    /// Notes of one kind share the limit of the log. A few dozen kinds, whatever comes.
+    pub fn kind(&self) -> (u8, u8) {
+        match *self {
+            Note::Stranger => (0, 0),
+            Note::UnknownSession => (1, 0),
+            Note::TooManyShips => (2, 0),
+            Note::RefusedWhole { number, .. } | Note::Refused { number, .. } => (3, number),
+            Note::Opened => (4, 0),
+            Note::ClosedByAlert { .. } => (5, 0),
+            Note::ClosedByWrongFinished => (6, 0),
+            Note::BarredByAlert { .. } => (7, 0),
+            Note::Warned => (8, 0),
+            Note::Reopened => (9, 0),
+            Note::AlertRefused { .. } => (10, 0),
+        }
+    }
+}
+
+impl fmt::Display for Note {
+    fn fmt(&self, f: &mut fmt::Formatter) -> fmt::Result {
+        match *self {
+            Note::Stranger => write!(f, "not routed: no hello of this sender named a session"),
+            Note::UnknownSession => write!(f, "not routed: the hello names no planted session"),
+            Note::TooManyShips => write!(f, "not routed: too many ships at this address"),
+            Note::RefusedWhole { number, offset } => {
+                write!(f, "refused {number} ({}) at {offset}", refusals::meaning(number))
+            }
+            Note::Refused { number, record } => {
+                write!(f, "refused {number} ({}), record {record}", refusals::meaning(number))
+            }
+            Note::Opened => write!(f, "open"),
+            Note::ClosedByAlert { description } => {
+                write!(f, "closed by an alert, description {description}; started again")
+            }
+            Note::ClosedByWrongFinished => write!(f, "closed by a wrong Finished; started again"),
+            Note::BarredByAlert { description } => {
+                write!(f, "session barred by a fatal alert, description {description}")
+            }
+            Note::Warned => write!(f, "Finished repeated: warning 57 sent"),
+            Note::Reopened => write!(f, "silent, and a hello came: closed and started again"),
+            Note::AlertRefused { number } => {
+                write!(f, "alert not sent: refused {number} ({})", refusals::meaning(number))
+            }
+        }
+    }
+}
