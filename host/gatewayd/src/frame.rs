@@ -2,10 +2,12 @@
 //! change the whole connection, and the reports that were handed out with it. A digest over the
 //! record makes it all or nothing. Numbers have the most significant byte first.
 //!
-//!     mark 4, length of the body 4, body, SHA-1 over all of these 20
-//!     body: time 8, place in the list (day 4, text 8, JSON 8), changes until its end
-//!     change: identifier 8, planting 20, connection 457, tally 16, route 19, name 2 + n,
-//!             reports 2, and for each number 2, bytes 2 + n
+//! ```text
+//! mark 4, length of the body 4, body, SHA-1 over all of these 20
+//! body: time 8, place in the list (day 4, text 8, JSON 8), changes until its end
+//! change: identifier 8, planting 20, connection 457, tally 16, route 19, name 2 + n,
+//!         reports 2, and for each number 2, bytes 2 + n
+//! ```
 
 use crate::clock::{Day, Moment};
 use crate::fleet::Report;

@@ -96,22 +96,32 @@ impl Gateway {
     fn work(&mut self, datagrams: &Receiver<io::Result<Datagram>>) -> io::Result<()> {
         while !signals::end_is_asked() {
             match datagrams.recv_timeout(SIGNALS_EVERY) {
-                Ok(first) => {
-                    let mut run = vec![first?];
-                    while run.len() < RUN {
-                        let Ok(next) = datagrams.try_recv() else { break };
-                        run.push(next?);
-                    }
-                    self.take(&run)?;
-                }
+                Ok(first) => self.take_waiting(vec![first?], datagrams)?,
                 Err(RecvTimeoutError::Timeout) => {}
                 Err(RecvTimeoutError::Disconnected) => {
-                    return Err(io::Error::other("the receiver ended"))
+                    return Err(io::Error::other("the receiver ended"));
                 }
             }
             self.show_progress();
         }
+        // What has arrived is still taken; a flood must not put off the end.
+        for _ in 0..WAITING / RUN {
+            self.take_waiting(Vec::new(), datagrams)?;
+        }
         Ok(())
+    }
+
+    /// Takes what waits, up to a run.
+    fn take_waiting(
+        &mut self,
+        mut run: Vec<Datagram>,
+        datagrams: &Receiver<io::Result<Datagram>>,
+    ) -> io::Result<()> {
+        while run.len() < RUN {
+            let Ok(next) = datagrams.try_recv() else { break };
+            run.push(next?);
+        }
+        self.take(&run)
     }
 
     /// Takes a run of datagrams. The order is the point: saved, listed, barred, and only then sent.
