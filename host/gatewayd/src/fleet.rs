@@ -2,25 +2,22 @@
 //! is to be saved, listed, sent and logged comes back, and the caller does it in that order.
 
 use crate::datagram;
-use crate::library::{Answer, Connection, Received, State};
 use crate::note::Note;
-use crate::refusals::{CLOSED, HELLO_WHILE_OPEN, REPEATED, TOO_OLD, WRONG_FINISHED};
 use crate::sessions::Identifier;
 use crate::ship::Ship;
 use crate::throttle::Throttle;
+use gateway::{Answer, Connection, Received, Refusal, Refused, Sense, State, REPLY_ROOM};
 use std::collections::HashMap;
 use std::net::SocketAddr;
 use std::time::{Duration, Instant};
 
-/// Room for what we send: a receive wants 128, an alert needs 29 at most.
-const ROOM: usize = 128;
 /// Behind one address (a relay, a network that shares addresses) there may be some ships.
 const SHIPS_AT_AN_ADDRESS: usize = 4;
 
-const WARNING: u8 = 1;
-const CRITICAL: u8 = 2;
-const CONNECTION_CLOSE_NOTIFY: u8 = 0;
-const DUPLICATE_FINISHED_RECEIVED: u8 = 57;
+const WARNING: u32 = 1;
+const CRITICAL: u32 = 2;
+const CONNECTION_CLOSE_NOTIFY: u32 = 0;
+const DUPLICATE_FINISHED_RECEIVED: u32 = 57;
 
 pub struct Rules {
     /// How long a connection must have been silent before a hello may end it; never, if none.
@@ -116,10 +113,10 @@ impl Fleet {
     fn takes(&self, index: usize, arrival: &Arrival) -> bool {
         let ship = &self.ships[index];
         let (mut connection, mut tally) = (ship.connection.clone(), ship.tally);
-        let received =
-            connection.receive(&mut tally, arrival.datagram, arrival.random, &mut [0; ROOM]);
+        let mut out = [0; REPLY_ROOM];
+        let received = connection.receive(&mut tally, arrival.datagram, arrival.random, &mut out);
         received.is_ok_and(|received| {
-            received.answers.iter().any(|answer| !matches!(answer, Answer::Refused(_)))
+            received.answers().any(|answer| !matches!(answer, Answer::Refused(_)))
         })
     }
 
@@ -127,11 +124,11 @@ impl Fleet {
         let ship = &mut self.ships[index];
         let mut taken = Taken { ship: Some(index), ..Taken::default() };
         if ship.barred {
-            taken.notes.push(Note::Refused { number: CLOSED, record: 0 });
+            taken.notes.push(Note::Refused { refusal: Refusal::Ended, record: 0 });
             return taken;
         }
         let before = ship.connection.clone();
-        let mut out = [0; ROOM];
+        let mut out = [0; REPLY_ROOM];
         let received = match ship.connection.receive(
             &mut ship.tally,
             arrival.datagram,
@@ -139,15 +136,13 @@ impl Fleet {
             &mut out,
         ) {
             Ok(received) => received,
-            Err(refusal) => {
-                taken
-                    .notes
-                    .push(Note::RefusedWhole { number: refusal.number, offset: refusal.offset });
+            Err(Refused { refusal, offset }) => {
+                taken.notes.push(Note::RefusedWhole { refusal, offset });
                 return taken;
             }
         };
         let mut route = ship.route;
-        if tell(arrival, &received, &out, &mut taken) {
+        if tell(arrival, &received, &mut taken) {
             route = Some(arrival.sender);
         }
         match ship.connection.state() {
@@ -157,7 +152,7 @@ impl Fleet {
                 if ship.connection != before {
                     ship.heard = arrival.now;
                 }
-                if received.answers.first() == Some(&Answer::Refused(HELLO_WHILE_OPEN)) {
+                if received.answers().next() == Some(Answer::Refused(Refusal::HelloWhileOpen)) {
                     if self.reopen(index, arrival, &mut taken) {
                         route = Some(arrival.sender);
                     }
@@ -189,15 +184,20 @@ impl Fleet {
         if self.warnings.pass(index, arrival.now).is_none() {
             return;
         }
-        let mut out = [0; ROOM];
-        let connection = &mut self.ships[index].connection;
-        match connection.send_alert(true, WARNING, DUPLICATE_FINISHED_RECEIVED, finished, &mut out)
-        {
-            Ok(written) => {
-                taken.send.push((arrival.sender, out[..written].to_vec()));
+        let mut out = [0; REPLY_ROOM];
+        let sent = self.ships[index].connection.send_alert(
+            Sense::Protected,
+            WARNING,
+            DUPLICATE_FINISHED_RECEIVED,
+            finished,
+            &mut out,
+        );
+        match sent {
+            Ok(warning) => {
+                taken.send.push((arrival.sender, warning.to_vec()));
                 taken.notes.push(Note::Warned);
             }
-            Err(refusal) => taken.notes.push(Note::AlertRefused { number: refusal.number }),
+            Err(refusal) => taken.notes.push(Note::AlertRefused { refusal }),
         }
     }
 
@@ -214,28 +214,33 @@ impl Fleet {
         }
         let (mut connection, mut tally) = (ship.connection.clone(), ship.tally);
         let hello = datagram::records(arrival.datagram)[0];
-        let mut notice = [0; ROOM];
-        let sent =
-            connection.send_alert(true, CRITICAL, CONNECTION_CLOSE_NOTIFY, hello, &mut notice);
-        let mut out = [0; ROOM];
+        let mut notice = [0; REPLY_ROOM];
+        let sent = connection.send_alert(
+            Sense::Protected,
+            CRITICAL,
+            CONNECTION_CLOSE_NOTIFY,
+            hello,
+            &mut notice,
+        );
+        let mut out = [0; REPLY_ROOM];
         let Some(received) = started_again(&mut connection)
             .and_then(|()| {
                 connection.receive(&mut tally, arrival.datagram, arrival.random, &mut out).ok()
             })
-            .filter(|received| received.answers.first() == Some(&Answer::Reply))
+            .filter(|received| matches!(received.answers().next(), Some(Answer::Reply(_))))
         else {
             return false;
         };
         match (sent, ship.route) {
-            (Ok(written), Some(old)) => taken.send.push((old, notice[..written].to_vec())),
-            (Err(refusal), _) => taken.notes.push(Note::AlertRefused { number: refusal.number }),
+            (Ok(notice), Some(old)) => taken.send.push((old, notice.to_vec())),
+            (Err(refusal), _) => taken.notes.push(Note::AlertRefused { refusal }),
             (Ok(_), None) => {}
         }
         taken.notes.push(Note::Reopened);
         ship.connection = connection;
         ship.tally = tally;
         ship.heard = arrival.now;
-        tell(arrival, &received, &out, taken)
+        tell(arrival, &received, taken)
     }
 
     fn set_route(&mut self, index: usize, route: Option<SocketAddr>) -> bool {
@@ -264,26 +269,25 @@ fn started_again(connection: &mut Connection) -> Option<()> {
 
 /// Puts down what each answer is for the outside; true if a hello was answered, so that the route
 /// is now the sender's. (In Open no hello is answered, so no route of an open connection moves.)
-fn tell(arrival: &Arrival, received: &Received, out: &[u8], taken: &mut Taken) -> bool {
+fn tell(arrival: &Arrival, received: &Received, taken: &mut Taken) -> bool {
     let mut answered = false;
-    for (record, answer) in received.answers.iter().enumerate() {
-        match *answer {
-            Answer::Reply | Answer::Resent => {
-                taken.send.push((arrival.sender, out[..received.written].to_vec()));
+    for (record, answer) in received.answers().enumerate() {
+        match answer {
+            Answer::Reply(_) | Answer::Resent(_) => {
+                taken.send.push((arrival.sender, received.to_send().to_vec()));
                 answered = true;
             }
-            Answer::Data { number, start, size } => {
-                let bytes = arrival.datagram[start..start + size].to_vec();
-                taken.reports.push(Report { number, bytes });
+            Answer::Data { number, bytes, .. } => {
+                taken.reports.push(Report { number, bytes: bytes.to_vec() });
             }
             Answer::Open => taken.notes.push(Note::Opened),
             Answer::Critical(description) | Answer::Fatal(description) => {
                 taken.notes.push(Note::ClosedByAlert { description });
             }
             Answer::Barred(description) => taken.notes.push(Note::BarredByAlert { description }),
-            Answer::Refused(number) => {
-                taken.notes.push(Note::Refused { number, record });
-                if number == WRONG_FINISHED {
+            Answer::Refused(refusal) => {
+                taken.notes.push(Note::Refused { refusal, record });
+                if refusal == Refusal::WrongFinished {
                     taken.notes.push(Note::ClosedByWrongFinished);
                 }
             }
@@ -297,10 +301,12 @@ fn tell(arrival: &Arrival, received: &Received, out: &[u8], taken: &mut Taken) -
 /// number repeated or, later, too old. (Both are said only of records whose code is right.)
 fn repeated_finished<'a>(datagram: &'a [u8], received: &Received) -> Option<&'a [u8]> {
     let records = datagram::records(datagram);
-    let repeated = |(answer, record): &(&Answer, &[u8])| match **answer {
+    let repeated = |(answer, record): &(Answer, &[u8])| match answer {
         Answer::Again => true,
-        Answer::Refused(TOO_OLD | REPEATED) => datagram::is_protected_handshake(record),
+        Answer::Refused(Refusal::TooOld | Refusal::Repeated) => {
+            datagram::is_protected_handshake(record)
+        }
         _ => false,
     };
-    received.answers.iter().zip(records).find(repeated).map(|(_, record)| record)
+    received.answers().zip(records).find(repeated).map(|(_, record)| record)
 }

@@ -11,9 +11,9 @@
 
 use crate::clock::{Day, Moment};
 use crate::fleet::Report;
-use crate::library::{STATE_SIZE, TALLY_SIZE};
 use crate::list::Place;
 use crate::sessions::Identifier;
+use gateway::{STATE_SIZE, TALLY_SIZE};
 use peer::sha1::sha1;
 use std::net::{IpAddr, SocketAddr};
 

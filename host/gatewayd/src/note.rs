@@ -1,9 +1,9 @@
 //! What happened to a datagram, for the log.
 
-use crate::refusals;
+use gateway::Refusal;
 use std::fmt;
 
-#[derive(Clone, Copy, PartialEq, Eq, Hash, Debug)]
+#[derive(Clone, Copy, PartialEq, Eq, Debug)]
 pub enum Note {
     /// Neither does its sender have a route, nor is it a hello with an identifier.
     Stranger,
@@ -13,12 +13,12 @@ pub enum Note {
     TooManyShips,
     /// A datagram refused as a whole; 1 to 5 begin at an offset.
     RefusedWhole {
-        number: u8,
+        refusal: Refusal,
         offset: usize,
     },
     /// The record with this index is refused.
     Refused {
-        number: u8,
+        refusal: Refusal,
         record: usize,
     },
     Opened,
@@ -35,7 +35,7 @@ pub enum Note {
     Reopened,
     /// An alert of ours could not be sent.
     AlertRefused {
-        number: u8,
+        refusal: Refusal,
     },
 }
 
@@ -46,7 +46,9 @@ impl Note {
             Note::Stranger => (0, 0),
             Note::UnknownSession => (1, 0),
             Note::TooManyShips => (2, 0),
-            Note::RefusedWhole { number, .. } | Note::Refused { number, .. } => (3, number),
+            Note::RefusedWhole { refusal, .. } | Note::Refused { refusal, .. } => {
+                (3, refusal.number())
+            }
             Note::Opened => (4, 0),
             Note::ClosedByAlert { .. } => (5, 0),
             Note::ClosedByWrongFinished => (6, 0),
@@ -64,12 +66,8 @@ impl fmt::Display for Note {
             Note::Stranger => write!(f, "not routed: no hello of this sender named a session"),
             Note::UnknownSession => write!(f, "not routed: the hello names no planted session"),
             Note::TooManyShips => write!(f, "not routed: too many ships at this address"),
-            Note::RefusedWhole { number, offset } => {
-                write!(f, "refused {number} ({}) at {offset}", refusals::meaning(number))
-            }
-            Note::Refused { number, record } => {
-                write!(f, "refused {number} ({}), record {record}", refusals::meaning(number))
-            }
+            Note::RefusedWhole { refusal, offset } => write!(f, "{refusal}, at byte {offset}"),
+            Note::Refused { refusal, record } => write!(f, "{refusal}, record {record}"),
             Note::Opened => write!(f, "open"),
             Note::ClosedByAlert { description } => {
                 write!(f, "closed by an alert, description {description}; started again")
@@ -80,9 +78,7 @@ impl fmt::Display for Note {
             }
             Note::Warned => write!(f, "Finished repeated: warning 57 sent"),
             Note::Reopened => write!(f, "silent, and a hello came: closed and started again"),
-            Note::AlertRefused { number } => {
-                write!(f, "alert not sent: refused {number} ({})", refusals::meaning(number))
-            }
+            Note::AlertRefused { refusal } => write!(f, "alert not sent: {refusal}"),
         }
     }
 }

@@ -2,12 +2,12 @@
 
 use crate::clock::Moment;
 use crate::fleet::{Fleet, Rules};
-use crate::library::State;
 use crate::log::{Log, Progress};
 use crate::options::Options;
 use crate::sessions;
 use crate::signals;
 use crate::store::{self, Opened, Store};
+use gateway::State;
 use std::fmt;
 use std::fs::File;
 use std::io::{self, Read, Write};
@@ -177,10 +177,10 @@ impl Gateway {
     fn counts(&self) -> Progress {
         let mut counts = Progress { datagrams: self.datagrams, ..Progress::default() };
         for ship in &self.fleet.ships {
-            counts.handed_out += u64::from(ship.tally.handed_out);
-            counts.forged += u64::from(ship.tally.forged);
-            counts.too_old += u64::from(ship.tally.too_old);
-            counts.repeated += u64::from(ship.tally.repeated);
+            counts.handed_out += u64::from(ship.tally.handed_out());
+            counts.forged += u64::from(ship.tally.forged());
+            counts.too_old += u64::from(ship.tally.too_old());
+            counts.repeated += u64::from(ship.tally.repeated());
         }
         counts
     }
@@ -217,7 +217,11 @@ impl fmt::Display for Tallies<'_> {
             writeln!(
                 f,
                 "{}\t{}\t{}\t{}\t{state}\t{}",
-                tally.handed_out, tally.forged, tally.too_old, tally.repeated, ship.session.ship
+                tally.handed_out(),
+                tally.forged(),
+                tally.too_old(),
+                tally.repeated(),
+                ship.session.ship
             )?;
         }
         Ok(())

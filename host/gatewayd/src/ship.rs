@@ -1,7 +1,7 @@
 //! One ship: its planted session and the connection that goes with it.
 
-use crate::library::{Connection, Tally};
 use crate::sessions::Session;
+use gateway::{Connection, Tally};
 use peer::sha1::sha1;
 use std::net::SocketAddr;
 use std::time::Instant;
@@ -23,9 +23,8 @@ pub struct Ship {
 
 impl Ship {
     pub fn fresh(session: Session, now: Instant) -> Result<Ship, String> {
-        let connection = Connection::fresh(&session.id, &session.secret).map_err(|refusal| {
-            format!("{session:?}: fresh connection refused {}", refusal.number)
-        })?;
+        let connection = Connection::fresh(&session.id, &session.secret)
+            .map_err(|refusal| format!("{session:?}: {refusal}"))?;
         Ok(Ship {
             planting: planting(&session),
             session,

@@ -5,10 +5,10 @@ use crate::clock::Moment;
 use crate::fleet::Report;
 use crate::frame::{Change, Frame};
 use crate::journal::{self, Journal};
-use crate::library::{Connection, State, Tally};
 use crate::list::List;
 use crate::sessions::{Identifier, Session};
 use crate::ship::Ship;
+use gateway::{Connection, State, Tally};
 use std::collections::HashMap;
 use std::fs::{self, DirBuilder, File, OpenOptions};
 use std::io;
@@ -106,8 +106,8 @@ pub fn change(ship: &Ship, reports: Vec<Report>) -> Change {
     Change {
         id: ship.session.id,
         planting: ship.planting,
-        connection: *ship.connection.bytes(),
-        tally: ship.tally.bytes(),
+        connection: *ship.connection.save(),
+        tally: *ship.tally.save(),
         route: ship.route,
         ship: ship.session.ship.clone(),
         reports,
@@ -145,13 +145,13 @@ fn restore(
     time: Moment,
 ) -> Result<(), String> {
     let connection = Connection::load(&change.connection)
-        .ok_or_else(|| format!("journal: what is saved for {} is no connection", change.ship))?;
+        .map_err(|refusal| format!("journal: {}: {refusal}", change.ship))?;
     if connection.state() == State::Barred {
         barred.add(&ship.session, time).map_err(|error| format!("barred: {error}"))?;
     }
     if change.planting == ship.planting {
         ship.connection = connection;
-        ship.tally = Tally::from_bytes(&change.tally);
+        ship.tally = Tally::load(change.tally);
         ship.route = change.route;
     }
     Ok(())

@@ -1,0 +1,6 @@
+-- Laws that belong to no one function.
+pub mod Laying
+pub mod Reading
+pub mod Calling
+pub mod Numbers
+pub mod Back

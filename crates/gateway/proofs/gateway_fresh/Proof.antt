@@ -1,0 +1,42 @@
+-- `gateway_fresh`: the room, then the call.
+use mathlib.Core.Path.{_≡_, refl, sym, _∙_, ap}
+use lib.ListN.{length}
+use Rattle.digest.proofs.Picks.{picks}
+use Rattle.gateway.specs.Calls.{freshResult, freshState, resultOf, refusalIn, leftIn}
+use borrow.Author.Needs.{needs}
+use Rattle.gateway.proofs.gateway_fresh.Statement.{statement}
+use Rattle.gateway.proofs.gateway_fresh.Tie as tie
+
+not-taken-requires : tie.Need-not-taken-requires
+not-taken-requires c κs = search needs
+
+returns : tie.Need-returns
+unfolding freshResult freshState
+returns c = let same : c .before .before .before .before .before .args .state .now ≡ c .before .before .before .before .before .args .state .now = refl in let no = c .not-taken .ensures in (search picks, search picks)
+
+fresh-requires : tie.Need-fresh-requires
+fresh-requires c κs = search needs
+
+leave-called-requires : tie.Need-leave-called-requires
+leave-called-requires c κs = search needs
+
+same-length : tie.Need-same-length
+same-length c = search needs
+
+returns-2 : tie.Need-returns-2
+unfolding freshResult freshState
+returns-2 c =
+    let result = c .before .before .leave-called .ensures .0 ∙ ap (λ k. resultOf (refusalIn (k .outcome)) 0 0) (c .before .before .before .before .fresh .ensures) in
+    let left = c .before .before .leave-called .ensures .1 ∙ ap (λ k. leftIn (c .before .before .before .before .before .before .before .before .before .args .state .now) (k .connection) (k .outcome)) (c .before .before .before .before .fresh .ensures) in
+    (search picks, search picks)
+
+pub gateway-fresh-spec : {M : Type 1} → statement M
+gateway-fresh-spec =
+    tie.close
+    (tie.spec
+    not-taken-requires
+    returns
+    fresh-requires
+    leave-called-requires
+    same-length
+    returns-2)

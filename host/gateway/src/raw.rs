@@ -1,0 +1,169 @@
+//! The exported calls as they are, on slices: one function each, nothing added. `include/gateway.h` has their promises.
+//!
+//! A slice goes over as its pointer and its length. The library reads and writes inside the slices that it is lent and nowhere
+//! else, keeps none of them, and accepts any length and any contents, so these functions are safe: that two lent slices do
+//! not overlap is what `&mut` says.
+
+mod exported {
+    extern "C" {
+        pub fn gateway_fresh(
+            id: *const u8,
+            id_size: usize,
+            secret: *const u8,
+            secret_size: usize,
+            state: *mut u8,
+            state_size: usize,
+        ) -> u64;
+        pub fn gateway_receive(
+            state: *mut u8,
+            state_size: usize,
+            tally: *mut u8,
+            tally_size: usize,
+            datagram: *const u8,
+            datagram_size: usize,
+            random: *const u8,
+            random_size: usize,
+            out: *mut u8,
+            room: usize,
+            answers: *mut u8,
+            answers_size: usize,
+        ) -> u64;
+        pub fn gateway_send_data(
+            state: *mut u8,
+            state_size: usize,
+            data: *const u8,
+            data_size: usize,
+            out: *mut u8,
+            room: usize,
+        ) -> u64;
+        pub fn gateway_send_alert(
+            state: *mut u8,
+            state_size: usize,
+            protected: u32,
+            level: u32,
+            description: u32,
+            answered: *const u8,
+            answered_size: usize,
+            out: *mut u8,
+            room: usize,
+        ) -> u64;
+        pub fn gateway_close(state: *mut u8, state_size: usize) -> u64;
+        pub fn gateway_start(state: *mut u8, state_size: usize) -> u64;
+        pub fn gateway_state(state: *const u8, state_size: usize) -> u64;
+    }
+}
+
+/// What a call answers, taken apart.
+#[derive(Clone, Copy, PartialEq, Eq, Debug)]
+pub struct Result {
+    /// 0: done; else the number of the refusal.
+    pub refusal: u32,
+    /// How many bytes stand at the front of the output.
+    pub written: usize,
+    /// As each call says.
+    pub count: usize,
+}
+
+impl Result {
+    fn of(number: u64) -> Result {
+        Result {
+            refusal: (number >> 32) as u32,
+            written: (number >> 16 & 0xffff) as usize,
+            count: (number & 0xffff) as usize,
+        }
+    }
+}
+
+pub fn fresh(id: &[u8], secret: &[u8], state: &mut [u8]) -> Result {
+    // Safety: each pointer is that of a slice, beside its length.
+    Result::of(unsafe {
+        exported::gateway_fresh(
+            id.as_ptr(),
+            id.len(),
+            secret.as_ptr(),
+            secret.len(),
+            state.as_mut_ptr(),
+            state.len(),
+        )
+    })
+}
+
+pub fn receive(
+    state: &mut [u8],
+    tally: &mut [u8],
+    datagram: &[u8],
+    random: &[u8],
+    out: &mut [u8],
+    answers: &mut [u8],
+) -> Result {
+    // Safety: each pointer is that of a slice, beside its length.
+    Result::of(unsafe {
+        exported::gateway_receive(
+            state.as_mut_ptr(),
+            state.len(),
+            tally.as_mut_ptr(),
+            tally.len(),
+            datagram.as_ptr(),
+            datagram.len(),
+            random.as_ptr(),
+            random.len(),
+            out.as_mut_ptr(),
+            out.len(),
+            answers.as_mut_ptr(),
+            answers.len(),
+        )
+    })
+}
+
+pub fn send_data(state: &mut [u8], data: &[u8], out: &mut [u8]) -> Result {
+    // Safety: each pointer is that of a slice, beside its length.
+    Result::of(unsafe {
+        exported::gateway_send_data(
+            state.as_mut_ptr(),
+            state.len(),
+            data.as_ptr(),
+            data.len(),
+            out.as_mut_ptr(),
+            out.len(),
+        )
+    })
+}
+
+pub fn send_alert(
+    state: &mut [u8],
+    protected: u32,
+    level: u32,
+    description: u32,
+    answered: &[u8],
+    out: &mut [u8],
+) -> Result {
+    // Safety: each pointer is that of a slice, beside its length.
+    Result::of(unsafe {
+        exported::gateway_send_alert(
+            state.as_mut_ptr(),
+            state.len(),
+            protected,
+            level,
+            description,
+            answered.as_ptr(),
+            answered.len(),
+            out.as_mut_ptr(),
+            out.len(),
+        )
+    })
+}
+
+pub fn close(state: &mut [u8]) -> Result {
+    // Safety: the pointer is that of a slice, beside its length.
+    Result::of(unsafe { exported::gateway_close(state.as_mut_ptr(), state.len()) })
+}
+
+pub fn start(state: &mut [u8]) -> Result {
+    // Safety: the pointer is that of a slice, beside its length.
+    Result::of(unsafe { exported::gateway_start(state.as_mut_ptr(), state.len()) })
+}
+
+pub fn state(state: &[u8]) -> Result {
+    // Safety: the pointer is that of a slice, beside its length.
+    Result::of(unsafe { exported::gateway_state(state.as_ptr(), state.len()) })
+}

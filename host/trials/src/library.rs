@@ -1,0 +1,228 @@
+//! The console's lines made by the exported library: what the library answers, and what its bytes then hold, written as the
+//! second implementation writes it. Beside each line stand the checks that no line can show: that a refused call touched
+//! nothing, that only the counted bytes of the output were written, and that the connection loads from what was saved.
+
+use gateway::{Answer, Connection, Refusal, Sense, Tally};
+
+/// What lies in the output before a call.
+const BLANK: u8 = 0xa5;
+
+#[derive(Default)]
+pub struct Library {
+    connection: Option<Connection>,
+    tally: Tally,
+    /// How many datagrams were received.
+    pub datagrams: u64,
+    /// What was wrong beyond the lines.
+    pub wrong: Option<String>,
+}
+
+impl Library {
+    /// The lines of one call; none for a line that is no call.
+    pub fn line(&mut self, line: &[u8]) -> Vec<String> {
+        let text = String::from_utf8_lossy(line).into_owned();
+        let words: Vec<&str> = text.split(' ').collect();
+        let mut lines = Vec::new();
+        if let ["fresh", id, secret] = words[..] {
+            lines.push(self.fresh(&bytes(id), &bytes(secret)));
+        } else {
+            let Some(connection) = self.connection.clone() else { return lines };
+            self.call(connection, &words, &mut lines);
+        }
+        lines.push(self.state_line());
+        lines
+    }
+
+    fn fresh(&mut self, id: &[u8], secret: &[u8]) -> String {
+        match Connection::fresh(id, secret) {
+            Ok(connection) => {
+                self.connection = Some(connection);
+                self.tally = Tally::default();
+                "fresh ok".to_string()
+            }
+            Err(refusal) => refused("fresh", refusal),
+        }
+    }
+
+    fn call(&mut self, mut connection: Connection, words: &[&str], lines: &mut Vec<String>) {
+        let before = connection.clone();
+        match words[..] {
+            ["receive", datagram, random, room] => {
+                self.receive(&mut connection, &bytes(datagram), &bytes(random), number(room), lines)
+            }
+            ["send", data, room] => {
+                let mut out = vec![BLANK; number(room)];
+                let sent = connection.send_data(&bytes(data), &mut out).map(<[u8]>::to_vec);
+                self.sent("send", sent, &out, lines);
+            }
+            ["alert", sense, level, description, record, room] => {
+                let sense = if sense == "clear" { Sense::Clear } else { Sense::Protected };
+                let (level, description) = (number(level) as u32, number(description) as u32);
+                let mut out = vec![BLANK; number(room)];
+                let sent = connection
+                    .send_alert(sense, level, description, &bytes(record), &mut out)
+                    .map(<[u8]>::to_vec);
+                self.sent("alert", sent, &out, lines);
+            }
+            ["close"] => lines.push(done("close", connection.close())),
+            ["start"] => lines.push(done("start", connection.start())),
+            _ => lines.push(format!("a call that is not known: {words:?}")),
+        }
+        if lines[0].contains("refused") && connection != before {
+            self.wrong = Some("a refused call changed the connection".to_string());
+        }
+        if Connection::load(connection.save()).as_ref() != Ok(&connection) {
+            self.wrong = Some("what was saved does not load".to_string());
+        }
+        self.connection = Some(connection);
+    }
+
+    fn receive(
+        &mut self,
+        connection: &mut Connection,
+        datagram: &[u8],
+        random: &[u8],
+        room: usize,
+        lines: &mut Vec<String>,
+    ) {
+        self.datagrams += 1;
+        let (mut out, tally) = (vec![BLANK; room], self.tally);
+        match connection.receive(&mut self.tally, datagram, random, &mut out) {
+            Err(refused) => {
+                let number = refused.refusal.number();
+                lines.push(match number {
+                    1..=5 => format!("receive refused {number} at {}", refused.offset),
+                    _ => format!("receive refused {number}"),
+                });
+                self.untouched(&out, 0);
+                if self.tally != tally {
+                    self.wrong = Some("a refused datagram changed the tally".to_string());
+                }
+            }
+            Ok(received) => {
+                lines.push(format!("receive records {}", received.answers().len()));
+                for (index, answer) in received.answers().enumerate() {
+                    if let Answer::Data { start, bytes, .. } = answer {
+                        if datagram[start..start + bytes.len()] != *bytes {
+                            self.wrong = Some("the data is no part of the datagram".to_string());
+                        }
+                    }
+                    lines.push(format!("{index} {}", words_of(&answer)));
+                }
+                let sent = received.to_send().to_vec();
+                if !sent.is_empty() {
+                    lines.push(format!("out {}", hex(&sent)));
+                }
+                self.untouched(&out, sent.len());
+            }
+        }
+    }
+
+    fn sent(
+        &mut self,
+        call: &str,
+        sent: Result<Vec<u8>, Refusal>,
+        out: &[u8],
+        lines: &mut Vec<String>,
+    ) {
+        match sent {
+            Ok(record) => {
+                lines.push(format!("{call} ok"));
+                lines.push(format!("out {}", hex(&record)));
+                self.untouched(out, record.len());
+            }
+            Err(refusal) => {
+                lines.push(refused(call, refusal));
+                self.untouched(out, 0);
+            }
+        }
+    }
+
+    /// The bytes of the output behind the counted ones.
+    fn untouched(&mut self, out: &[u8], written: usize) {
+        if out[written..].iter().any(|byte| *byte != BLANK) {
+            self.wrong = Some("a byte of the output was touched that is not counted".to_string());
+        }
+    }
+
+    /// The state as the bytes of the connection and of the tally show it (crates/gateway/specs/Saved.antt has the places).
+    fn state_line(&self) -> String {
+        let Some(connection) = &self.connection else {
+            return "state None n=- marks=00000000 arrived=0 sent=-,- checksum=00000000 tally=0,0,0,0"
+                .to_string();
+        };
+        let saved = connection.save();
+        let (highest, marks) = (big(&saved[435..437]), big(&saved[437..445]) as u32);
+        let (protected, clear) = (big(&saved[445..449]), big(&saved[449..453]));
+        let n = if marks == 0 { "-".to_string() } else { highest.to_string() };
+        let sent = match protected {
+            0 => "-,-".to_string(),
+            _ => format!("{protected},{clear}"),
+        };
+        let tally = self.tally;
+        format!(
+            "state {:?} n={n} marks={marks:08x} arrived={} sent={sent} checksum={} tally={},{},{},{}",
+            connection.state(),
+            marks.count_ones(),
+            hex(&saved[453..457]),
+            tally.handed_out(),
+            tally.forged(),
+            tally.too_old(),
+            tally.repeated()
+        )
+    }
+}
+
+fn refused(call: &str, refusal: Refusal) -> String {
+    format!("{call} refused {}", refusal.number())
+}
+
+fn done(call: &str, done: Result<(), Refusal>) -> String {
+    match done {
+        Ok(()) => format!("{call} ok"),
+        Err(refusal) => refused(call, refusal),
+    }
+}
+
+fn words_of(answer: &Answer) -> String {
+    match answer {
+        Answer::Reply(size) => format!("reply {size}"),
+        Answer::Resent(size) => format!("resent {size}"),
+        Answer::Spec => "spec".to_string(),
+        Answer::Open => "open".to_string(),
+        Answer::Again => "again".to_string(),
+        Answer::Data { start, bytes, .. } => format!("data {start} {}", bytes.len()),
+        Answer::Warning(description) => format!("warning {description}"),
+        Answer::Critical(description) => format!("critical {description}"),
+        Answer::Fatal(description) => format!("fatal {description}"),
+        Answer::Barred(description) => format!("barred {description}"),
+        Answer::Refused(refusal) => format!("refused {}", refusal.number()),
+    }
+}
+
+/// A byte string of a line that the second implementation took for a call.
+fn bytes(word: &str) -> Vec<u8> {
+    match word {
+        "-" => Vec::new(),
+        _ => word.as_bytes().chunks(2).map(|pair| digit(pair[0]) * 16 + digit(pair[1])).collect(),
+    }
+}
+
+fn digit(byte: u8) -> u8 {
+    match byte {
+        b'0'..=b'9' => byte - b'0',
+        _ => byte - b'a' + 10,
+    }
+}
+
+fn number(word: &str) -> usize {
+    word.parse().expect("the second implementation read it as a number")
+}
+
+fn hex(bytes: &[u8]) -> String {
+    bytes.iter().map(|byte| format!("{byte:02x}")).collect()
+}
+
+fn big(bytes: &[u8]) -> u64 {
+    bytes.iter().fold(0, |sum, byte| sum * 256 + u64::from(*byte))
+}

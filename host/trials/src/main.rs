@@ -1,0 +1,51 @@
+//! `trials`: the exported library, held against the second implementation and tried where it could go wrong.
+
+mod damage;
+mod differ;
+mod library;
+mod limits;
+mod open;
+
+use std::process::ExitCode;
+
+const USAGE: &str = "\
+trials differ [DATAGRAMS [SEED]]   random days through the exported calls and through the second
+                                   implementation, every answer and byte compared; as many
+                                   datagrams as said (default 100,000), valid and damaged
+trials limits                      every exported call with lengths 0, 1, at and past each limit
+trials damage                      the bytes of saved connections damaged one at a time
+";
+
+fn main() -> ExitCode {
+    let arguments: Vec<String> = std::env::args().skip(1).collect();
+    let words: Vec<&str> = arguments.iter().map(String::as_str).collect();
+    let tried = match words[..] {
+        ["differ"] => differ::run(100_000, 1),
+        ["differ", count] => match count.parse() {
+            Ok(count) => differ::run(count, 1),
+            Err(_) => return usage(),
+        },
+        ["differ", count, seed] => match (count.parse(), seed.parse()) {
+            (Ok(count), Ok(seed)) => differ::run(count, seed),
+            _ => return usage(),
+        },
+        ["limits"] => limits::run(),
+        ["damage"] => damage::run(),
+        _ => return usage(),
+    };
+    match tried {
+        Ok(report) => {
+            println!("{report}");
+            ExitCode::SUCCESS
+        }
+        Err(difference) => {
+            println!("{difference}");
+            ExitCode::FAILURE
+        }
+    }
+}
+
+fn usage() -> ExitCode {
+    eprint!("{USAGE}");
+    ExitCode::from(2)
+}

@@ -1,0 +1,154 @@
+/* The shore end of one link, for C: WTLS (WAP-261, 6 April 2001) with one ship's unit, proved in Rattle.
+
+   Link target/staticlib/libgateway.a (`rt staticlib gateway`). There is no heap, no global and no system call: a connection and
+   a tally live in bytes that the caller lends, and nothing is kept between calls. A call may be made on any bytes whatever: what
+   is lent is tested, and what is wrong is refused with a number. A refused call leaves every lent byte as it was.
+
+   Lent bytes may be copied, stored and lent again later, by this program or another one: they are the connection. They hold the
+   session's master secret. Two lent buffers of one call must not overlap.
+
+   `crates/gateway/src/lib.rt` has each promise below as a theorem, by the definitions in `crates/gateway/specs` and
+   `crates/connection/specs`. */
+#ifndef GATEWAY_H
+#define GATEWAY_H
+
+#include <stddef.h>
+#include <stdint.h>
+
+#ifdef __cplusplus
+extern "C" {
+#endif
+
+/* The sizes of what is lent, in bytes. */
+#define GATEWAY_STATE_SIZE 457   /* a connection; the places are listed in crates/gateway/specs/Saved.antt */
+#define GATEWAY_TALLY_SIZE 16    /* a tally: handed out, forged, too old, repeated; four bytes each, high byte first */
+#define GATEWAY_ANSWERS_SIZE 192 /* the answers of a receive: eight of 24 bytes each */
+#define GATEWAY_ANSWER_SIZE 24
+#define GATEWAY_ID_SIZE 8
+#define GATEWAY_SECRET_SIZE 20
+#define GATEWAY_RANDOM_SIZE 16
+#define GATEWAY_REPLY_ROOM 128   /* the least room that a receive needs for a reply */
+#define GATEWAY_DATAGRAM_MOST 1400
+#define GATEWAY_DATA_MOST 1300
+#define GATEWAY_SEND_ROOM 1323   /* room for anything that a send can write: 3 + 1,300 + 20 */
+#define GATEWAY_RECORDS_MOST 8
+
+/* What every call answers is one number of three parts. */
+#define GATEWAY_REFUSAL(result) ((unsigned)((result) >> 32))           /* 0: done; else a refusal number */
+#define GATEWAY_WRITTEN(result) ((size_t)((result) >> 16 & 0xffff))    /* bytes now at the front of `out` */
+#define GATEWAY_COUNT(result) ((size_t)((result) & 0xffff))            /* as each call says */
+
+/* The refusal numbers. */
+enum gateway_refusal {
+    GATEWAY_DONE = 0,
+    GATEWAY_SIZE = 1,              /* datagram of 0 or over 1,400 bytes */
+    GATEWAY_HEADER = 2,            /* a record header's fields pass the end */
+    GATEWAY_TYPE = 3,              /* reserved bit set, no sequence number, content not 1 to 4 */
+    GATEWAY_LENGTH = 4,            /* length past the end, or empty fragment */
+    GATEWAY_NINTH = 5,             /* a ninth record begins */
+    GATEWAY_ROOM = 6,              /* output buffer too short */
+    GATEWAY_ENDED = 7,             /* Barred, or Closed except for start again and close */
+    GATEWAY_NOT_ALLOWED = 8,       /* record or call not allowed in this state or place */
+    GATEWAY_FORGED = 9,            /* code not right */
+    GATEWAY_TOO_OLD = 10,          /* number too old */
+    GATEWAY_REPEATED = 11,         /* number repeated */
+    GATEWAY_MALFORMED = 12,        /* malformed content */
+    GATEWAY_UNACCEPTABLE = 13,     /* hello well formed, not acceptable */
+    GATEWAY_CHECKSUM = 14,         /* clear alert with another checksum */
+    GATEWAY_SPENT = 15,            /* sending number spent */
+    GATEWAY_ARGUMENT = 16,         /* argument out of range; also: the bytes lent are no saved connection */
+    GATEWAY_WRONG_FINISHED = 17,   /* genuine Finished with wrong contents */
+    GATEWAY_HELLO_WHILE_OPEN = 18  /* clear ClientHello while Open */
+};
+
+enum gateway_state {
+    GATEWAY_IDLE = 0,
+    GATEWAY_REPLIED = 1,
+    GATEWAY_SPEC = 2,
+    GATEWAY_OPEN = 3,
+    GATEWAY_CLOSED = 4,
+    GATEWAY_BARRED = 5
+};
+
+/* What a record gave. */
+enum gateway_kind {
+    GATEWAY_NOTHING = 0,   /* no record stood in this place */
+    GATEWAY_REPLY = 1,     /* a new reply; `size` bytes of it stand in `out` */
+    GATEWAY_RESENT = 2,    /* the kept reply again; `size` bytes of it stand in `out` */
+    GATEWAY_CHANGED = 3,   /* change cipher spec */
+    GATEWAY_OPENED = 4,    /* Finished verified: the connection is open */
+    GATEWAY_AGAIN = 5,     /* Finished verified once more */
+    GATEWAY_DATA = 6,      /* data handed out: `size` bytes of the datagram from `start` on, under `number` */
+    GATEWAY_WARNING = 7,   /* alerts, by level, with their `description` */
+    GATEWAY_CRITICAL = 8,
+    GATEWAY_FATAL = 9,     /* a clear fatal alert: closed */
+    GATEWAY_BAR = 10,      /* a protected fatal alert: the session is barred */
+    GATEWAY_REFUSED = 11   /* the record was refused with the number `refusal` */
+};
+
+/* One answer, read out of the 192 bytes. What does not belong to its kind is 0. */
+struct gateway_answer {
+    unsigned kind, refusal, description, number;
+    size_t start, size;
+};
+
+/* A fresh connection of a planted session: an identifier of 8 bytes, a master secret of 20, and 457 bytes for the connection,
+   whatever they hold.
+   Done: they hold a connection in Idle. Refused: 16, where one of the three has another length. */
+uint64_t gateway_fresh(const uint8_t *id, size_t id_size, const uint8_t *secret, size_t secret_size,
+                       uint8_t *state, size_t state_size);
+
+/* Takes a datagram. `random` is 16 fresh bytes for the server random of a reply (only a new reply uses them; that they are fresh
+   is the caller's duty), `out` has room of at least 128 bytes for the reply.
+   Done: the count is the number of records, 1 to 8, and `answers` has an answer for each, in their order, and GATEWAY_NOTHING
+   behind them; where answer 0 is a reply or a resent one, the bytes written stand at the front of `out` and are to be sent, else
+   none is written; the connection is as the records left it; each count of the tally that a record belongs to is one higher, up
+   to 2^32 - 1. No other byte of `out` is touched.
+   Refused: 16 (random not 16 bytes, or no saved connection, or a tally or answers of another size), 6 (room under 128), or the
+   framing, 1 to 5, with the offset of the record at fault as the count. */
+uint64_t gateway_receive(uint8_t *state, size_t state_size, uint8_t *tally, size_t tally_size,
+                         const uint8_t *datagram, size_t datagram_size, const uint8_t *random, size_t random_size,
+                         uint8_t *out, size_t room, uint8_t *answers, size_t answers_size);
+
+/* Writes a record with 1 to 1,300 bytes of data, to be sent as a datagram, in Open only.
+   Done: the bytes written stand at the front of `out`, no other byte of it is touched, and our number is spent.
+   Refused, in this order: 16, 7, 8, 15, 6. */
+uint64_t gateway_send_data(uint8_t *state, size_t state_size, const uint8_t *data, size_t data_size,
+                           uint8_t *out, size_t room);
+
+/* Writes an alert, clear (0; in Replied and Spec) or protected (1; in Replied, Spec and Open), with a level of 1 to 3, a
+   description of 002 10.2, and the checksum of the record that it answers (0 to 1,400 bytes as they were on the wire).
+   Done: as for data. Nothing closes: that is a call of its own. Refused, in this order: 16, 7, 8, 15, 6. */
+uint64_t gateway_send_alert(uint8_t *state, size_t state_size, uint32_t is_protected, uint32_t level, uint32_t description,
+                            const uint8_t *answered, size_t answered_size, uint8_t *out, size_t room);
+
+/* Leads anywhere but Barred to Closed. Refused: 16, 7. */
+uint64_t gateway_close(uint8_t *state, size_t state_size);
+
+/* Start again: leads from Closed to Idle, and forgets the window and the kept hello. Refused: 16, 7, 8. */
+uint64_t gateway_start(uint8_t *state, size_t state_size);
+
+/* The connection's state as the count, one of enum gateway_state. Refused: 16, where the bytes are no saved connection: with
+   this, bytes that come from elsewhere can be tested. */
+uint64_t gateway_state(const uint8_t *state, size_t state_size);
+
+/* The number that n bytes spell, high byte first. */
+static inline uint64_t gateway_number(const uint8_t *bytes, size_t n) {
+    uint64_t number = 0;
+    while (n-- > 0) number = number << 8 | *bytes++;
+    return number;
+}
+
+/* Answer i, 0 to 7, of the 192 bytes. */
+static inline struct gateway_answer gateway_answer_at(const uint8_t *answers, size_t i) {
+    const uint8_t *a = answers + GATEWAY_ANSWER_SIZE * i;
+    struct gateway_answer answer = {a[0], a[1], a[2], (unsigned)gateway_number(a + 4, 4),
+                                    (size_t)gateway_number(a + 8, 8), (size_t)gateway_number(a + 16, 8)};
+    return answer;
+}
+
+#ifdef __cplusplus
+}
+#endif
+
+#endif
