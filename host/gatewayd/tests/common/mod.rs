@@ -19,7 +19,17 @@ pub struct Place {
 
 impl Place {
     pub fn new(name: &str) -> Place {
-        let path = std::env::temp_dir().join(format!("gatewayd-{name}-{}", std::process::id()));
+        Place::within(std::env::temp_dir(), name)
+    }
+
+    /// Where the system has its disk in memory: for tests that bring thousands of files to it.
+    pub fn in_memory(name: &str) -> Place {
+        let memory = PathBuf::from("/dev/shm");
+        Place::within(if memory.is_dir() { memory } else { std::env::temp_dir() }, name)
+    }
+
+    fn within(directory: PathBuf, name: &str) -> Place {
+        let path = directory.join(format!("gatewayd-{name}-{}", std::process::id()));
         let _ = fs::remove_dir_all(&path);
         fs::create_dir_all(&path).unwrap();
         Place { path }
@@ -96,7 +106,8 @@ pub struct Gatewayd {
 
 impl Gatewayd {
     pub fn start(place: &Place, listen: &str, more: &[&str]) -> Gatewayd {
-        let log = fs::OpenOptions::new().create(true).append(true).open(place.path.join("log")).unwrap();
+        let log =
+            fs::OpenOptions::new().create(true).append(true).open(place.path.join("log")).unwrap();
         let mut child = Command::new(env!("CARGO_BIN_EXE_gatewayd"))
             .args(["--listen", listen, "--sessions"])
             .arg(place.sessions())
@@ -155,11 +166,20 @@ impl Ship {
         let socket = UdpSocket::bind("127.0.0.1:0").unwrap();
         socket.connect(to).unwrap();
         let unit = Unit::new(&identifier(index), &secret(index));
-        Ship { index, unit, socket, seen: HashMap::new(), random: Vec::new(), warnings: 0, notices: 0 }
+        Ship {
+            index,
+            unit,
+            socket,
+            seen: HashMap::new(),
+            random: Vec::new(),
+            warnings: 0,
+            notices: 0,
+        }
     }
 
     pub fn hello(&mut self, random: u8) -> Vec<u8> {
-        let message = Hello::plain(&[random; 16], &identifier(self.index), Kind::Sha80, 3).message();
+        let message =
+            Hello::plain(&[random; 16], &identifier(self.index), Kind::Sha80, 3).message();
         self.unit.say_hello(&message)
     }
 
