@@ -59,7 +59,7 @@ fn bad_session_files() {
         (b"0102030405060708\n", "sessions:1:17: the secret is missing"),
         (b"\xff\n", "sessions:1:1: not UTF-8"),
         (&[0; 4096], "sessions:1:1: the identifier has a character"),
-        (&GOOD.as_bytes()[..58], "sessions:1:58: the ship's name is missing"),
+        (&GOOD.as_bytes()[..58], "sessions:1:59: the ship's name is missing"),
         (
             GOOD.repeat(2).as_bytes(),
             "sessions:2:1: the identifier 0102030405060708 is planted twice",
