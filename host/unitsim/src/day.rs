@@ -30,6 +30,9 @@ const MOST_HELLOS: usize = 200;
 /// After so many reports without the warning 57 the handshake may have failed: another hello.
 const DOUBT_AFTER: usize = 32;
 
+const CRITICAL: u8 = 2;
+const CONNECTION_CLOSE_NOTIFY: u8 = 0;
+
 impl Day<'_> {
     pub fn new(options: &Options) -> Result<Day<'_>, String> {
         Ok(Day {
@@ -37,7 +40,7 @@ impl Day<'_> {
             rng: Rng::new(options.seed),
             out: Link::new(options.rates, options.seed + 1),
             back: Link::new(options.rates, options.seed + 2),
-            gateway: Gateway::new(options.to, &options.session, &options.secret)?,
+            gateway: Gateway::new(options)?,
             number: 1,
             confirmed: false,
             unconfirmed: 0,
@@ -54,6 +57,11 @@ impl Day<'_> {
         for datagram in self.out.empty() {
             self.gateway.deliver(&datagram)?;
             self.pause();
+        }
+        if self.options.close {
+            let notice = self.unit.alert(CRITICAL, CONNECTION_CLOSE_NOTIFY);
+            let notice = self.unit.protect(Content::Alert, false, self.number, &notice);
+            self.gateway.deliver(&notice.ok_or("no reply yet")?)?;
         }
         Ok(())
     }

@@ -1,5 +1,6 @@
 //! `unitsim`: see `unitsim --help`.
 
+mod capture;
 mod day;
 mod link;
 mod options;

@@ -23,6 +23,8 @@ unitsim: a ship's unit behind a bad link, for trying a gateway.
     --mac sha80|sha      [sha80]
     --refresh N          the key refresh  [4]
     --expected FILE      writes what must be in the list: number, length, bytes in hexadecimal
+    --capture FILE       writes all datagrams as they left and came, for tshark
+    --close              ends the day with a protected close notice
     --help
 
 Every datagram that the link delivers also goes through the shore's rules as `peer` has them, so what
@@ -42,6 +44,8 @@ pub struct Options {
     pub kind: Kind,
     pub refresh: u8,
     pub expected: Option<PathBuf>,
+    pub capture: Option<PathBuf>,
+    pub close: bool,
 }
 
 /// Per cent of the datagrams.
@@ -55,7 +59,8 @@ pub struct Rates {
 }
 
 pub fn read(mut words: impl Iterator<Item = String>) -> Result<Option<Options>, String> {
-    let (mut to, mut sessions, mut ship, mut expected) = (None, None, None, None);
+    let (mut to, mut sessions, mut ship) = (None, None, None);
+    let (mut expected, mut capture, mut close) = (None, None, false);
     let (mut reports, mut seed, mut every) = (300, 1, 1);
     let mut rates = Rates::default();
     let (mut kind, mut refresh) = (Kind::Sha80, 4);
@@ -63,12 +68,17 @@ pub fn read(mut words: impl Iterator<Item = String>) -> Result<Option<Options>, 
         if word == "--help" || word == "-h" {
             return Ok(None);
         }
+        if word == "--close" {
+            close = true;
+            continue;
+        }
         let value = words.next().ok_or_else(|| format!("{word} needs a value"))?;
         match &word[..] {
             "--to" => to = Some(number(&word, &value)?),
             "--sessions" => sessions = Some(PathBuf::from(value)),
             "--ship" => ship = Some(value),
             "--expected" => expected = Some(PathBuf::from(value)),
+            "--capture" => capture = Some(PathBuf::from(value)),
             "--reports" => reports = number(&word, &value)?,
             "--seed" => seed = number(&word, &value)?,
             "--lose" => rates.lose = percent(&word, &value)?,
@@ -100,6 +110,8 @@ pub fn read(mut words: impl Iterator<Item = String>) -> Result<Option<Options>, 
         kind,
         refresh,
         expected,
+        capture,
+        close,
     }))
 }
 

@@ -1,6 +1,8 @@
 //! The gateway as it must be: all that the link delivers goes to the real one and through the
 //! shore's rules, and the real one's replies must be the same to the byte.
 
+use crate::capture::{Capture, Way};
+use crate::options::Options;
 use peer::shore::{Answer, Received, Shore, Tally};
 use peer::wire;
 use std::io;
@@ -15,6 +17,7 @@ pub struct Gateway {
     pub handed_out: Vec<(u16, Vec<u8>)>,
     /// What came from the gateway and was not looked at yet.
     pub inbox: Vec<Vec<u8>>,
+    capture: Option<Capture>,
 }
 
 const REPLY_WITHIN: Duration = Duration::from_secs(5);
@@ -23,20 +26,25 @@ const ROOM: usize = 128;
 const RANDOM_AT: usize = 9;
 
 impl Gateway {
-    pub fn new(to: SocketAddr, session: &[u8], secret: &[u8]) -> Result<Gateway, String> {
-        let socket = connected(to).map_err(|error| format!("{to}: {error}"))?;
-        let rules = Shore::fresh(session, secret).map_err(|refusal| format!("{refusal:?}"))?;
+    pub fn new(options: &Options) -> Result<Gateway, String> {
+        let told = |error: io::Error| error.to_string();
+        let socket = connected(options.to).map_err(told)?;
+        let rules = Shore::fresh(&options.session, &options.secret)
+            .map_err(|refusal| format!("{refusal:?}"))?;
+        let capture = options.capture.as_deref().map(Capture::create).transpose().map_err(told)?;
         Ok(Gateway {
             socket,
             rules,
             tally: Tally::default(),
             handed_out: Vec::new(),
             inbox: Vec::new(),
+            capture,
         })
     }
 
     pub fn deliver(&mut self, datagram: &[u8]) -> Result<(), String> {
         self.socket.send(datagram).map_err(|error| error.to_string())?;
+        self.note(Way::ToShore, datagram)?;
         // The rules tell whether a reply is due; its random is the gateway's own.
         let due =
             reply(&self.rules.clone().receive(datagram, &[0; 16], ROOM, &mut Tally::default()))
@@ -88,6 +96,11 @@ impl Gateway {
         Ok(())
     }
 
+    fn note(&mut self, way: Way, datagram: &[u8]) -> Result<(), String> {
+        let noted = self.capture.as_mut().map_or(Ok(()), |capture| capture.add(way, datagram));
+        noted.map_err(|error| format!("capture: {error}"))
+    }
+
     fn next(&mut self, wait: Duration) -> Result<Option<Vec<u8>>, String> {
         let mut buffer = [0; 2048];
         let told = |error: io::Error| error.to_string();
@@ -98,7 +111,10 @@ impl Gateway {
         let received = self.socket.recv(&mut buffer);
         self.socket.set_nonblocking(false).map_err(told)?;
         match received {
-            Ok(size) => Ok(Some(buffer[..size].to_vec())),
+            Ok(size) => {
+                self.note(Way::ToShip, &buffer[..size])?;
+                Ok(Some(buffer[..size].to_vec()))
+            }
             Err(error) if error.kind() == io::ErrorKind::WouldBlock => Ok(None),
             Err(error) => Err(error.to_string()),
         }
