@@ -19,6 +19,9 @@ pub struct Journal {
 pub struct Contents {
     pub frames: Vec<Frame>,
     pub left_over: usize,
+    /// No crash leaves this: a first record that is not whole, or a whole one behind one that is
+    /// not. Going on from here would use numbers of ours twice.
+    pub is_damaged: bool,
 }
 
 const NAME: &str = "journal";
@@ -35,7 +38,9 @@ pub fn read(bytes: &[u8]) -> Contents {
         frames.push(frame);
         left = &left[size..];
     }
-    Contents { frames, left_over: left.len() }
+    let is_damaged = !left.is_empty() && frames.is_empty()
+        || (1..left.len()).any(|start| Frame::read(&left[start..]).is_some());
+    Contents { frames, left_over: left.len(), is_damaged }
 }
 
 /// The journal in a directory; an empty one if there is none yet.

@@ -2,6 +2,7 @@
 
 use gateway::Refusal;
 use std::fmt;
+use std::io::ErrorKind;
 
 #[derive(Clone, Copy, PartialEq, Eq, Debug)]
 pub enum Note {
@@ -33,7 +34,9 @@ pub enum Note {
     Warned,
     /// The connection was closed and started again for a hello.
     Reopened,
-    /// An alert of ours could not be sent.
+    /// The system did not take a datagram of ours.
+    NotSent(ErrorKind),
+    /// The library did not write an alert of ours.
     AlertRefused {
         refusal: Refusal,
     },
@@ -56,6 +59,7 @@ impl Note {
             Note::Warned => (8, 0),
             Note::Reopened => (9, 0),
             Note::AlertRefused { .. } => (10, 0),
+            Note::NotSent(_) => (11, 0),
         }
     }
 }
@@ -78,6 +82,7 @@ impl fmt::Display for Note {
             }
             Note::Warned => write!(f, "Finished repeated: warning 57 sent"),
             Note::Reopened => write!(f, "silent, and a hello came: closed and started again"),
+            Note::NotSent(kind) => write!(f, "datagram not sent: {kind}"),
             Note::AlertRefused { refusal } => write!(f, "alert not sent: {refusal}"),
         }
     }

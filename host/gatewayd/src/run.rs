@@ -3,6 +3,7 @@
 use crate::clock::Moment;
 use crate::fleet::{Fleet, Rules};
 use crate::log::{Log, Progress};
+use crate::note::Note;
 use crate::options::Options;
 use crate::sessions;
 use crate::signals;
@@ -131,6 +132,7 @@ impl Gateway {
         let mut changes = Vec::new();
         let mut send = Vec::new();
         let mut barred = Vec::new();
+        let mut notes = Vec::new();
         for (sender, datagram) in run {
             let mut random = [0; 16];
             self.randoms.read_exact(&mut random)?;
@@ -141,14 +143,7 @@ impl Gateway {
                 barred.extend(ship.barred.then_some(index));
             }
             send.extend(taken.send);
-            for note in taken.notes {
-                self.log.note(
-                    ship.map(|(index, ship)| (index, &ship.session.ship[..])),
-                    *sender,
-                    note,
-                    now,
-                );
-            }
+            notes.extend(taken.notes.into_iter().map(|note| (taken.ship, *sender, note)));
         }
         self.datagrams += run.len() as u64;
         if !changes.is_empty() {
@@ -160,8 +155,12 @@ impl Gateway {
         for (to, bytes) in send {
             // A datagram that cannot be sent is one that the link lost.
             if let Err(error) = self.socket.send_to(&bytes, to) {
-                self.log.line(&format!("{to}: {error}"));
+                notes.push((None, to, Note::NotSent(error.kind())));
             }
+        }
+        for (ship, sender, note) in notes {
+            let ship = ship.map(|index| (index, &self.fleet.ships[index].session.ship[..]));
+            self.log.note(ship, sender, note, now);
         }
         Ok(())
     }

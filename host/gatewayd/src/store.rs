@@ -40,6 +40,9 @@ impl Store {
         }
         let lock = lock(state)?;
         let contents = journal::load(state).map_err(|error| told(state, error))?;
+        if contents.is_damaged {
+            return Err(format!("{}: the journal is damaged, and not by a crash", state.display()));
+        }
         let mut remarks = Vec::new();
         if contents.left_over > 0 {
             let bytes = contents.left_over;

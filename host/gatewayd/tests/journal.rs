@@ -91,6 +91,7 @@ fn cut_at_each_byte() {
     for cut in before[0].len()..after[0].len() {
         let contents = journal::read(&after[0][..cut]);
         assert_eq!((contents.frames.len(), contents.left_over), (whole - 1, cut - before[0].len()));
+        assert!(!contents.is_damaged);
         lay(&state, [&after[0][..cut], &before[1], &before[2]]);
         let mut world = World::open(&state);
         assert_eq!(world.connection(), connection_before);
@@ -140,4 +141,29 @@ fn started_twice() {
     fs::write(state.join("journal.new"), b"GWJ").unwrap();
     drop(World::open(&state));
     assert_eq!(files(&state)[1..], after[1..]);
+}
+
+/// A byte that is changed anywhere but in the last record is no crash, and the gateway does not start.
+#[test]
+fn damaged_in_the_middle() {
+    let place = Place::in_memory("damaged");
+    let mut ship = Ship::new(0, "127.0.0.1:9".parse().unwrap());
+    let mut world = World::open(&place.state());
+    let reply = world.take(&ship.hello(1)).send.remove(0).1;
+    ship.unit.hear_reply(&reply).unwrap();
+    let [before, ..] = files(&place.state());
+    world.take(&ship.unit.flight().unwrap());
+    let [after, ..] = files(&place.state());
+    drop(world);
+    for place in (0..after.len()).step_by(11) {
+        let mut damaged = after.clone();
+        damaged[place] ^= 4;
+        assert_eq!(journal::read(&damaged).is_damaged, place < before.len(), "byte {place}");
+    }
+    let mut damaged = after.clone();
+    damaged[before.len() - 30] ^= 4;
+    lay(&place.state(), [&damaged, b"", b""]);
+    let sessions = vec![Session { id: identifier(0), secret: secret(0), ship: name(0) }];
+    let opened = Store::open(&place.state(), &place.state().join("lists"), sessions);
+    assert!(opened.is_err_and(|what| what.contains("damaged")));
 }

@@ -9,7 +9,7 @@ use peer::rng::Rng;
 use std::collections::BTreeSet;
 use std::sync::atomic::{AtomicBool, AtomicUsize, Ordering};
 use std::thread;
-use std::time::Duration;
+use std::time::{Duration, Instant};
 
 const SHIPS: usize = 6;
 const REPORTS: u16 = 120;
@@ -81,7 +81,12 @@ impl Drop for SetAtEnd<'_> {
 fn sail(ship: &mut Ship, place: &Place, rng: &mut Rng) {
     ship.shake_hands(ship.index as u8 + 1);
     let mut next = 1;
+    let start = Instant::now();
     loop {
+        assert!(
+            start.elapsed() < Duration::from_secs(30),
+            "reports are missing from the list for good"
+        );
         ship.hear(Duration::from_micros(100));
         let listed: BTreeSet<u16> =
             place.listed(ship.index).into_iter().map(|(number, _)| number).collect();
