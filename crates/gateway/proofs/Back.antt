@@ -1,5 +1,5 @@
--- Saving and loading are one another's inverse. The fields of a saved connection stand at the places where loading reads them
--- (`placed`), and bytes that are cut at those places are the cuts joined (`cut-joined`).
+-- Saving and loading are one another's inverse. The fields of a saved connection stand at the places where loading
+-- reads them (`placed`), and bytes that are cut at those places are the cuts joined (`cut-joined`).
 use mathlib.Core.Path.{_≡_, refl, sym, _∙_, ap, ap₂, subst}
 use mathlib.Core.Bool.{Bool, true, false}
 use mathlib.Core.List.{List, [], _∷_, _++_, append-nil}

@@ -1,5 +1,5 @@
--- Fields laid one behind the other. `Laid d at fs e n`: e is d with the fields fs, of n bytes in all, laid over it from place
--- `at` on. Each store of one more field is one step.
+-- Fields laid one behind the other. `Laid d at fs e n`: e is d with the fields fs, of n bytes in all, laid over it
+-- from place `at` on. Each store of one more field is one step.
 use mathlib.Core.Path.{_≡_, refl, sym, _∙_, ap, ap₂}
 use mathlib.Core.List.{List, [], _∷_, _++_, append-nil, append-assoc}
 use Prim.Native.Nat.{ℕ, zero, suc, _+_, _≤_}

@@ -1,9 +1,9 @@
--- The exported calls: each is a call of the connection on the connection that the lent bytes hold. "16: argument out of range"
--- is stretched to bytes that are no saved connection, and to a tally or answers of another size. A refused call leaves every
--- lent byte as it was.
+-- The exported calls: each is a call of the connection on the connection that the lent bytes hold. "16: argument out
+-- of range" is stretched to bytes that are no saved connection, and to a tally or answers of another size. A refused
+-- call leaves every lent byte as it was.
 use mathlib.Core.Bool.{Bool, true, false}
 use mathlib.Core.List.{List}
-use Prim.Native.Nat.{ℕ, _+_, _*_, _%_}
+use Prim.Native.Nat.{ℕ, _+_, _*_, _/_, _%_}
 use lib.ListN.{length, getD}
 use lib.Dec.{eqb}
 use Rattle.digest.specs.Pick.{pick}
@@ -24,10 +24,20 @@ use Rattle.gateway.specs.Saved.{savedOf, isSaved, connectionIn}
 use Rattle.gateway.specs.Report.{reportOf}
 use Rattle.gateway.specs.Counts.{tallyBytes, tallyIn}
 
--- What a call answers: the refusal's number (0: not refused), how many bytes stand at the front of the output, and a count;
--- sixteen bits each, the count lowest.
+-- What a call answers: the refusal's number (0: not refused), how many bytes stand at the front of the output, and a
+-- count; sixteen bits each, the count lowest.
 unfoldable pub resultOf : ℕ → ℕ → ℕ → ℕ
 resultOf refusal written count = (refusal * 65536 + written % 65536) * 65536 + count % 65536
+
+-- the three parts, as include/gateway.h takes them out
+abbrev pub refusalPart : ℕ → ℕ
+refusalPart result = result / 65536 / 65536
+
+abbrev pub writtenPart : ℕ → ℕ
+writtenPart result = result / 65536 % 65536
+
+abbrev pub countPart : ℕ → ℕ
+countPart result = result % 65536
 
 -- "16: argument out of range"
 abbrev pub notTaken : ℕ
@@ -57,7 +67,9 @@ calledResult call state = pick (isSaved state) (resultOf (refusalIn (call (conne
 
 abbrev pub calledState : (Connection → Called) → List ℕ → List ℕ
 calledState call state =
-    pick (isSaved state) (leftIn state (call (connectionIn state) .connection) (call (connectionIn state) .outcome)) state
+    pick (isSaved state)
+    (leftIn state (call (connectionIn state) .connection) (call (connectionIn state) .outcome))
+    state
 
 unfoldable pub closeResult : List ℕ → ℕ
 closeResult state = calledResult closedOf state
@@ -98,13 +110,17 @@ sense protected sent other = pick (eqb protected 0) (sent false) (pick (eqb prot
 unfoldable pub alertResult : List ℕ → ℕ → ℕ → ℕ → List ℕ → ℕ → ℕ
 alertResult state protected level description answered room =
     pick (isSaved state)
-    (sense protected (λ sealed. sentResult (alertSent (connectionIn state) sealed level description answered room)) notTaken)
+    (sense protected
+    (λ sealed. sentResult (alertSent (connectionIn state) sealed level description answered room))
+    notTaken)
     notTaken
 
 unfoldable pub alertState : List ℕ → ℕ → ℕ → ℕ → List ℕ → ℕ → List ℕ
 alertState state protected level description answered room =
     pick (isSaved state)
-    (sense protected (λ sealed. sentState state (alertSent (connectionIn state) sealed level description answered room)) state)
+    (sense protected
+    (λ sealed. sentState state (alertSent (connectionIn state) sealed level description answered room))
+    state)
     state
 
 unfoldable pub alertOut : List ℕ → ℕ → ℕ → ℕ → List ℕ → List ℕ → List ℕ
@@ -131,26 +147,34 @@ whereTaken (T.Misframed refusal at) after before = before
 abbrev pub got : List ℕ → List ℕ → List ℕ → ℕ → Received
 got state d random room = receivedOf (connectionIn state) d random room
 
-unfoldable pub receiveResult : Bool → List ℕ → List ℕ → List ℕ → ℕ → ℕ
-receiveResult lent state d random room =
-    pick lent (takenResult (got state d random room .written) (got state d random room .taken)) notTaken
+unfoldable pub receiveResult : List ℕ → List ℕ → List ℕ → List ℕ → List ℕ → ℕ → ℕ
+receiveResult state tally answers d random room =
+    pick (lentFor state (length tally) (length answers))
+    (takenResult (got state d random room .written) (got state d random room .taken))
+    notTaken
 
-unfoldable pub receiveState : Bool → List ℕ → List ℕ → List ℕ → ℕ → List ℕ
-receiveState lent state d random room =
-    pick lent (whereTaken (got state d random room .taken) (savedOf (got state d random room .connection)) state) state
+unfoldable pub receiveState : List ℕ → List ℕ → List ℕ → List ℕ → List ℕ → ℕ → List ℕ
+receiveState state tally answers d random room =
+    pick (lentFor state (length tally) (length answers))
+    (whereTaken (got state d random room .taken) (savedOf (got state d random room .connection)) state)
+    state
 
--- the tally brought up to date with the answers
-unfoldable pub receiveTally : Bool → List ℕ → List ℕ → List ℕ → ℕ → List ℕ → List ℕ
-receiveTally lent state d random room tally =
-    pick lent
-    (whereTaken (got state d random room .taken) (tallyBytes (countedOf (tallyIn tally) (got state d random room .answers))) tally)
+-- the tally "brought up to date where it stands", with the answers
+unfoldable pub receiveTally : List ℕ → List ℕ → List ℕ → List ℕ → List ℕ → ℕ → List ℕ
+receiveTally state tally answers d random room =
+    pick (lentFor state (length tally) (length answers))
+    (whereTaken (got state d random room .taken)
+    (tallyBytes (countedOf (tallyIn tally) (got state d random room .answers)))
+    tally)
     tally
 
-unfoldable pub receiveAnswers : Bool → List ℕ → List ℕ → List ℕ → ℕ → List ℕ → List ℕ
-receiveAnswers lent state d random room answers =
-    pick lent
+unfoldable pub receiveAnswers : List ℕ → List ℕ → List ℕ → List ℕ → List ℕ → ℕ → List ℕ
+receiveAnswers state tally answers d random room =
+    pick (lentFor state (length tally) (length answers))
     (whereTaken (got state d random room .taken) (reportOf (got state d random room .answers)) answers)
     answers
 
-unfoldable pub receiveOut : Bool → List ℕ → List ℕ → List ℕ → List ℕ → List ℕ
-receiveOut lent state d random out = pick lent (outputOf (connectionIn state) d random out) out
+-- "A success writes the counted bytes at the front and no others."
+unfoldable pub receiveOut : List ℕ → List ℕ → List ℕ → List ℕ → List ℕ → List ℕ → List ℕ
+receiveOut state tally answers d random out =
+    pick (lentFor state (length tally) (length answers)) (outputOf (connectionIn state) d random out) out

@@ -1,5 +1,5 @@
--- The unit's tally in 16 lent bytes: handed out, forged, too old, repeated, four bytes each, the most significant first. All
--- strings of 16 bytes are a tally, and 16 zeros are a fresh one.
+-- The unit's tally in 16 lent bytes: handed out, forged, too old, repeated, four bytes each, the most significant
+-- first. All strings of 16 bytes are a tally, and 16 zeros are a fresh one.
 use mathlib.Core.List.{List, [], _∷_}
 use Prim.Native.Nat.{ℕ}
 use Rattle.digest.specs.Bytes.{bytes4, wordAt}

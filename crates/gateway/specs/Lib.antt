@@ -1,4 +1,5 @@
--- What the exported calls cite: the places of a saved connection, of an answer and of a tally, and what each call leaves.
+-- What the exported calls cite: the places of a saved connection, of an answer and of a tally, and what each call
+-- leaves.
 pub mod Fields
 pub mod Saved
 pub mod Report

@@ -1,5 +1,5 @@
--- The answers of a receive in 192 lent bytes: eight answers of 24 bytes, one for each record in order, and "nothing" behind
--- them. Numbers have the most significant byte first.
+-- The answers of a receive in 192 lent bytes: eight answers of 24 bytes, one for each record in order, and "nothing"
+-- behind them. Numbers have the most significant byte first.
 --
 --     place  bytes
 --         0      1  the kind of the answer
@@ -52,7 +52,8 @@ entryBytes e = joined (entryFields e)
 -- the bytes of the first n of the answers of a receive, one behind the other
 unfoldable pub reportFirst : List Slot → ℕ → List (List ℕ)
 reportFirst answers zero = []
-reportFirst answers (suc n) = reportFirst answers n ++ (entryBytes (entryOf (getD answers n (slot Nothing) .answer)) ∷ [])
+reportFirst answers (suc n) =
+    reportFirst answers n ++ (entryBytes (entryOf (getD answers n (slot Nothing) .answer)) ∷ [])
 
 -- all eight places
 unfoldable pub reportOf : List Slot → List ℕ

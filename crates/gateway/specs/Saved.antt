@@ -1,5 +1,5 @@
--- A connection in 457 lent bytes. Every value of a connection has its bytes, and one string of bytes only; which strings are
--- a saved connection is `isSaved`. Numbers have the most significant byte first.
+-- A connection in 457 lent bytes. Every value of a connection has its bytes, and one string of bytes only; which
+-- strings are a saved connection is `isSaved`. Numbers have the most significant byte first.
 --
 --     place  bytes
 --         0      4  the mark: "WTG", and 1, the number of this layout

@@ -6,7 +6,8 @@ ghost use Rattle.connection.specs.Tally.{countedOf};
 ghost use Rattle.gateway.specs.Saved.{savedOf};
 ghost use Rattle.gateway.specs.Report.{reportOf};
 ghost use Rattle.gateway.specs.Counts.{tallyBytes, tallyIn};
-ghost use Rattle.gateway.specs.Calls.{resultOf, refusalIn, leftIn, sentResult, sentState, takenResult, whereTaken};
+ghost use Rattle.gateway.specs.Calls.{resultOf, refusalIn, leftIn, sentResult, sentState};
+ghost use Rattle.gateway.specs.Calls.{takenResult, whereTaken};
 use crate::counts::put_tally;
 use crate::counts::tally_in;
 use crate::report::put_answers;
@@ -57,9 +58,12 @@ pub fn leave_received(
 ) -> u64
     requires { ⌜ (length (now state) ≡ 457) × ((length (now tally) ≡ 16) × (length (now answers) ≡ 192)) ⌝ }
     ensures { λ r. ⌜ r ≡ takenResult (received .written) (received .taken) ⌝ }
-    ensures { λ _. ⌜ now (state .exit) ≡ whereTaken (received .taken) (savedOf (received .connection)) (now (state .entry)) ⌝ }
-    ensures { λ _. ⌜ now (tally .exit) ≡ whereTaken (received .taken) (tallyBytes (countedOf (tallyIn (now (tally .entry))) (received .answers))) (now (tally .entry)) ⌝ }
-    ensures { λ _. ⌜ now (answers .exit) ≡ whereTaken (received .taken) (reportOf (received .answers)) (now (answers .entry)) ⌝ }
+    ensures { λ _. ⌜ now (state .exit) ≡ whereTaken (received .taken) (savedOf (received .connection))
+        (now (state .entry)) ⌝ }
+    ensures { λ _. ⌜ now (tally .exit) ≡ whereTaken (received .taken)
+        (tallyBytes (countedOf (tallyIn (now (tally .entry))) (received .answers))) (now (tally .entry)) ⌝ }
+    ensures { λ _. ⌜ now (answers .exit) ≡ whereTaken (received .taken) (reportOf (received .answers))
+        (now (answers .entry)) ⌝ }
 {
     let taken = received.taken;
     match taken {

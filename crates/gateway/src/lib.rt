@@ -1,9 +1,12 @@
-// The gateway for C and Rust: the calls of the connection, on a connection and a tally that live in bytes which the caller
-// lends. Nothing is kept between calls. No call has a `requires`: what is lent is tested. Each call answers one number of
-// three parts (`result`), and a refused call leaves every lent byte as it was.
+// The gateway for C and Rust: the calls of the connection, on a connection and a tally that live in bytes which the
+// caller lends. Nothing is kept between calls. No call has a `requires`: what is lent is tested. Each call answers one
+// number of three parts (`result`), and a refused call leaves every lent byte as it was.
 ghost use mathlib.Core.Path.{_≡_};
 ghost use lib.ListN.{length};
-ghost use Rattle.gateway.specs.Calls.{freshResult, freshState, closeResult, closeState, startResult, startState, stateResult, dataResult, dataState, dataOut, alertResult, alertState, alertOut, lentFor, receiveResult, receiveState, receiveTally, receiveAnswers, receiveOut};
+ghost use Rattle.gateway.specs.Calls.{freshResult, freshState, closeResult, closeState, startResult, startState};
+ghost use Rattle.gateway.specs.Calls.{stateResult};
+ghost use Rattle.gateway.specs.Calls.{dataResult, dataState, dataOut, alertResult, alertState, alertOut};
+ghost use Rattle.gateway.specs.Calls.{receiveResult, receiveState, receiveTally, receiveAnswers, receiveOut};
 
 mod bytes;
 mod counts;
@@ -29,7 +32,8 @@ use result::result_of;
 #[no_mangle]
 pub extern "C" fn gateway_fresh(id: &[u8], secret: &[u8], state: &mut [u8]) -> u64
     ensures exact { λ r. ⌜ r ≡ freshResult (now (id .entry)) (now (secret .entry)) (length (now (state .entry))) ⌝ }
-    ensures bytes { λ _. ⌜ now (state .exit) ≡ freshState (now (id .entry)) (now (secret .entry)) (now (state .entry)) ⌝ }
+    ensures bytes { λ _. ⌜ now (state .exit) ≡ freshState (now (id .entry)) (now (secret .entry))
+        (now (state .entry)) ⌝ }
 {
     if state.len() != 457 {
         return not_taken();
@@ -37,9 +41,9 @@ pub extern "C" fn gateway_fresh(id: &[u8], secret: &[u8], state: &mut [u8]) -> u
     leave_called(calls::fresh(id, secret), state)
 }
 
-// Takes a datagram, our random for a new reply, and room of at least 128 bytes for it. Afterwards the first bytes of `out` are
-// a reply to send, if any; `answers` holds an answer for each record; the tally is up to date. Refusals of the whole: 16, 6, 1
-// to 5.
+// Takes a datagram, our random for a new reply, and room of at least 128 bytes for it. Afterwards the first bytes of
+// `out` are a reply to send, if any; `answers` holds an answer for each record; the tally is up to date. Refusals of
+// the whole: 16, 6, 1 to 5.
 #[no_mangle]
 pub extern "C" fn gateway_receive(
     state: &mut [u8],
@@ -49,11 +53,16 @@ pub extern "C" fn gateway_receive(
     out: &mut [u8],
     answers: &mut [u8],
 ) -> u64
-    ensures exact { λ r. ⌜ r ≡ receiveResult (lentFor (now (state .entry)) (length (now (tally .entry))) (length (now (answers .entry)))) (now (state .entry)) (now (datagram .entry)) (now (random .entry)) (length (now (out .entry))) ⌝ }
-    ensures connection { λ _. ⌜ now (state .exit) ≡ receiveState (lentFor (now (state .entry)) (length (now (tally .entry))) (length (now (answers .entry)))) (now (state .entry)) (now (datagram .entry)) (now (random .entry)) (length (now (out .entry))) ⌝ }
-    ensures counted { λ _. ⌜ now (tally .exit) ≡ receiveTally (lentFor (now (state .entry)) (length (now (tally .entry))) (length (now (answers .entry)))) (now (state .entry)) (now (datagram .entry)) (now (random .entry)) (length (now (out .entry))) (now (tally .entry)) ⌝ }
-    ensures bytes { λ _. ⌜ now (out .exit) ≡ receiveOut (lentFor (now (state .entry)) (length (now (tally .entry))) (length (now (answers .entry)))) (now (state .entry)) (now (datagram .entry)) (now (random .entry)) (now (out .entry)) ⌝ }
-    ensures answered { λ _. ⌜ now (answers .exit) ≡ receiveAnswers (lentFor (now (state .entry)) (length (now (tally .entry))) (length (now (answers .entry)))) (now (state .entry)) (now (datagram .entry)) (now (random .entry)) (length (now (out .entry))) (now (answers .entry)) ⌝ }
+    ensures exact { λ r. ⌜ r ≡ receiveResult (now (state .entry)) (now (tally .entry)) (now (answers .entry))
+        (now (datagram .entry)) (now (random .entry)) (length (now (out .entry))) ⌝ }
+    ensures connection { λ _. ⌜ now (state .exit) ≡ receiveState (now (state .entry)) (now (tally .entry))
+        (now (answers .entry)) (now (datagram .entry)) (now (random .entry)) (length (now (out .entry))) ⌝ }
+    ensures counted { λ _. ⌜ now (tally .exit) ≡ receiveTally (now (state .entry)) (now (tally .entry))
+        (now (answers .entry)) (now (datagram .entry)) (now (random .entry)) (length (now (out .entry))) ⌝ }
+    ensures bytes { λ _. ⌜ now (out .exit) ≡ receiveOut (now (state .entry)) (now (tally .entry)) (now (answers .entry))
+        (now (datagram .entry)) (now (random .entry)) (now (out .entry)) ⌝ }
+    ensures answered { λ _. ⌜ now (answers .exit) ≡ receiveAnswers (now (state .entry)) (now (tally .entry))
+        (now (answers .entry)) (now (datagram .entry)) (now (random .entry)) (length (now (out .entry))) ⌝ }
 {
     if lent_for(state, tally.len(), answers.len()) {
         let received = receive(connection_in(state), datagram, random, out);
@@ -66,7 +75,8 @@ pub extern "C" fn gateway_receive(
 #[no_mangle]
 pub extern "C" fn gateway_send_data(state: &mut [u8], data: &[u8], out: &mut [u8]) -> u64
     ensures exact { λ r. ⌜ r ≡ dataResult (now (state .entry)) (now («data» .entry)) (length (now (out .entry))) ⌝ }
-    ensures connection { λ _. ⌜ now (state .exit) ≡ dataState (now (state .entry)) (now («data» .entry)) (length (now (out .entry))) ⌝ }
+    ensures connection { λ _. ⌜ now (state .exit) ≡ dataState (now (state .entry)) (now («data» .entry))
+        (length (now (out .entry))) ⌝ }
     ensures bytes { λ _. ⌜ now (out .exit) ≡ dataOut (now (state .entry)) (now («data» .entry)) (now (out .entry)) ⌝ }
 {
     if is_saved(state) {
@@ -76,7 +86,8 @@ pub extern "C" fn gateway_send_data(state: &mut [u8], data: &[u8], out: &mut [u8
     not_taken()
 }
 
-// Sends an alert, clear (0) or protected (1), with the checksum of the record that it answers. Refusals: 16, 7, 8, 15, 6.
+// Sends an alert, clear (0) or protected (1), with the checksum of the record that it answers. Refusals: 16, 7, 8, 15,
+// 6.
 #[no_mangle]
 pub extern "C" fn gateway_send_alert(
     state: &mut [u8],
@@ -86,9 +97,12 @@ pub extern "C" fn gateway_send_alert(
     answered: &[u8],
     out: &mut [u8],
 ) -> u64
-    ensures exact { λ r. ⌜ r ≡ alertResult (now (state .entry)) protected level description (now (answered .entry)) (length (now (out .entry))) ⌝ }
-    ensures connection { λ _. ⌜ now (state .exit) ≡ alertState (now (state .entry)) protected level description (now (answered .entry)) (length (now (out .entry))) ⌝ }
-    ensures bytes { λ _. ⌜ now (out .exit) ≡ alertOut (now (state .entry)) protected level description (now (answered .entry)) (now (out .entry)) ⌝ }
+    ensures exact { λ r. ⌜ r ≡ alertResult (now (state .entry)) protected level description
+        (now (answered .entry)) (length (now (out .entry))) ⌝ }
+    ensures connection { λ _. ⌜ now (state .exit) ≡ alertState (now (state .entry)) protected level description
+        (now (answered .entry)) (length (now (out .entry))) ⌝ }
+    ensures bytes { λ _. ⌜ now (out .exit) ≡ alertOut (now (state .entry)) protected level description
+        (now (answered .entry)) (now (out .entry)) ⌝ }
 {
     if 1 < protected {
         return not_taken();

@@ -2,7 +2,8 @@
 ghost use mathlib.Core.Path.{_≡_};
 ghost use mathlib.Core.Bool.{true};
 ghost use lib.ListN.{length};
-ghost use Rattle.gateway.specs.Saved.{isSaved, stateNumbered, macNumbered, sessionIn, agreedIn, keptIn, windowIn, sendingIn, connectionIn};
+ghost use Rattle.gateway.specs.Saved.{isSaved, stateNumbered, macNumbered, connectionIn};
+ghost use Rattle.gateway.specs.Saved.{sessionIn, agreedIn, keptIn, windowIn, sendingIn};
 ghost use Rattle.gateway.specs.Calls.{lentFor};
 use crate::bytes::eight_in;
 use crate::bytes::four_in;

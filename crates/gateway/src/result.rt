@@ -1,5 +1,5 @@
-// What a call answers: the refusal's number (0: not refused), how many bytes stand at the front of the output, and a count, as
-// one number.
+// What a call answers: the refusal's number (0: not refused), how many bytes stand at the front of the output, and a
+// count, as one number.
 ghost use mathlib.Core.Path.{_≡_};
 ghost use Rattle.gateway.specs.Calls.{resultOf, notTaken};
 
