@@ -129,54 +129,63 @@ impl Fleet {
         }
         let before = ship.connection.clone();
         let mut out = [0; REPLY_ROOM];
-        let received = match ship.connection.receive(
-            &mut ship.tally,
-            arrival.datagram,
-            arrival.random,
-            &mut out,
-        ) {
-            Ok(received) => received,
+        match ship.connection.receive(&mut ship.tally, arrival.datagram, arrival.random, &mut out) {
+            Ok(received) => {
+                let route = self.settle(index, arrival, &before, &received, &mut taken);
+                let moved = self.set_route(index, route);
+                let differs = self.ships[index].connection != before;
+                taken.changed = moved || differs || !taken.reports.is_empty();
+            }
             Err(Refused { refusal, offset }) => {
                 taken.notes.push(Note::RefusedWhole { refusal, offset });
-                return taken;
             }
-        };
-        let mut route = ship.route;
-        if tell(arrival, &received, &mut taken) {
-            route = Some(arrival.sender);
         }
+        taken
+    }
+
+    /// What follows from the answers of a datagram; gives the ship's route after it.
+    fn settle(
+        &mut self,
+        index: usize,
+        arrival: &Arrival,
+        before: &Connection,
+        received: &Received,
+        taken: &mut Taken,
+    ) -> Option<SocketAddr> {
+        let answered = tell(arrival, received, taken);
+        let ship = &mut self.ships[index];
+        let route = if answered { Some(arrival.sender) } else { ship.route };
         match ship.connection.state() {
+            State::Idle | State::Replied | State::Spec => route,
             State::Open => {
                 // In Open nothing but a genuine new record changes the connection. A replayed one
                 // does not count: else a stranger could keep a rebooted ship out.
-                if ship.connection != before {
+                if ship.connection != *before {
                     ship.heard = arrival.now;
                 }
                 if received.answers().next() == Some(Answer::Refused(Refusal::HelloWhileOpen)) {
-                    if self.reopen(index, arrival, &mut taken) {
-                        route = Some(arrival.sender);
-                    }
-                } else if let Some(finished) = repeated_finished(arrival.datagram, &received) {
-                    self.warn(index, finished, arrival, &mut taken);
+                    return if self.reopen(index, arrival, taken) {
+                        Some(arrival.sender)
+                    } else {
+                        route
+                    };
                 }
+                if let Some(finished) = repeated_finished(arrival.datagram, received) {
+                    self.warn(index, finished, arrival, taken);
+                }
+                route
             }
-            // Silence closes nothing, but a closed connection is of no use: the next hello is to
-            // find it started again.
+            // A closed connection is of no use: the next hello is to find it started again. (From
+            // Closed, start again is never refused.)
             State::Closed => {
-                let started = ship.connection.start();
-                debug_assert!(started.is_ok());
-                route = None;
+                let _ = ship.connection.start();
+                None
             }
             State::Barred => {
                 ship.barred = true;
-                route = None;
+                None
             }
-            State::Idle | State::Replied | State::Spec => {}
         }
-        let moved = self.set_route(index, route);
-        taken.changed =
-            moved || !taken.reports.is_empty() || self.ships[index].connection != before;
-        taken
     }
 
     /// The warning 57 of 10.4, at most one in its time: each spends one of our 65,535 numbers.
