@@ -82,8 +82,8 @@ impl Store {
             self.list.turn_to(time.day())?;
         }
         let frame = Frame { time, place: self.list.place(), changes };
-        self.journal.append(&frame)?;
-        self.list.write(&frame)?;
+        self.journal.append(&frame).map_err(within("journal"))?;
+        self.list.write(&frame).map_err(within("list"))?;
         // Only now: a journal written anew holds the ships, but not what they handed out.
         if turned || self.journal.is_large() {
             self.write_anew(time, ships)?;
@@ -92,7 +92,7 @@ impl Store {
     }
 
     pub fn bar(&mut self, session: &Session, time: Moment) -> io::Result<()> {
-        self.barred.add(session, time)
+        self.barred.add(session, time).map_err(within("barred"))
     }
 
     /// Every ship as it is, in one record. The list is brought to the disk before, since the records
@@ -175,6 +175,11 @@ fn lock(directory: &Path) -> Result<File, String> {
         }
         Err(fs::TryLockError::Error(error)) => Err(told(&path, error)),
     }
+}
+
+/// The error with what it happened to.
+fn within(what: &str) -> impl Fn(io::Error) -> io::Error + '_ {
+    move |error| io::Error::new(error.kind(), format!("{what}: {error}"))
 }
 
 fn told(path: &Path, error: io::Error) -> String {
