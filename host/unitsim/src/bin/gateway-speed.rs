@@ -21,6 +21,7 @@ use std::time::{Duration, Instant};
 /// Datagrams under way at most. 128 small ones fit into a socket's buffer as Linux has it.
 const WINDOW: usize = 128;
 const REPORT_SIZE: usize = 100;
+const REPETITIONS: usize = 5;
 const PATIENCE: Duration = Duration::from_secs(10);
 
 type Outcome<T> = Result<T, Box<dyn std::error::Error>>;
@@ -32,14 +33,38 @@ fn main() -> Outcome<()> {
     }
     let [gatewayd, directory, ..] = &words[..] else { return Err("GATEWAYD DIRECTORY".into()) };
     let datagrams: usize = words.get(2).map_or(Ok(20_000), |word| word.parse())?;
-    println!("reports of {REPORT_SIZE} bytes, {datagrams} datagrams, at most {WINDOW} under way");
+    println!("reports of {REPORT_SIZE} bytes, {datagrams} datagrams, at most {WINDOW} under way; medians of {REPETITIONS}");
     println!("ships  gatewayd/s    echo/s  ratio  memory of gatewayd");
     for ships in [1, 10, 100] {
-        let (rate, memory) = measure(Path::new(gatewayd), Path::new(directory), ships, datagrams)?;
-        let beside = measure_echo(ships, datagrams)?;
-        println!("{ships:5}  {rate:10.0}  {beside:8.0}  {:5.2}  {memory} kB", rate / beside);
+        let (mut rates, mut echoes, mut ratios, mut memories) = (vec![], vec![], vec![], vec![]);
+        for repetition in 0..REPETITIONS {
+            let work = Path::new(directory).join(format!("{ships}-{repetition}"));
+            let (rate, memory) = measure(Path::new(gatewayd), &work, ships, datagrams)?;
+            let echo = measure_echo(ships, datagrams)?;
+            rates.push(rate);
+            echoes.push(echo);
+            ratios.push(rate / echo);
+            memories.push(memory as f64);
+        }
+        let (rate, echo, ratio) = (median(rates), median(echoes), median(ratios));
+        println!("{ships:5}  {rate:10.0}  {echo:8.0}  {ratio:5.2}  {:.0} kB", median(memories));
     }
     Ok(())
+}
+
+fn median(mut figures: Vec<f64>) -> f64 {
+    figures.sort_by(f64::total_cmp);
+    figures[figures.len() / 2]
+}
+
+/// A program that does not outlive its use.
+struct Running(Child);
+
+impl Drop for Running {
+    fn drop(&mut self) {
+        let _ = self.0.kill();
+        let _ = self.0.wait();
+    }
 }
 
 /// A ship that is open.
@@ -49,24 +74,20 @@ struct Ship {
     number: u16,
 }
 
-fn measure(
-    gatewayd: &Path,
-    directory: &Path,
-    ships: usize,
-    datagrams: usize,
-) -> Outcome<(f64, u64)> {
-    let work = directory.join(format!("{ships}"));
-    fs::create_dir_all(&work)?;
-    let sessions = plant(&work, ships)?;
-    let mut child = Command::new(gatewayd)
-        .args(["--listen", "127.0.0.1:0", "--state"])
-        .arg(work.join("state"))
-        .arg("--sessions")
-        .arg(sessions)
-        .stdout(Stdio::piped())
-        .stderr(Stdio::null())
-        .spawn()?;
-    let address = first_address(&mut child)?;
+fn measure(gatewayd: &Path, work: &Path, ships: usize, datagrams: usize) -> Outcome<(f64, u64)> {
+    fs::create_dir_all(work)?;
+    let sessions = plant(work, ships)?;
+    let mut gateway = Running(
+        Command::new(gatewayd)
+            .args(["--listen", "127.0.0.1:0", "--state"])
+            .arg(work.join("state"))
+            .arg("--sessions")
+            .arg(sessions)
+            .stdout(Stdio::piped())
+            .stderr(Stdio::null())
+            .spawn()?,
+    );
+    let address = first_address(&mut gateway.0)?;
     let mut fleet = (0..ships).map(|ship| open(ship, address)).collect::<Outcome<Vec<Ship>>>()?;
     let mut list = List::open(&work.join("state/lists"))?;
     list.wait_for(ships)?;
@@ -80,10 +101,7 @@ fn measure(
     }
     list.wait_for(ships + datagrams)?;
     let rate = datagrams as f64 / start.elapsed().as_secs_f64();
-    let memory = most_memory(&child)?;
-    child.kill()?;
-    child.wait()?;
-    Ok((rate, memory))
+    Ok((rate, most_memory(&gateway.0)?))
 }
 
 fn session(ship: usize) -> ([u8; 8], [u8; 20]) {
@@ -193,9 +211,9 @@ fn echo() -> io::Result<()> {
 }
 
 fn measure_echo(ships: usize, datagrams: usize) -> Outcome<f64> {
-    let mut child =
-        Command::new(std::env::current_exe()?).arg("echo").stdout(Stdio::piped()).spawn()?;
-    let address = first_address(&mut child)?;
+    let mut echo =
+        Running(Command::new(std::env::current_exe()?).arg("echo").stdout(Stdio::piped()).spawn()?);
+    let address = first_address(&mut echo.0)?;
     let sockets = (0..ships).map(|_| connected(address)).collect::<io::Result<Vec<_>>>()?;
     // As long as a protected record with the report: header 3, code 10.
     let datagram = [0x61; 3 + REPORT_SIZE + 10];
@@ -210,8 +228,5 @@ fn measure_echo(ships: usize, datagrams: usize) -> Outcome<f64> {
     for turn in datagrams.saturating_sub(WINDOW)..datagrams {
         sockets[turn % ships].recv(&mut buffer)?;
     }
-    let rate = datagrams as f64 / start.elapsed().as_secs_f64();
-    child.kill()?;
-    child.wait()?;
-    Ok(rate)
+    Ok(datagrams as f64 / start.elapsed().as_secs_f64())
 }
