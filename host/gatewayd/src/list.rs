@@ -113,7 +113,8 @@ fn json_line(ship: &str, time: Moment, report: &Report) -> String {
     // Names have no control characters, so these two are all that JSON wants escaped.
     let ship = ship.replace('\\', "\\\\").replace('"', "\\\"");
     let (number, length, bytes) = (report.number, report.bytes.len(), hex::write(&report.bytes));
-    format!("{{\"ship\":\"{ship}\",\"time\":\"{time}\",\"number\":{number},\"length\":{length},\"bytes\":\"{bytes}\"}}\n")
+    let head = format!("\"ship\":\"{ship}\",\"time\":\"{time}\"");
+    format!("{{{head},\"number\":{number},\"length\":{length},\"bytes\":\"{bytes}\"}}\n")
 }
 
 #[cfg(test)]
@@ -130,7 +131,11 @@ mod tests {
         );
         assert_eq!(
             json_line("a\"b\\c", time, &report),
-            r#"{"ship":"a\"b\\c","time":"2026-11-15T00:00:00.007Z","number":17,"length":2,"bytes":"4869"}"#.to_string() + "\n"
+            concat!(
+                r#"{"ship":"a\"b\\c","time":"2026-11-15T00:00:00.007Z","#,
+                r#""number":17,"length":2,"bytes":"4869"}"#,
+                "\n"
+            )
         );
     }
 }

@@ -65,10 +65,9 @@ impl Log {
     pub fn progress(&mut self, counts: &Progress, now: Instant) {
         self.progress_at = Some(now);
         let Progress { datagrams, handed_out, forged, too_old, repeated } = counts;
-        let _ = write!(
-            io::stderr(),
-            "{CLEAR_LINE}datagrams {datagrams}, handed out {handed_out}, forged {forged}, too old {too_old}, repeated {repeated}"
-        );
+        let taken = format!("datagrams {datagrams}, handed out {handed_out}");
+        let refused = format!("forged {forged}, too old {too_old}, repeated {repeated}");
+        let _ = write!(io::stderr(), "{CLEAR_LINE}{taken}, {refused}");
     }
 
     /// The end of the log: the progress line is done, and what was held back is summed up.

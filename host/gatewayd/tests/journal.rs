@@ -19,6 +19,7 @@ use std::time::{Duration, Instant};
 struct World {
     fleet: Fleet,
     store: Store,
+    time: Moment,
 }
 
 /// Half past eight, so that the day does not turn.
@@ -29,7 +30,7 @@ impl World {
         let sessions = vec![Session { id: identifier(0), secret: secret(0), ship: name(0) }];
         let opened = Store::open(state, &state.join("lists"), sessions).unwrap();
         let rules = Rules { reopen_after: None, warn_every: Duration::ZERO };
-        World { fleet: Fleet::new(opened.ships, rules), store: opened.store }
+        World { fleet: Fleet::new(opened.ships, rules), store: opened.store, time: TIME }
     }
 
     fn take(&mut self, datagram: &[u8]) -> Taken {
@@ -38,7 +39,7 @@ impl World {
         if taken.changed {
             let reports = std::mem::take(&mut taken.reports);
             let changes = vec![store::change(&self.fleet.ships[0], reports.clone())];
-            self.store.save(TIME, changes, &self.fleet.ships).unwrap();
+            self.store.save(self.time, changes, &self.fleet.ships).unwrap();
             taken.reports = reports;
         }
         taken
@@ -166,4 +167,51 @@ fn damaged_in_the_middle() {
     let sessions = vec![Session { id: identifier(0), secret: secret(0), ship: name(0) }];
     let opened = Store::open(&place.state(), &place.state().join("lists"), sessions);
     assert!(opened.is_err_and(|what| what.contains("damaged")));
+}
+
+fn opened(world: &mut World) -> Ship {
+    let mut ship = Ship::new(0, "127.0.0.1:9".parse().unwrap());
+    let reply = world.take(&ship.hello(1)).send.remove(0).1;
+    ship.unit.hear_reply(&reply).unwrap();
+    world.take(&ship.unit.flight().unwrap());
+    ship
+}
+
+/// At the turn of the day the list of the next one begins, and the journal is written anew behind it.
+#[test]
+fn the_day_turns() {
+    let place = Place::in_memory("turn");
+    let mut world = World::open(&place.state());
+    let ship = opened(&mut world);
+    world.take(&ship.data(1));
+    world.time = Moment(TIME.0 + 86_400_000);
+    world.take(&ship.data(2));
+    assert_eq!(journal::read(&files(&place.state())[0]).frames.len(), 1);
+    world.take(&ship.data(3));
+    let expected: Vec<_> = (1..4).map(|number| (number, text(0, number))).collect();
+    assert_eq!(place.listed(0), expected);
+    let connection = world.connection();
+    drop(world);
+    let mut world = World::open(&place.state());
+    assert_eq!((world.connection(), place.listed(0)), (connection, expected));
+    assert!(world.take(&ship.data(3)).reports.is_empty());
+}
+
+/// A journal that has grown large is written anew; the list goes on.
+#[test]
+fn a_large_journal() {
+    let place = Place::in_memory("large");
+    let mut world = World::open(&place.state());
+    let ship = opened(&mut world);
+    let mut largest = 0;
+    for number in 1..=20_000 {
+        assert_eq!(world.take(&ship.data(number)).reports.len(), 1);
+        largest = largest.max(common::journal_size(&place.state()));
+    }
+    assert!(largest > 8 << 20 && largest < (8 << 20) + 2000, "{largest}");
+    assert!(common::journal_size(&place.state()) < largest);
+    drop(world);
+    drop(World::open(&place.state()));
+    let numbers: Vec<u16> = place.listed(0).into_iter().map(|report| report.0).collect();
+    assert_eq!(numbers, (1..=20_000).collect::<Vec<_>>());
 }

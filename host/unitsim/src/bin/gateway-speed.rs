@@ -1,9 +1,12 @@
 //! The benchmark of gatewayd, over loopback: how many datagrams a second it takes without a loss.
 //!
-//!     gateway-speed GATEWAYD DIRECTORY [DATAGRAMS]
+//! ```text
+//! gateway-speed GATEWAYD DIRECTORY [DATAGRAMS]
+//! ```
 //!
-//! Ships send data; at most a window of datagrams is under way, and one counts as taken when its line is in the list, so nothing
-//! is lost. Beside it, in the same run, the same datagrams go to a bare UDP echo in a process of its own and come back. Not a test.
+//! Ships send data; at most a window of datagrams is under way, and one counts as taken when its
+//! line is in the list, so nothing is lost. Beside it, in the same run, the same datagrams go to a
+//! bare UDP echo in a process of its own and come back. Not a test.
 
 use peer::hex;
 use peer::keys::Kind;
@@ -33,7 +36,8 @@ fn main() -> Outcome<()> {
     }
     let [gatewayd, directory, ..] = &words[..] else { return Err("GATEWAYD DIRECTORY".into()) };
     let datagrams: usize = words.get(2).map_or(Ok(20_000), |word| word.parse())?;
-    println!("reports of {REPORT_SIZE} bytes, {datagrams} datagrams, at most {WINDOW} under way; medians of {REPETITIONS}");
+    println!("reports of {REPORT_SIZE} bytes, {datagrams} datagrams, at most {WINDOW} under way");
+    println!("medians of {REPETITIONS}");
     println!("ships  gatewayd/s    echo/s  ratio  memory of gatewayd");
     for ships in [1, 10, 100] {
         let (mut rates, mut echoes, mut ratios, mut memories) = (vec![], vec![], vec![], vec![]);
