@@ -1,0 +1,72 @@
+//! The barred sessions, one to a line: identifier, time, the ship's name. A session in this file is
+//! never resumed, whatever the journal says; a ship comes back with a new session.
+
+use crate::clock::Moment;
+use crate::hex;
+use crate::sessions::{Identifier, Session};
+use std::fs::{self, File, OpenOptions};
+use std::io::{self, Write};
+use std::os::unix::fs::OpenOptionsExt;
+use std::path::{Path, PathBuf};
+
+pub struct Barred {
+    path: PathBuf,
+    identifiers: Vec<Identifier>,
+}
+
+const NAME: &str = "barred";
+
+impl Barred {
+    pub fn load(directory: &Path) -> Result<Barred, String> {
+        let path = directory.join(NAME);
+        let bytes = match fs::read(&path) {
+            Ok(bytes) => bytes,
+            Err(error) if error.kind() == io::ErrorKind::NotFound => Vec::new(),
+            Err(error) => return Err(format!("{}: {error}", path.display())),
+        };
+        let text = String::from_utf8_lossy(&bytes);
+        let mut identifiers = Vec::new();
+        // A last line without its end was cut by a crash; the journal knows that session.
+        let whole = text.rfind('\n').map_or("", |end| &text[..end]);
+        for (index, line) in whole.lines().enumerate() {
+            let first = line.split('\t').next().unwrap_or("");
+            let identifier = hex::read(first).ok().and_then(|bytes| bytes.try_into().ok());
+            identifiers.push(identifier.ok_or_else(|| {
+                format!(
+                    "{}:{}:1: the identifier is not 16 hexadecimal digits",
+                    path.display(),
+                    index + 1
+                )
+            })?);
+        }
+        if whole.len() + 1 < text.len() && !text.is_empty() {
+            drop_cut_line(&path, &text).map_err(|error| format!("{}: {error}", path.display()))?;
+        }
+        Ok(Barred { path, identifiers })
+    }
+
+    pub fn has(&self, identifier: &Identifier) -> bool {
+        self.identifiers.contains(identifier)
+    }
+
+    /// Writes a session down; when this is done, it is on the disk.
+    pub fn add(&mut self, session: &Session, time: Moment) -> io::Result<()> {
+        if self.has(&session.id) {
+            return Ok(());
+        }
+        let mut file = OpenOptions::new().append(true).create(true).mode(0o600).open(&self.path)?;
+        let line = format!("{}\t{time}\t{}\n", hex::write(&session.id), session.ship);
+        file.write_all(line.as_bytes())?;
+        file.sync_all()?;
+        if let Some(directory) = self.path.parent() {
+            File::open(directory)?.sync_all()?;
+        }
+        self.identifiers.push(session.id);
+        Ok(())
+    }
+}
+
+fn drop_cut_line(path: &Path, text: &str) -> io::Result<()> {
+    let end = text.rfind('\n').map_or(0, |end| end + 1);
+    OpenOptions::new().write(true).open(path)?.set_len(end as u64)
+}

@@ -1,0 +1,89 @@
+//! What happened to a datagram, for the log.
+
+use gateway::Refusal;
+use std::fmt;
+use std::io::ErrorKind;
+
+#[derive(Clone, Copy, PartialEq, Eq, Debug)]
+pub enum Note {
+    /// Neither does its sender have a route, nor is it a hello with an identifier.
+    Stranger,
+    /// A hello that names no planted session.
+    UnknownSession,
+    /// One more ship would share the sender's address.
+    TooManyShips,
+    /// A datagram refused as a whole; 1 to 5 begin at an offset.
+    RefusedWhole {
+        refusal: Refusal,
+        offset: usize,
+    },
+    /// The record with this index is refused.
+    Refused {
+        refusal: Refusal,
+        record: usize,
+    },
+    Opened,
+    ClosedByAlert {
+        description: u8,
+    },
+    ClosedByWrongFinished,
+    BarredByAlert {
+        description: u8,
+    },
+    /// The warning 57 went out.
+    Warned,
+    /// The connection was closed and started again for a hello.
+    Reopened,
+    /// The system did not take a datagram of ours.
+    NotSent(ErrorKind),
+    /// The library did not write an alert of ours.
+    AlertRefused {
+        refusal: Refusal,
+    },
+}
+
+impl Note {
+    /// Notes of one kind share the limit of the log. A few dozen kinds, whatever comes.
+    pub fn kind(&self) -> (u8, u8) {
+        match *self {
+            Note::Stranger => (0, 0),
+            Note::UnknownSession => (1, 0),
+            Note::TooManyShips => (2, 0),
+            Note::RefusedWhole { refusal, .. } | Note::Refused { refusal, .. } => {
+                (3, refusal.number())
+            }
+            Note::Opened => (4, 0),
+            Note::ClosedByAlert { .. } => (5, 0),
+            Note::ClosedByWrongFinished => (6, 0),
+            Note::BarredByAlert { .. } => (7, 0),
+            Note::Warned => (8, 0),
+            Note::Reopened => (9, 0),
+            Note::AlertRefused { .. } => (10, 0),
+            Note::NotSent(_) => (11, 0),
+        }
+    }
+}
+
+impl fmt::Display for Note {
+    fn fmt(&self, f: &mut fmt::Formatter) -> fmt::Result {
+        match *self {
+            Note::Stranger => write!(f, "not routed: no hello of this sender named a session"),
+            Note::UnknownSession => write!(f, "not routed: the hello names no planted session"),
+            Note::TooManyShips => write!(f, "not routed: too many ships at this address"),
+            Note::RefusedWhole { refusal, offset } => write!(f, "{refusal}, at byte {offset}"),
+            Note::Refused { refusal, record } => write!(f, "{refusal}, record {record}"),
+            Note::Opened => write!(f, "open"),
+            Note::ClosedByAlert { description } => {
+                write!(f, "closed by an alert, description {description}; started again")
+            }
+            Note::ClosedByWrongFinished => write!(f, "closed by a wrong Finished; started again"),
+            Note::BarredByAlert { description } => {
+                write!(f, "session barred by a fatal alert, description {description}")
+            }
+            Note::Warned => write!(f, "Finished repeated: warning 57 sent"),
+            Note::Reopened => write!(f, "silent, and a hello came: closed and started again"),
+            Note::NotSent(kind) => write!(f, "datagram not sent: {kind}"),
+            Note::AlertRefused { refusal } => write!(f, "alert not sent: {refusal}"),
+        }
+    }
+}

@@ -1,0 +1,271 @@
+//! A gateway in a directory of its own, and a ship for it.
+#![allow(dead_code)]
+
+use peer::keys::Kind;
+use peer::unit::{Hello, Unit};
+use peer::wire::Content;
+use std::collections::HashMap;
+use std::fs;
+use std::io::{BufRead, BufReader, Read};
+use std::net::{SocketAddr, UdpSocket};
+use std::os::unix::fs::PermissionsExt;
+use std::path::{Path, PathBuf};
+use std::process::{Child, ChildStdout, Command, Stdio};
+use std::time::Duration;
+
+pub struct Place {
+    pub path: PathBuf,
+}
+
+impl Place {
+    pub fn new(name: &str) -> Place {
+        Place::within(std::env::temp_dir(), name)
+    }
+
+    /// Where the system has its disk in memory: for tests that bring thousands of files to it.
+    pub fn in_memory(name: &str) -> Place {
+        let memory = PathBuf::from("/dev/shm");
+        Place::within(if memory.is_dir() { memory } else { std::env::temp_dir() }, name)
+    }
+
+    fn within(directory: PathBuf, name: &str) -> Place {
+        let path = directory.join(format!("gatewayd-{name}-{}", std::process::id()));
+        let _ = fs::remove_dir_all(&path);
+        fs::create_dir_all(&path).unwrap();
+        Place { path }
+    }
+
+    pub fn sessions(&self) -> PathBuf {
+        self.path.join("sessions")
+    }
+
+    pub fn state(&self) -> PathBuf {
+        self.path.join("state")
+    }
+
+    pub fn plant(&self, ships: usize) {
+        let lines: String = (0..ships).map(session_line).collect();
+        fs::write(self.sessions(), lines).unwrap();
+        fs::set_permissions(self.sessions(), fs::Permissions::from_mode(0o600)).unwrap();
+    }
+
+    /// The lists of all days, one behind the other.
+    pub fn list(&self, ending: &str) -> String {
+        let Ok(entries) = fs::read_dir(self.state().join("lists")) else { return String::new() };
+        let mut paths: Vec<_> = entries.map(|entry| entry.unwrap().path()).collect();
+        paths.retain(|path| path.extension().is_some_and(|found| found == ending));
+        paths.sort();
+        paths.iter().map(|path| fs::read_to_string(path).unwrap()).collect()
+    }
+
+    /// Number and bytes of each report of a ship, as far as the lines are whole.
+    pub fn listed(&self, ship: usize) -> Vec<(u16, Vec<u8>)> {
+        let text = self.list("txt");
+        let whole = text.rfind('\n').map_or("", |end| &text[..end]);
+        let fields = whole.lines().map(|line| line.split('\t').collect::<Vec<_>>());
+        fields.filter(|fields| fields[0] == name(ship)).map(|fields| report(&fields)).collect()
+    }
+}
+
+impl Drop for Place {
+    fn drop(&mut self) {
+        if !std::thread::panicking() {
+            let _ = fs::remove_dir_all(&self.path);
+        }
+    }
+}
+
+fn report(fields: &[&str]) -> (u16, Vec<u8>) {
+    let bytes = peer::hex::read(fields[4].as_bytes()).unwrap();
+    assert_eq!(fields[3].parse(), Ok(bytes.len()));
+    (fields[2].parse().unwrap(), bytes)
+}
+
+pub fn name(ship: usize) -> String {
+    format!("ship {ship}")
+}
+
+pub fn identifier(ship: usize) -> [u8; 8] {
+    (ship as u64 + 0x0102030405060708).to_be_bytes()
+}
+
+pub fn secret(ship: usize) -> [u8; 20] {
+    [ship as u8 + 1; 20]
+}
+
+fn session_line(ship: usize) -> String {
+    let hex = peer::hex::write;
+    format!("{} {} {}\n", hex(&identifier(ship)), hex(&secret(ship)), name(ship))
+}
+
+pub struct Gatewayd {
+    pub child: Child,
+    pub address: SocketAddr,
+    out: BufReader<ChildStdout>,
+}
+
+impl Gatewayd {
+    pub fn start(place: &Place, listen: &str, more: &[&str]) -> Gatewayd {
+        let log =
+            fs::OpenOptions::new().create(true).append(true).open(place.path.join("log")).unwrap();
+        let mut child = Command::new(env!("CARGO_BIN_EXE_gatewayd"))
+            .args(["--listen", listen, "--sessions"])
+            .arg(place.sessions())
+            .arg("--state")
+            .arg(place.state())
+            .args(more)
+            .stdout(Stdio::piped())
+            .stderr(log)
+            .spawn()
+            .unwrap();
+        let mut out = BufReader::new(child.stdout.take().unwrap());
+        let mut line = String::new();
+        out.read_line(&mut line).unwrap();
+        let log = || fs::read_to_string(place.path.join("log")).unwrap();
+        let address = line.split_whitespace().nth(4).unwrap_or_else(|| panic!("{line} {}", log()));
+        let address = address.trim_end_matches(':').parse().unwrap();
+        Gatewayd { child, address, out }
+    }
+
+    /// SIGTERM; gives what it prints at its end.
+    pub fn end(mut self) -> String {
+        signal(&self.child, "TERM");
+        let mut text = String::new();
+        self.out.read_to_string(&mut text).unwrap();
+        assert_eq!(self.child.wait().unwrap().code(), Some(0));
+        text
+    }
+
+    pub fn kill(mut self) {
+        self.child.kill().unwrap();
+        self.child.wait().unwrap();
+    }
+}
+
+pub fn signal(child: &Child, name: &str) {
+    let sent = Command::new("kill").arg(format!("-{name}")).arg(child.id().to_string()).status();
+    assert!(sent.unwrap().success());
+}
+
+/// A ship with a socket, over a link without faults.
+pub struct Ship {
+    pub index: usize,
+    pub unit: Unit,
+    pub socket: UdpSocket,
+    /// Everything that the gateway sent, by what must make it unique: for a reply the hello, for
+    /// the rest the server random, type and number. Another content under the same is a number
+    /// used twice.
+    seen: HashMap<Vec<u8>, Vec<u8>>,
+    random: Vec<u8>,
+    pub warnings: usize,
+    pub notices: usize,
+}
+
+impl Ship {
+    pub fn new(index: usize, to: SocketAddr) -> Ship {
+        let socket = UdpSocket::bind("127.0.0.1:0").unwrap();
+        socket.connect(to).unwrap();
+        let unit = Unit::new(&identifier(index), &secret(index));
+        Ship {
+            index,
+            unit,
+            socket,
+            seen: HashMap::new(),
+            random: Vec::new(),
+            warnings: 0,
+            notices: 0,
+        }
+    }
+
+    pub fn hello(&mut self, random: u8) -> Vec<u8> {
+        let message =
+            Hello::plain(&[random; 16], &identifier(self.index), Kind::Sha80, 3).message();
+        self.unit.say_hello(&message)
+    }
+
+    /// A gateway that is down is a link that loses.
+    pub fn send(&self, datagram: &[u8]) {
+        let _ = self.socket.send(datagram);
+    }
+
+    /// Takes what has come; true if a reply was among it.
+    pub fn hear(&mut self, wait: Duration) -> bool {
+        let mut replied = false;
+        let mut buffer = [0; 2048];
+        self.socket.set_read_timeout(Some(wait)).unwrap();
+        while let Ok(size) = self.socket.recv(&mut buffer) {
+            let datagram = buffer[..size].to_vec();
+            let is_reply = datagram[0] == 0xc3;
+            let key = match is_reply {
+                true => self.unit.last_hello().to_vec(),
+                false => [&self.random, &datagram[..3]].concat(),
+            };
+            let first = self.seen.entry(key).or_insert_with(|| datagram.clone());
+            assert_eq!(*first, datagram, "one number, two contents");
+            if is_reply {
+                self.unit.hear_reply(&datagram).unwrap();
+                self.random = datagram[9..25].to_vec();
+                replied = true;
+            } else {
+                let content = self.unit.hear(&datagram).unwrap();
+                self.warnings += usize::from(content.starts_with(&[1, 57]));
+                self.notices += usize::from(content.starts_with(&[2, 0]));
+            }
+        }
+        replied
+    }
+
+    /// Says hello until a reply comes.
+    pub fn shake_hands(&mut self, random: u8) {
+        let hello = self.hello(random);
+        for _ in 0..2000 {
+            self.send(&hello);
+            if self.hear(Duration::from_millis(5)) {
+                return;
+            }
+            // A gateway that is down is heard of at once.
+            std::thread::sleep(Duration::from_millis(2));
+        }
+        panic!("no reply");
+    }
+
+    /// Shakes hands and opens.
+    pub fn open(&mut self, random: u8) {
+        self.shake_hands(random);
+        self.send(&self.unit.flight().unwrap());
+    }
+
+    pub fn data(&self, number: u16) -> Vec<u8> {
+        self.unit.protect(Content::Data, false, number, &text(self.index, number)).unwrap()
+    }
+
+    /// Data behind change cipher spec and Finished (10.4), whose record has a length or two.
+    pub fn data_behind_finished(&self, number: u16) -> Vec<u8> {
+        let change = self.unit.clear(Content::ChangeCipherSpec, true, 1, &[1]);
+        [change, self.unit.finished(true, 0).unwrap(), self.data(number)].concat()
+    }
+
+    pub fn alert(&self, level: u8, description: u8, number: u16) -> Vec<u8> {
+        let content = self.unit.alert(level, description);
+        self.unit.protect(Content::Alert, false, number, &content).unwrap()
+    }
+}
+
+pub fn text(ship: usize, number: u16) -> Vec<u8> {
+    format!("report {number} of {}", name(ship)).repeat(1 + usize::from(number) % 4).into_bytes()
+}
+
+/// Waits until it holds.
+pub fn wait_for(what: &str, holds: impl Fn() -> bool) {
+    for _ in 0..2000 {
+        if holds() {
+            return;
+        }
+        std::thread::sleep(Duration::from_millis(5));
+    }
+    panic!("waited in vain for {what}");
+}
+
+pub fn journal_size(state: &Path) -> u64 {
+    fs::metadata(state.join("journal")).unwrap().len()
+}

@@ -1,0 +1,122 @@
+//! Killed with SIGKILL at many random moments of a day and started again: nothing that the window
+//! took is missing from the list, nothing is in it twice, and no number of ours is used twice with
+//! other content.
+
+mod common;
+
+use common::{name, text, Gatewayd, Place, Ship};
+use peer::rng::Rng;
+use std::collections::BTreeSet;
+use std::sync::atomic::{AtomicBool, AtomicUsize, Ordering};
+use std::thread;
+use std::time::{Duration, Instant};
+
+const SHIPS: usize = 6;
+const REPORTS: u16 = 120;
+const SEED: u64 = 8;
+
+#[test]
+fn killed_and_started_again() {
+    let place = Place::new("kill");
+    place.plant(SHIPS);
+    // Each repeated Finished is answered, so that many numbers of ours are spent.
+    let more = ["--warn-every", "0"];
+    let first = Gatewayd::start(&place, "127.0.0.1:0", &more);
+    let address = first.address;
+    let done = AtomicBool::new(false);
+    let kills = AtomicUsize::new(0);
+    thread::scope(|scope| {
+        scope.spawn(|| {
+            let mut rng = Rng::new(SEED);
+            let mut running = first;
+            while !done.load(Ordering::Relaxed) {
+                // Often in the middle of the start, too.
+                thread::sleep(Duration::from_micros(rng.between(100, 30_000) as u64));
+                running.kill();
+                kills.fetch_add(1, Ordering::Relaxed);
+                running = Gatewayd::start(&place, &address.to_string(), &more);
+            }
+            running.end();
+        });
+        let _ends = SetAtEnd(&done);
+        let mut ships: Vec<Ship> = (0..SHIPS).map(|index| Ship::new(index, address)).collect();
+        let mut rng = Rng::new(SEED + 1);
+        for ship in &mut ships {
+            sail(ship, &place, &mut rng);
+        }
+    });
+    let kills = kills.load(Ordering::Relaxed);
+    assert!(kills >= 20, "only {kills} kills");
+
+    for ship in 0..SHIPS {
+        let mut listed = place.listed(ship);
+        listed.sort();
+        let expected: Vec<_> = (1..=REPORTS).map(|number| (number, text(ship, number))).collect();
+        assert_eq!(listed, expected, "ship {ship} after {kills} kills");
+        let json = place.list("jsonl");
+        let quoted = format!("\"ship\":\"{}\"", name(ship));
+        assert_eq!(json.lines().filter(|line| line.contains(&quoted)).count(), REPORTS.into());
+    }
+    let last = Gatewayd::start(&place, "127.0.0.1:0", &[]);
+    let tallies = last.end();
+    for ship in 0..SHIPS {
+        let line = tallies.lines().find(|line| line.ends_with(&name(ship))).unwrap();
+        assert!(line.starts_with(&format!("{REPORTS}\t")), "{line}");
+        assert!(line.contains("open"), "{line}");
+    }
+    println!("{kills} kills, {SHIPS} ships, {REPORTS} reports each");
+}
+
+/// Ends the killing when the sailing ends, also if by a panic.
+struct SetAtEnd<'a>(&'a AtomicBool);
+
+impl Drop for SetAtEnd<'_> {
+    fn drop(&mut self) {
+        self.0.store(true, Ordering::Relaxed);
+    }
+}
+
+/// All reports of a ship. Those that are not in the list yet are sent again, and as many that are:
+/// a window that forgot them would let them in once more. A number stays less than 32 behind.
+fn sail(ship: &mut Ship, place: &Place, rng: &mut Rng) {
+    ship.shake_hands(ship.index as u8 + 1);
+    let mut next = 1;
+    let start = Instant::now();
+    loop {
+        assert!(
+            start.elapsed() < Duration::from_secs(30),
+            "reports are missing from the list for good"
+        );
+        ship.hear(Duration::from_micros(100));
+        let listed: BTreeSet<u16> =
+            place.listed(ship.index).into_iter().map(|(number, _)| number).collect();
+        let missing = (1..next).find(|number| !listed.contains(number)).unwrap_or(next);
+        if missing > REPORTS {
+            return;
+        }
+        for _ in 0..rng.between(1, 6) {
+            if next <= REPORTS && next < missing + 20 {
+                send(ship, next, rng);
+                next += 1;
+            }
+        }
+        for number in next.saturating_sub(24).max(1)..next {
+            if !listed.contains(&number) || rng.percent(20) {
+                send(ship, number, rng);
+            }
+        }
+        thread::sleep(Duration::from_micros(rng.between(0, 2000) as u64));
+    }
+}
+
+fn send(ship: &Ship, number: u16, rng: &mut Rng) {
+    // Nobody tells the ship that it is open, so Finished goes before each of the first reports.
+    let datagram = match number < 40 || rng.percent(30) {
+        true => ship.data_behind_finished(number),
+        false => ship.data(number),
+    };
+    ship.send(&datagram);
+    if rng.percent(10) {
+        ship.send(&ship.unit.flight().unwrap());
+    }
+}
