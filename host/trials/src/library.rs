@@ -3,6 +3,7 @@
 //! nothing, that only the counted bytes of the output were written, and that the connection loads from what was saved.
 
 use gateway::{Answer, Connection, Refusal, Sense, Tally};
+use peer::wire;
 
 /// What lies in the output before a call.
 const BLANK: u8 = 0xa5;
@@ -102,12 +103,20 @@ impl Library {
             Ok(received) => {
                 lines.push(format!("receive records {}", received.answers().len()));
                 for (index, answer) in received.answers().enumerate() {
-                    if let Answer::Data { start, bytes, .. } = answer {
+                    if let Answer::Data { number, start, bytes } = answer {
                         if datagram[start..start + bytes.len()] != *bytes {
                             self.wrong = Some("the data is no part of the datagram".to_string());
                         }
+                        if wire::frame(datagram).map(|records| records[index].number) != Ok(number)
+                        {
+                            self.wrong = Some(format!("{number} is not the record's number"));
+                        }
                     }
                     lines.push(format!("{index} {}", words_of(&answer)));
+                }
+                let handed_out = self.tally.handed_out() - tally.handed_out();
+                if received.reports().count() as u32 != handed_out {
+                    self.wrong = Some("the reports are not those that were counted".to_string());
                 }
                 let sent = received.to_send().to_vec();
                 if !sent.is_empty() {
