@@ -5,8 +5,10 @@
    is lent is tested, and what is wrong is refused with a number. A refused call leaves every lent byte as it was.
 
    Lent bytes may be copied, stored and lent again later, by this program or another one: they are the connection. They hold the
-   session's master secret. What the caller owes: each pointer has as many bytes behind it as the length beside it says (with a
-   length of 0 it may be NULL), no two lent buffers of one call overlap, and nothing else touches them before the call returns.
+   session's master secret.
+
+   What the caller owes: each pointer has as many bytes behind it as the length beside it says (with a length of 0 it may be
+   NULL), one that is not const overlaps no other of that call, and nothing else touches them before it returns.
 
    `crates/gateway/src/lib.rt` has each promise below as a theorem, by the definitions in `crates/gateway/specs` and
    `crates/connection/specs`. */
