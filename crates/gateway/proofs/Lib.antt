@@ -4,3 +4,4 @@ pub mod Reading
 pub mod Calling
 pub mod Numbers
 pub mod Back
+pub mod Coincide
