@@ -5,7 +5,10 @@
    is lent is tested, and what is wrong is refused with a number. A refused call leaves every lent byte as it was.
 
    Lent bytes may be copied, stored and lent again later, by this program or another one: they are the connection. They hold the
-   session's master secret. Two lent buffers of one call must not overlap.
+   session's master secret.
+
+   What the caller owes: each pointer has as many bytes behind it as the length beside it says (with a length of 0 it may be
+   NULL), one that is not const overlaps no other of that call, and nothing else touches them before it returns.
 
    `crates/gateway/src/lib.rt` has each promise below as a theorem, by the definitions in `crates/gateway/specs` and
    `crates/connection/specs`. */
@@ -33,7 +36,8 @@ extern "C" {
 #define GATEWAY_SEND_ROOM 1323   /* room for anything that a send can write: 3 + 1,300 + 20 */
 #define GATEWAY_RECORDS_MOST 8
 
-/* What every call answers is one number of three parts. */
+/* What every call answers is one number of three parts. A part that a call says nothing of is 0; where it is refused, so is every
+   part but the refusal, save for the offset of 1 to 5. */
 #define GATEWAY_REFUSAL(result) ((unsigned)((result) >> 32))           /* 0: done; else a refusal number */
 #define GATEWAY_WRITTEN(result) ((size_t)((result) >> 16 & 0xffff))    /* bytes now at the front of `out` */
 #define GATEWAY_COUNT(result) ((size_t)((result) & 0xffff))            /* as each call says */
@@ -86,7 +90,16 @@ enum gateway_kind {
     GATEWAY_REFUSED = 11   /* the record was refused with the number `refusal` */
 };
 
-/* One answer, read out of the 192 bytes. What does not belong to its kind is 0. */
+/* One answer, read out of the 192 bytes. What does not belong to its kind is 0. Its 24 bytes, numbers with the high byte first:
+
+       place  bytes
+           0      1  kind
+           1      1  refusal
+           2      1  description: the alert's, by its number in 002 10.2
+           3      1  0
+           4      4  number: the record's, of data handed out
+           8      8  start: where in the datagram the data handed out begins
+          16      8  size: of the data handed out, or of the reply in `out` */
 struct gateway_answer {
     unsigned kind, refusal, description, number;
     size_t start, size;

@@ -1,8 +1,8 @@
 //! The exported calls as they are, on slices: one function each, nothing added. `include/gateway.h` has their promises.
 //!
 //! A slice goes over as its pointer and its length. The library reads and writes inside the slices that it is lent and nowhere
-//! else, keeps none of them, and accepts any length and any contents, so these functions are safe: that two lent slices do
-//! not overlap is what `&mut` says.
+//! else, keeps none of them, and accepts any length and any contents, so these functions are safe: that a slice which may be
+//! written overlaps no other one is what `&mut` says.
 
 mod exported {
     extern "C" {

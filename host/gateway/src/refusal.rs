@@ -60,16 +60,16 @@ impl Refusal {
         ALL.into_iter().find(|refusal| u32::from(refusal.number()) == number)
     }
 
-    /// The meaning, in the words of the list.
+    /// The meaning, in the words of the list and of `include/gateway.h`.
     pub fn meaning(self) -> &'static str {
         match self {
             Size => "datagram of 0 or over 1,400 bytes",
-            Header => "the header's fields pass the end",
-            Type => "reserved bit set, no sequence number, or content not 1 to 4",
+            Header => "a record header's fields pass the end",
+            Type => "reserved bit set, no sequence number, content not 1 to 4",
             Length => "length past the end, or empty fragment",
             Ninth => "a ninth record begins",
             Room => "output buffer too short",
-            Ended => "barred, or closed",
+            Ended => "Barred, or Closed except for start again and close",
             NotAllowed => "record or call not allowed in this state or place",
             Forged => "code not right",
             TooOld => "number too old",
@@ -78,9 +78,9 @@ impl Refusal {
             Unacceptable => "hello well formed, not acceptable",
             Checksum => "clear alert with another checksum",
             Spent => "sending number spent",
-            Argument => "argument out of range, or no saved connection",
+            Argument => "argument out of range; also: the bytes lent are no saved connection",
             WrongFinished => "genuine Finished with wrong contents",
-            HelloWhileOpen => "clear ClientHello while open",
+            HelloWhileOpen => "clear ClientHello while Open",
         }
     }
 }

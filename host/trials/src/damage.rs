@@ -15,6 +15,7 @@ pub fn run() -> Result<String, String> {
     for (kind, state) in states() {
         let link = Link::in_state(state, kind);
         let report = Link::in_state(State::Open, kind).record(Content::Data, 19, b"report");
+        let hello = Link::new().hello(kind);
         let saved = link.connection.save();
         for place in 0..saved.len() {
             for byte in 0..=255 {
@@ -22,7 +23,7 @@ pub fn run() -> Result<String, String> {
                 damaged[place] = byte;
                 let right = is_saved(&damaged);
                 let wrong = match right {
-                    true => taken(&damaged, &report),
+                    true => taken(&damaged, &report).or_else(|| written(&damaged, &hello)),
                     false => refused(&damaged, &report),
                 };
                 if let Some(wrong) = wrong {
@@ -105,6 +106,39 @@ fn taken(bytes: &[u8], report: &[u8]) -> Option<&'static str> {
         (true, 11) if lent.state != bytes => Some("a refused report changes the window"),
         (true, 6 | 11) => None,
         (true, _) => Some("a report is answered as something else"),
+    }
+}
+
+/// The bytes are a connection, whatever sizes and numbers stand in them: a hello is answered and data sent, or refused, and no
+/// byte is written but the counted ones at the front of the output, and those of the state that a send may change.
+fn written(bytes: &[u8], hello: &[u8]) -> Option<&'static str> {
+    let counted = |out: &[u8], count: usize| out[count..].iter().all(|byte| *byte == 0xa5);
+    let mut lent = Lent::new(bytes);
+    let given = lent.receive(hello, &RANDOM);
+    let size = match lent.answers[0] {
+        1 | 2 => usize::from(lent.answers[23]),
+        _ => 0,
+    };
+    if (given.refusal, given.count) != (0, 1) || given.written != size || size > 84 {
+        return Some("a hello is not answered, or its reply has another size");
+    }
+    if !counted(&lent.out, size) {
+        return Some("a reply writes more than it counts");
+    }
+    if lent.answers[0] != 1 && lent.state != bytes {
+        return Some("a hello without a new reply changes the connection");
+    }
+    let mut lent = Lent::new(bytes);
+    let given = raw::send_data(&mut lent.state, b"x", &mut lent.out);
+    match given.refusal {
+        0 if given.written != 4 + [10, 20][usize::from(bytes[65] - 2)] => {
+            Some("another size is sent")
+        }
+        0 if !counted(&lent.out, given.written) => Some("a send writes more than it counts"),
+        0 if lent.state[..445] != bytes[..445] => Some("a send changes more than our numbers"),
+        0 => None,
+        7 | 8 | 15 if lent == Lent::new(bytes) && given.written == 0 => None,
+        _ => Some("a send is refused with another number, or touches something"),
     }
 }
 

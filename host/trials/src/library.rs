@@ -3,6 +3,7 @@
 //! nothing, that only the counted bytes of the output were written, and that the connection loads from what was saved.
 
 use gateway::{Answer, Connection, Refusal, Sense, Tally};
+use peer::wire;
 
 /// What lies in the output before a call.
 const BLANK: u8 = 0xa5;
@@ -112,6 +113,10 @@ impl Library {
                         }
                     }
                     lines.push(format!("{index} {}", words_of(&answer)));
+                }
+                let handed_out = self.tally.handed_out() - tally.handed_out();
+                if received.reports().count() as u32 != handed_out {
+                    self.wrong = Some("the reports are not those that were counted".to_string());
                 }
                 let sent = received.to_send().to_vec();
                 if !sent.is_empty() {

@@ -48,13 +48,17 @@ impl Link {
     }
 
     fn greet(&mut self, kind: Kind) {
-        let hello = Hello::plain(&[0x10; 16], &ID, kind, 3);
-        let datagram = self.unit.say_hello(&hello.message());
+        let datagram = self.hello(kind);
         let mut out = [0; 128];
         let mut tally = Tally::default();
         let received = self.connection.receive(&mut tally, &datagram, &RANDOM, &mut out);
         let reply = received.expect("the hello is taken").to_send().to_vec();
         self.unit.hear_reply(&reply).expect("the unit takes the reply");
+    }
+
+    /// The unit's hello, as a datagram; the same one each time.
+    pub fn hello(&mut self, kind: Kind) -> Vec<u8> {
+        self.unit.say_hello(&Hello::plain(&[0x10; 16], &ID, kind, 3).message())
     }
 
     fn open(&mut self) {
