@@ -1,6 +1,6 @@
--- Refusals 1 to 5, over the bytes of a datagram (01, "Refusal numbers" and "The record on the wire"): "then framing from the front (per
--- record 5, 3, 2, 4)", "and give the offset of the record at fault (0 for 1)". With `Calls.CallsHold` this says exactly when a receive is
--- refused by them.
+-- Refusals 1 to 5, over the bytes of a datagram (01, "Refusal numbers" and "The record on the wire"): "then framing
+-- from the front (per record 5, 3, 2, 4)", "and give the offset of the record at fault (0 for 1)". With
+-- `Calls.CallsHold` this says exactly when a receive is refused by them.
 use mathlib.Core.Path.{_≡_}
 use mathlib.Core.Logic.{_↔_, _⊎_}
 use mathlib.Core.Bool.{Bool, true, false}
@@ -27,7 +27,8 @@ pub record GoodType (byte : ℕ) : Type 0 where
 abbrev pub BadType : ℕ → Type 0
 BadType byte = (bit 3 byte ≡ true) ⊎ ((bit 1 byte ≡ false) ⊎ ((byte % 16 < 1) ⊎ (4 < byte % 16)))
 
--- type byte, sequence number, "the length (2 bytes, if present)"; "without a length the fragment is the rest of the datagram"
+-- type byte, sequence number, "the length (2 bytes, if present)"; "without a length the fragment is the rest of the
+-- datagram"
 abbrev pub headFor : ℕ → ℕ
 headFor byte = pick (bit 0 byte) 5 3
 
@@ -46,7 +47,8 @@ pub data FaultIn (s : List ℕ) : Fault → Type 0 where
 -- so many sound records, one behind the other from the front, end there
 pub data SoundTo (d : List ℕ) : ℕ → ℕ → Type 0 where
   at-start : SoundTo d 0 0
-  one-more : {n at : ℕ} (r : Record) → SoundTo d n at → at < length d → readOf (drop at d) ≡ Q.Sound r → SoundTo d (suc n) (at + r .used)
+  one-more : {n at : ℕ} (r : Record) → SoundTo d n at → at < length d → readOf (drop at d) ≡ Q.Sound r
+      → SoundTo d (suc n) (at + r .used)
 
 -- a datagram "of 1 to 1,400 bytes"
 pub record Sized (d : List ℕ) : Type 0 where
@@ -59,7 +61,8 @@ pub data FramingRow (d : List ℕ) : Fault → ℕ → Type 0 where
   -- "a ninth record begins"
   framing-5 : {at : ℕ} → Sized d → SoundTo d 8 at → at < length d → FramingRow d F.Ninth at
   -- 3, 2, 4 of the first record at fault
-  framing-fault : {n at : ℕ} {fault : Fault} → Sized d → SoundTo d n at → n < 8 → at < length d → FaultIn (drop at d) fault → FramingRow d fault at
+  framing-fault : {n at : ℕ} {fault : Fault} → Sized d → SoundTo d n at → n < 8 → at < length d
+      → FaultIn (drop at d) fault → FramingRow d fault at
 
 unfoldable pub FaultsExactly : Type 0
 FaultsExactly = (d : List ℕ) (fault : Fault) (at : ℕ) → (framingOf d ≡ faulty fault at) ↔ FramingRow d fault at
