@@ -1,5 +1,5 @@
--- Demand 2: "A fatal alert accepted under its authentication code bars that connection's session from being resumed." 01: "Barred holds
--- for this connection and all its starts."
+-- Demand 2: "A fatal alert accepted under its authentication code bars that connection's session from being resumed."
+-- 01: "Barred holds for this connection and all its starts."
 use mathlib.Core.Path.{_≡_}
 use mathlib.Core.Logic.{_≢_}
 use mathlib.Core.Bool.{Bool, true, false}
@@ -57,9 +57,10 @@ unfoldable pub AnswersSeven : Gateway → Connection → Type 0
 AnswersSeven g c =
     ((d random out : List ℕ) (rs : List Record) → length random ≡ 16 → 128 ≤ length out → framingOf d ≡ framed rs
     → g c (receive d random out) .result ≡ received (T.Records (length rs)) (slotsOf (refusedAll rs)) 0)
-    × ((bytes out : List ℕ) → 1 ≤ length bytes → length bytes ≤ 1300 → g c (send-data bytes out) .result ≡ sent (O.Refused X.Ended) 0)
-    × ((sealed : Bool) (level description : ℕ) (l : Level) (k : Description) (answered out : List ℕ) → levelOf level ≡ G.Is l
-    → sortedOf description ≡ D.Assigned k → length answered ≤ 1400
+    × ((bytes out : List ℕ) → 1 ≤ length bytes → length bytes ≤ 1300
+    → g c (send-data bytes out) .result ≡ sent (O.Refused X.Ended) 0)
+    × ((sealed : Bool) (level description : ℕ) (l : Level) (k : Description) (answered out : List ℕ)
+    → levelOf level ≡ G.Is l → sortedOf description ≡ D.Assigned k → length answered ≤ 1400
     → g c (send-alert sealed level description answered out) .result ≡ sent (O.Refused X.Ended) 0)
     × (g c close .result ≡ called (O.Refused X.Ended)) × (g c start .result ≡ called (O.Refused X.Ended))
 
@@ -67,4 +68,5 @@ AnswersSeven g c =
 unfoldable pub BarredForGood : Type 0
 BarredForGood =
     (c : Connection) → c .handshake .state ≡ Barred
-    → ((calls : List Call) → lastOf stepOf c calls ≡ c) × ((call : Call) → stepOf c call .output ≡ lentBy call) × AnswersSeven stepOf c
+    → ((calls : List Call) → lastOf stepOf c calls ≡ c) × ((call : Call) → stepOf c call .output ≡ lentBy call)
+    × AnswersSeven stepOf c

@@ -1,6 +1,7 @@
--- The calls: what each gives, and exactly when each refusal is given (01, "Refusal numbers"). "Receive: 16, 6, 1, then framing from
--- the front (per record 5, 3, 2, 4), then one answer per record." "Send: 16, 7, 8, 15, 6. Data is sent only in Open, protected alerts in
--- Replied, Spec and Open, clear ones in Replied and Spec. Start again: 7, then 8 unless Closed. Close: 7."
+-- The calls: what each gives, and exactly when each refusal is given (01, "Refusal numbers"). "Receive: 16, 6, 1,
+-- then framing from the front (per record 5, 3, 2, 4), then one answer per record." "Send: 16, 7, 8, 15, 6. Data is
+-- sent only in Open, protected alerts in Replied, Spec and Open, clear ones in Replied and Spec. Start again: 7, then
+-- 8 unless Closed. Close: 7."
 use mathlib.Core.Path.{_≡_}
 use mathlib.Core.Logic.{_↔_, _⊎_, _≢_}
 use mathlib.Core.Bool.{Bool, true, false}
@@ -38,11 +39,12 @@ use Rattle.connection.specs.declared.handshake.Handshake.{Handshake}
 use Rattle.demands.specs.Runs.{Call, receive, send-data, send-alert, close, start, received, sent, called, Step, stepOf, freshWith}
 use Rattle.demands.specs.Table.{Row, ended}
 
--- Records one after the other, each in the handshake that those before it left: an answer for each, and what the last one leaves.
--- "One answer per record."
+-- Records one after the other, each in the handshake that those before it left: an answer for each, and what the last
+-- one leaves. "One answer per record."
 pub data Chain (random d : List ℕ) : Handshake → List Record → List Answer → Handshake → Type 0 where
   chain-end : {h : Handshake} → Chain random d h [] [] h
-  chain-more : {h : Handshake} {r : Record} {rs : List Record} {j : Judged} {answers : List Answer} {left : Handshake} → Row h random d r j
+  chain-more : {h : Handshake} {r : Record} {rs : List Record} {j : Judged} {answers : List Answer} {left : Handshake}
+      → Row h random d r j
       → Chain random d (j .handshake) rs answers left → Chain random d h (r ∷ rs) (j .answer ∷ answers) left
 
 abbrev pub ofHandshake : Handshake → Connection
@@ -111,43 +113,57 @@ pub record GoodAlert (level description : ℕ) (answered : List ℕ) (l : Level)
 
 pub data CallRow (c : Connection) : Call → Step → Type 0 where
   -- receive
-  receive-16 : {d random out : List ℕ} → length random ≢ 16 → CallRow c (receive d random out) (notTaken c out (T.Refused X.Argument))
+  receive-16 : {d random out : List ℕ} → length random ≢ 16
+      → CallRow c (receive d random out) (notTaken c out (T.Refused X.Argument))
   receive-6 : {d random out : List ℕ} → length random ≡ 16 → length out < 128
       → CallRow c (receive d random out) (notTaken c out (T.Refused X.Room))
-  receive-framing : {d random out : List ℕ} {fault : Fault} {at : ℕ} → length random ≡ 16 → 128 ≤ length out → framingOf d ≡ faulty fault at
+  receive-framing : {d random out : List ℕ} {fault : Fault} {at : ℕ} → length random ≡ 16 → 128 ≤ length out
+      → framingOf d ≡ faulty fault at
       → CallRow c (receive d random out) (notTaken c out (T.Misframed (X.Framing fault) at))
-  receive-records : {d random out : List ℕ} {rs : List Record} {answers : List Answer} {left : Handshake} → length random ≡ 16 → 128 ≤ length out
+  receive-records : {d random out : List ℕ} {rs : List Record} {answers : List Answer} {left : Handshake}
+      → length random ≡ 16 → 128 ≤ length out
       → framingOf d ≡ framed rs → Chain random d (c .handshake) rs answers left
       → CallRow c (receive d random out) (taken out rs answers (firstReply (c .handshake) random d rs) left)
   -- send data
   data-16 : {bytes out : List ℕ} → BadData bytes → CallRow c (send-data bytes out) (notSent c out X.Argument)
-  data-7 : {bytes out : List ℕ} → GoodData bytes → ended (c .handshake .state) ≡ true → CallRow c (send-data bytes out) (notSent c out X.Ended)
+  data-7 : {bytes out : List ℕ} → GoodData bytes → ended (c .handshake .state) ≡ true
+      → CallRow c (send-data bytes out) (notSent c out X.Ended)
   data-8 : {bytes out : List ℕ} → GoodData bytes → ended (c .handshake .state) ≡ false → c .handshake .state ≢ Open
       → CallRow c (send-data bytes out) (notSent c out X.NotAllowed)
   data-15 : {bytes out : List ℕ} → GoodData bytes → c .handshake .state ≡ Open → 65535 < numberFor true (c .handshake)
       → CallRow c (send-data bytes out) (notSent c out X.Spent)
   data-6 : {bytes out : List ℕ} → GoodData bytes → c .handshake .state ≡ Open → numberFor true (c .handshake) ≤ 65535
-      → length out < 3 + length bytes + codeFor true (c .handshake) → CallRow c (send-data bytes out) (notSent c out X.Room)
+      → length out < 3 + length bytes + codeFor true (c .handshake)
+      → CallRow c (send-data bytes out) (notSent c out X.Room)
   data-sent : {bytes out : List ℕ} → GoodData bytes → c .handshake .state ≡ Open → numberFor true (c .handshake) ≤ 65535
       → 3 + length bytes + codeFor true (c .handshake) ≤ length out
       → CallRow c (send-data bytes out)
-      (wasSent out (nextProtected (c .handshake) C.Data bytes) (afterProtected (c .handshake) (nextProtected (c .handshake) C.Data bytes)))
+      (wasSent out (nextProtected (c .handshake) C.Data bytes)
+      (afterProtected (c .handshake) (nextProtected (c .handshake) C.Data bytes)))
   -- send an alert
   alert-16 : {sealed : Bool} {level description : ℕ} {answered out : List ℕ} → BadAlert level description answered
       → CallRow c (send-alert sealed level description answered out) (notSent c out X.Argument)
-  alert-7 : {sealed : Bool} {level description : ℕ} {answered out : List ℕ} {l : Level} {k : Description} → GoodAlert level description answered l k
-      → ended (c .handshake .state) ≡ true → CallRow c (send-alert sealed level description answered out) (notSent c out X.Ended)
-  alert-8 : {sealed : Bool} {level description : ℕ} {answered out : List ℕ} {l : Level} {k : Description} → GoodAlert level description answered l k
+  alert-7 : {sealed : Bool} {level description : ℕ} {answered out : List ℕ} {l : Level} {k : Description}
+      → GoodAlert level description answered l k
+      → ended (c .handshake .state) ≡ true
+      → CallRow c (send-alert sealed level description answered out) (notSent c out X.Ended)
+  alert-8 : {sealed : Bool} {level description : ℕ} {answered out : List ℕ} {l : Level} {k : Description}
+      → GoodAlert level description answered l k
       → ended (c .handshake .state) ≡ false → mayAlert sealed (c .handshake .state) ≡ false
       → CallRow c (send-alert sealed level description answered out) (notSent c out X.NotAllowed)
-  alert-15 : {sealed : Bool} {level description : ℕ} {answered out : List ℕ} {l : Level} {k : Description} → GoodAlert level description answered l k
+  alert-15 : {sealed : Bool} {level description : ℕ} {answered out : List ℕ} {l : Level} {k : Description}
+      → GoodAlert level description answered l k
       → mayAlert sealed (c .handshake .state) ≡ true → 65535 < numberFor sealed (c .handshake)
       → CallRow c (send-alert sealed level description answered out) (notSent c out X.Spent)
-  alert-6 : {sealed : Bool} {level description : ℕ} {answered out : List ℕ} {l : Level} {k : Description} → GoodAlert level description answered l k
-      → mayAlert sealed (c .handshake .state) ≡ true → numberFor sealed (c .handshake) ≤ 65535 → length out < 9 + codeFor sealed (c .handshake)
+  alert-6 : {sealed : Bool} {level description : ℕ} {answered out : List ℕ} {l : Level} {k : Description}
+      → GoodAlert level description answered l k
+      → mayAlert sealed (c .handshake .state) ≡ true → numberFor sealed (c .handshake) ≤ 65535
+      → length out < 9 + codeFor sealed (c .handshake)
       → CallRow c (send-alert sealed level description answered out) (notSent c out X.Room)
-  alert-sent : {sealed : Bool} {level description : ℕ} {answered out : List ℕ} {l : Level} {k : Description} → GoodAlert level description answered l k
-      → mayAlert sealed (c .handshake .state) ≡ true → numberFor sealed (c .handshake) ≤ 65535 → 9 + codeFor sealed (c .handshake) ≤ length out
+  alert-sent : {sealed : Bool} {level description : ℕ} {answered out : List ℕ} {l : Level} {k : Description}
+      → GoodAlert level description answered l k
+      → mayAlert sealed (c .handshake .state) ≡ true → numberFor sealed (c .handshake) ≤ 65535
+      → 9 + codeFor sealed (c .handshake) ≤ length out
       → CallRow c (send-alert sealed level description answered out)
       (wasSent out (nextAlert sealed (c .handshake) (alertBody l k answered))
       (afterAlert sealed (c .handshake) (nextAlert sealed (c .handshake) (alertBody l k answered))))

@@ -1,7 +1,7 @@
--- What a success changes, and nothing else. 01: "warning changes nothing beyond the mark of a protected one's number, critical closes the
--- connection, fatal closes it and, if protected, bars the session"; "Sending one, at any level, changes only our number and our last
--- sent record"; "Start again leads from Closed to Idle and forgets the window and the kept hello. Close leads anywhere but Barred to
--- Closed."
+-- What a success changes, and nothing else. 01: "warning changes nothing beyond the mark of a protected one's number,
+-- critical closes the connection, fatal closes it and, if protected, bars the session"; "Sending one, at any level,
+-- changes only our number and our last sent record"; "Start again leads from Closed to Idle and forgets the window
+-- and the kept hello. Close leads anywhere but Barred to Closed."
 use mathlib.Core.Path.{_≡_}
 use mathlib.Core.Bool.{Bool, true, false}
 use mathlib.Core.List.{List}
@@ -48,14 +48,17 @@ Leaves h random m protected s then (Refused refusal) = then ≡ refusedLeaves h 
 unfoldable pub RecordChangesOnly : Type 0
 RecordChangesOnly =
     (h : Handshake) (random d : List ℕ) (r : Record)
-    → Leaves h random (fragmentOf d r) (r .protected) (r .number) (judgedRecord h random d r .handshake) (judgedRecord h random d r .answer)
+    → Leaves h random (fragmentOf d r) (r .protected) (r .number) (judgedRecord h random d r .handshake)
+    (judgedRecord h random d r .answer)
 
 -- our number, and the last record as it stands at the front of the output
 abbrev pub afterSending : Bool → Handshake → List ℕ → Handshake
 afterSending true h bytes =
-    withSending h (record { protected = h .sending .protected + 1; clear = h .sending .clear; last = wordAt (checksumOf bytes) 0 })
+    withSending h
+    (record { protected = h .sending .protected + 1; clear = h .sending .clear; last = wordAt (checksumOf bytes) 0 })
 afterSending false h bytes =
-    withSending h (record { protected = h .sending .protected; clear = h .sending .clear + 1; last = wordAt (checksumOf bytes) 0 })
+    withSending h
+    (record { protected = h .sending .protected; clear = h .sending .clear + 1; last = wordAt (checksumOf bytes) 0 })
 
 unfoldable pub DataChangesOnly : Type 0
 DataChangesOnly =
@@ -68,11 +71,14 @@ AlertChangesOnly =
     (c : Connection) (sealed : Bool) (level description : ℕ) (answered out : List ℕ)
     → alertSent c sealed level description answered (length out) .outcome ≡ O.Done
     → alertSent c sealed level description answered (length out) .connection .handshake
-    ≡ afterSending sealed (c .handshake) (take (alertSent c sealed level description answered (length out) .written) (alertOutput c sealed level description answered out))
+    ≡ afterSending sealed (c .handshake)
+    (take (alertSent c sealed level description answered (length out) .written)
+    (alertOutput c sealed level description answered out))
 
 unfoldable pub CloseChangesOnly : Type 0
 CloseChangesOnly =
-    (c : Connection) → closedOf c .outcome ≡ O.Done → closedOf c .connection .handshake ≡ withState (c .handshake) S.Closed
+    (c : Connection) → closedOf c .outcome ≡ O.Done
+    → closedOf c .connection .handshake ≡ withState (c .handshake) S.Closed
 
 unfoldable pub StartChangesOnly : Type 0
 StartChangesOnly =

@@ -1,5 +1,5 @@
--- 01, the unit's tally: "Each count equals the number of such answers since the tally was fresh, up to that stop; a datagram refused as a
--- whole changes none." One tally may be lent to calls on several connections.
+-- 01, the unit's tally: "Each count equals the number of such answers since the tally was fresh, up to that stop; a
+-- datagram refused as a whole changes none." One tally may be lent to calls on several connections.
 use mathlib.Core.Path.{_≡_}
 use mathlib.Core.Bool.{Bool, true, false}
 use mathlib.Core.List.{List, [], _∷_}

@@ -33,7 +33,8 @@ pub record Course : Type 0 where
 -- the code of a record is right under the key for its number; and the content before it
 abbrev pub genuineBytes : Keys → List ℕ → Record → Bool
 genuineBytes k d r =
-    pick (r .protected) (genuineBy (hmac (unitKey k (r .number))) (sizeOf (k .mac)) (r .number) (r .byte) (fragmentOf d r)) false
+    pick (r .protected)
+    (genuineBy (hmac (unitKey k (r .number))) (sizeOf (k .mac)) (r .number) (r .byte) (fragmentOf d r)) false
 
 abbrev pub contentBytes : Keys → List ℕ → Record → List ℕ
 contentBytes k d r = take (length (fragmentOf d r) - sizeOf (k .mac)) (fragmentOf d r)
@@ -93,8 +94,8 @@ Ongoing (alerting sealed level description answered out ∷ es) = Ongoing es
 Ongoing (closing ∷ es) = ⊥
 Ongoing (starting ∷ es) = ⊥
 
--- "Each genuine data record of at least one byte, whose number was not accepted before and is above the highest accepted less 32":
--- what is to be handed out at this place of the course, with the content c
+-- "Each genuine data record of at least one byte, whose number was not accepted before and is above the highest
+-- accepted less 32": what is to be handed out at this place of the course, with the content c
 pub record Due (k : Keys) (course : Course) (d : List ℕ) (r : Record) (c : List ℕ) : Type 0 where
   pub not-shut : course .shut ≡ false
   pub genuine : Genuine k d r c

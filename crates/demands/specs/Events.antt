@@ -1,5 +1,6 @@
--- A run record by record. A call to receive that is not refused as a whole is its records, one after the other: "each later record
--- is handed on", "one answer per record". So a place in a run is a place between two events, also inside a datagram.
+-- A run record by record. A call to receive that is not refused as a whole is its records, one after the other: "each
+-- later record is handed on", "one answer per record". So a place in a run is a place between two events, also inside
+-- a datagram.
 use mathlib.Core.Path.{_≡_}
 use mathlib.Core.Bool.{Bool, true, false}
 use mathlib.Core.List.{List, [], _∷_, _++_, map}
@@ -48,7 +49,8 @@ recordsIn random d (framed rs) = map (took random d) rs
 recordsIn random d (faulty fault at) = []
 
 abbrev pub eventsIn : Call → List Event
-eventsIn (receive d random out) = pick (eqb (length random) 16) (pick (ltb (length out) 128) [] (recordsIn random d (framingOf d))) []
+eventsIn (receive d random out) =
+    pick (eqb (length random) 16) (pick (ltb (length out) 128) [] (recordsIn random d (framingOf d))) []
 eventsIn (send-data bytes out) = sending bytes out ∷ []
 eventsIn (send-alert sealed level description answered out) = alerting sealed level description answered out ∷ []
 eventsIn close = closing ∷ []
@@ -74,8 +76,8 @@ unfoldable pub after : Handshake → List Event → Handshake
 after h [] = h
 after h (e ∷ es) = after (next h e) es
 
--- What happened at an event: a record was answered; we wrote a record, protected or clear, whose bytes stand at the front of the
--- output; we closed; we started again; or the call was refused.
+-- What happened at an event: a record was answered; we wrote a record, protected or clear, whose bytes stand at the
+-- front of the output; we closed; we started again; or the call was refused.
 pub data Happened : Type 0 where
   answered : (random d : List ℕ) (r : Record) (a : Answer) → Happened
   wrote : (sealed : Bool) (bytes : List ℕ) → Happened
@@ -95,7 +97,8 @@ happening h (took random d r) = answered random d r (judgedRecord h random d r .
 happening h (sending bytes out) =
     wrote-by (dataSent (connectionOf h) bytes (length out)) true (dataOutput (connectionOf h) bytes out)
 happening h (alerting sealed level description lent out) =
-    wrote-by (alertSent (connectionOf h) sealed level description lent (length out)) sealed (alertOutput (connectionOf h) sealed level description lent out)
+    wrote-by (alertSent (connectionOf h) sealed level description lent (length out)) sealed
+    (alertOutput (connectionOf h) sealed level description lent out)
 happening h closing = ifDone (closedOf (connectionOf h) .outcome) closed
 happening h starting = ifDone (startedOf (connectionOf h) .outcome) started
 

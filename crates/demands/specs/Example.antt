@@ -11,7 +11,8 @@ exampleId = 0xa0 ∷ 0xa1 ∷ 0xa2 ∷ 0xa3 ∷ 0xa4 ∷ 0xa5 ∷ 0xa6 ∷ 0xa7 
 abbrev pub exampleSecret : List ℕ
 exampleSecret = replicate 20 0x42
 
--- version 1, its random, the identifier, no keys, null cipher with SHA_80, null compression, explicit numbering, refresh 3
+-- version 1, its random, the identifier, no keys, null cipher with SHA_80, null compression, explicit numbering,
+-- refresh 3
 abbrev pub exampleHello : List ℕ
 exampleHello =
     0x01 ∷ 0x00 ∷ 0x25

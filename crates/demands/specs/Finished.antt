@@ -29,8 +29,9 @@ Quiet (closed ∷ past) = ⊥
 Quiet (started ∷ past) = ⊥
 Quiet (refused ∷ past) = Quiet past
 
--- The unit's Finished was verified: an answer Open, to a record that is genuine under the keys of the last new reply before it,
--- whose message holds the PRF of the very messages of this run: the hello that came in, our hello, our Finished.
+-- The unit's Finished was verified: an answer Open, to a record that is genuine under the keys of the last new reply
+-- before it, whose message holds the PRF of the very messages of this run: the hello that came in, our hello, our
+-- Finished.
 pub record Verified (session : Session) (past : List Happened) : Type 0 where
   pub between : List Happened
   pub random : List ℕ

@@ -1,7 +1,8 @@
--- Demands 2 and 3 of any gateway: a step from connection and call to result. Ours meets them; the five of 01 do not: "These must not
--- pass: a gateway that refuses everything (the state table, demand 2, and the handing out in demand 3); one that answers each record alike
--- (the table); one that does nothing (Finished must open); one that acts on the first record of a datagram and only acknowledges the rest
--- (one answer per record, demand 2); an invented tally (the history rule)."
+-- Demands 2 and 3 of any gateway: a step from connection and call to result. Ours meets them; the five of 01 do not:
+-- "These must not pass: a gateway that refuses everything (the state table, demand 2, and the handing out in demand
+-- 3); one that answers each record alike (the table); one that does nothing (Finished must open); one that acts on
+-- the first record of a datagram and only acknowledges the rest (one answer per record, demand 2); an invented tally
+-- (the history rule)."
 use mathlib.Core.Path.{_≡_}
 use mathlib.Core.Logic.{_↔_}
 use mathlib.Core.Bool.{Bool, true, false}
@@ -34,12 +35,14 @@ use Rattle.demands.specs.HandedOut.{courseFrom}
 use Rattle.demands.specs.Places.{answerOf}
 use Rattle.demands.specs.Counts.{Counting, CountsRight}
 
--- Demand 2: "one answer per record", each by the table, in the state that the records before it left; and the connection is what the last
--- one leaves
+-- Demand 2: "one answer per record", each by the table, in the state that the records before it left; and the
+-- connection is what the last one leaves
 unfoldable pub AnswersByTable : Gateway → Type 0
 AnswersByTable g =
-    (c : Connection) (d random out : List ℕ) (rs : List Record) → length random ≡ 16 → 128 ≤ length out → framingOf d ≡ framed rs
-    → (answers : List Answer) × (written : ℕ) × (g c (receive d random out) .result ≡ received (T.Records (length rs)) (slotsOf answers) written)
+    (c : Connection) (d random out : List ℕ) (rs : List Record) → length random ≡ 16 → 128 ≤ length out
+    → framingOf d ≡ framed rs
+    → (answers : List Answer) × (written : ℕ)
+    × (g c (receive d random out) .result ≡ received (T.Records (length rs)) (slotsOf answers) written)
     × Chain random d (c .handshake) rs answers (g c (receive d random out) .connection .handshake)
 
 -- every call by its row; then its receives answer by the table
@@ -54,7 +57,8 @@ unfoldable pub HandsOut : Gateway → Type 0
 HandsOut g =
     (id secret : List ℕ) (es : List Event) → AllSound es
     → after (freshWith id secret) es .state ≡ Open → (calls : List Call) → Ongoing (eventsOf calls)
-    → (d random out : List ℕ) (before : List Record) (r : Record) (behind : List Record) → length random ≡ 16 → 128 ≤ length out
+    → (d random out : List ℕ) (before : List Record) (r : Record) (behind : List Record) → length random ≡ 16
+    → 128 ≤ length out
     → framingOf d ≡ framed (before ++ (r ∷ behind))
     → let past = history (freshWith id secret) es [] in
     let session = sessionOf id secret in
@@ -80,14 +84,17 @@ refusesCalls x c start = notCalled c x
 abbrev pub byRecords : Connection → List ℕ → (List Record → List Answer) → (List Record → Connection) → Framing → Step
 byRecords c out answers left (framed rs) =
     record { result = received (T.Records (length rs)) (slotsOf (answers rs)) 0; output = out; connection = left rs }
-byRecords c out answers left (faulty fault at) = record { result = received (T.Records 0) (slotsOf []) 0; output = out; connection = c }
+byRecords c out answers left (faulty fault at) =
+    record { result = received (T.Records 0) (slotsOf []) 0; output = out; connection = c }
 
--- one that answers each record alike, by an answer a; the rest as ours. With a refusal it is one more that refuses everything.
+-- one that answers each record alike, by an answer a; the rest as ours. With a refusal it is one more that refuses
+-- everything.
 abbrev pub answersAlike : Answer → Gateway
 answersAlike a c (receive d random out) =
     byRecords c out (λ rs. map (λ r. a) rs) (λ rs. stepOf c (receive d random out) .connection) (framingOf d)
 answersAlike a c (send-data bytes out) = stepOf c (send-data bytes out)
-answersAlike a c (send-alert sealed level description answered out) = stepOf c (send-alert sealed level description answered out)
+answersAlike a c (send-alert sealed level description answered out) =
+    stepOf c (send-alert sealed level description answered out)
 answersAlike a c close = stepOf c close
 answersAlike a c start = stepOf c start
 
@@ -108,7 +115,8 @@ abbrev pub firstOnly : Answer → Gateway
 firstOnly a c (receive d random out) =
     byRecords c out (firstThen a (c .handshake) random d) (firstLeaves (c .handshake) random d) (framingOf d)
 firstOnly a c (send-data bytes out) = stepOf c (send-data bytes out)
-firstOnly a c (send-alert sealed level description answered out) = stepOf c (send-alert sealed level description answered out)
+firstOnly a c (send-alert sealed level description answered out) =
+    stepOf c (send-alert sealed level description answered out)
 firstOnly a c close = stepOf c close
 firstOnly a c start = stepOf c start
 
@@ -116,7 +124,8 @@ firstOnly a c start = stepOf c start
 abbrev pub invented : Tally → Counting
 invented t u result = t
 
--- None of them passes. 01 names for each what it fails: the table, the handing out, one answer per record, the history rule.
+-- None of them passes. 01 names for each what it fails: the table, the handing out, one answer per record, the
+-- history rule.
 pub record FiveFail : Type 0 where
   pub refuses-calls-table : (x : Refusal) → AnswersByTable (refusesCalls x) → ⊥
   pub refuses-calls-hands : (x : Refusal) → HandsOut (refusesCalls x) → ⊥

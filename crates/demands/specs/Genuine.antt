@@ -1,5 +1,5 @@
--- Demand 3: "Call a protected record genuine if its datagram is soundly framed and its code is right under the key for its
--- number." Said over the bytes, with the key and code definitions of layer 2.
+-- Demand 3: "Call a protected record genuine if its datagram is soundly framed and its code is right under the key
+-- for its number." Said over the bytes, with the key and code definitions of layer 2.
 use mathlib.Core.Path.{_≡_}
 use mathlib.Core.Bool.{true}
 use mathlib.Core.List.{List, [], _∷_, _++_}

@@ -1,5 +1,5 @@
--- Demand 3: "Each genuine data record of at least one byte, whose number was not accepted before and is above the highest accepted
--- less 32, is handed out by that very call, once, as sent."
+-- Demand 3: "Each genuine data record of at least one byte, whose number was not accepted before and is above the
+-- highest accepted less 32, is handed out by that very call, once, as sent."
 use mathlib.Core.Path.{_≡_}
 use mathlib.Core.Logic.{_↔_, _≢_}
 use mathlib.Core.Bool.{Bool, true, false}
@@ -28,8 +28,8 @@ courseFrom session past es =
 abbrev pub answerAt : Handshake → List ℕ → List ℕ → Record → Answer
 answerAt h random d r = judgedRecord h random d r .answer
 
--- From any place where a run from fresh is Open, and any later events up to our own closing: a record is answered with data exactly if
--- it is due, and what is handed out is its content.
+-- From any place where a run from fresh is Open, and any later events up to our own closing: a record is answered
+-- with data exactly if it is due, and what is handed out is its content.
 unfoldable pub HandedOut : Type 0
 HandedOut =
     (id secret : List ℕ) (es : List Event) → AllSound es
@@ -47,8 +47,10 @@ unfoldable pub HandedOnce : Type 0
 HandedOnce =
     (id secret : List ℕ) (es : List Event) → AllSound es
     → after (freshWith id secret) es .state ≡ Open → (later between : List Event) → AllSound later → AllSound between
-    → (random d : List ℕ) (r : Record) (random′ d′ : List ℕ) (r′ : Record) → Sound (took random d r) → Sound (took random′ d′ r′)
+    → (random d : List ℕ) (r : Record) (random′ d′ : List ℕ) (r′ : Record) → Sound (took random d r)
+    → Sound (took random′ d′ r′)
     → Ongoing (later ++ (took random d r ∷ between))
     → isData (answerAt (after (after (freshWith id secret) es) later) random d r) ≡ true
-    → isData (answerAt (after (after (freshWith id secret) es) (later ++ (took random d r ∷ between))) random′ d′ r′) ≡ true
+    → isData (answerAt (after (after (freshWith id secret) es) (later ++ (took random d r ∷ between))) random′ d′ r′)
+    ≡ true
     → r .number ≢ r′ .number

@@ -1,5 +1,6 @@
--- What is kept is what happened: after any run from fresh, each field of the connection is what the history of the run says. So that
--- "the key", "the expected Finished", "the same reply" and "the window" elsewhere are no mere fields.
+-- What is kept is what happened: after any run from fresh, each field of the connection is what the history of the
+-- run says. So that "the key", "the expected Finished", "the same reply" and "the window" elsewhere are no mere
+-- fields.
 use mathlib.Core.Path.{_≡_}
 use mathlib.Core.Bool.{Bool, true, false}
 use mathlib.Core.List.{List, []}

@@ -1,5 +1,6 @@
--- Demand 3: "Take an open connection, .. and any run of datagrams, up to the first genuine record that closes it or our own closing.
--- .. Leave out every datagram without a genuine record: the data handed out, its order and the connection are the same."
+-- Demand 3: "Take an open connection, .. and any run of datagrams, up to the first genuine record that closes it or
+-- our own closing. .. Leave out every datagram without a genuine record: the data handed out, its order and the
+-- connection are the same."
 use mathlib.Core.Path.{_≡_}
 use mathlib.Core.Bool.{Bool, true, false}
 use mathlib.Core.List.{List, [], _∷_, _++_}
@@ -31,8 +32,10 @@ Continues start = ⊥
 -- the second list is the first with some datagrams left out, each without a genuine record
 pub data LeftOut (k : Keys) : List Call → List Call → Type 0 where
   end : LeftOut k [] []
-  stays : {call : Call} {calls rest : List Call} → Continues call → LeftOut k calls rest → LeftOut k (call ∷ calls) (call ∷ rest)
-  left : {d random out : List ℕ} {calls rest : List Call} → NoneGenuine k d → LeftOut k calls rest → LeftOut k (receive d random out ∷ calls) rest
+  stays : {call : Call} {calls rest : List Call} → Continues call → LeftOut k calls rest
+      → LeftOut k (call ∷ calls) (call ∷ rest)
+  left : {d random out : List ℕ} {calls rest : List Call} → NoneGenuine k d → LeftOut k calls rest
+      → LeftOut k (receive d random out ∷ calls) rest
 
 -- the steps of the calls that stay
 unfoldable pub stepsLeft : {k : Keys} {calls rest : List Call} → LeftOut k calls rest → List Step → List Step
@@ -45,7 +48,8 @@ stepsLeft (left none more) (step ∷ steps) = stepsLeft more steps
 -- the byte strings that a step hands out, in order
 unfoldable pub handedParts : List ℕ → List Slot → List (List ℕ)
 handedParts d [] = []
-handedParts d (slot ∷ slots) = pick (isData (slot .answer)) (handedOf d (slot .answer) ∷ handedParts d slots) (handedParts d slots)
+handedParts d (slot ∷ slots) =
+    pick (isData (slot .answer)) (handedOf d (slot .answer) ∷ handedParts d slots) (handedParts d slots)
 
 abbrev pub answersIn : Result → List Slot
 answersIn (received taken answers written) = answers
@@ -61,7 +65,8 @@ datagramOf start = []
 
 unfoldable pub handedBy : Gateway → Connection → List Call → List (List ℕ)
 handedBy g c [] = []
-handedBy g c (call ∷ calls) = handedParts (datagramOf call) (answersIn (g c call .result)) ++ handedBy g (g c call .connection) calls
+handedBy g c (call ∷ calls) =
+    handedParts (datagramOf call) (answersIn (g c call .result)) ++ handedBy g (g c call .connection) calls
 
 -- the tally after a run
 abbrev pub talliedIn : Tally → Result → Tally
@@ -79,9 +84,10 @@ pub record ButForged (t u : Tally) : Type 0 where
   pub old-same : t .old ≡ u .old
   pub repeated-same : t .repeated ≡ u .repeated
 
--- "the data handed out, its order and the connection are the same": the whole value; and each call that stays gives the same result
--- and writes the same bytes
-pub record SameWithout (g : Gateway) (k : Keys) (c : Connection) (calls rest : List Call) (out : LeftOut k calls rest) : Type 0 where
+-- "the data handed out, its order and the connection are the same": the whole value; and each call that stays gives
+-- the same result and writes the same bytes
+pub record SameWithout (g : Gateway) (k : Keys) (c : Connection) (calls rest : List Call)
+    (out : LeftOut k calls rest) : Type 0 where
   pub same-connection : lastOf g c calls ≡ lastOf g c rest
   pub same-handed : handedBy g c calls ≡ handedBy g c rest
   pub same-steps : stepsLeft out (stepsOf g c calls) ≡ stepsOf g c rest
@@ -89,5 +95,6 @@ pub record SameWithout (g : Gateway) (k : Keys) (c : Connection) (calls rest : L
 
 unfoldable pub LeavesOut : Gateway → Type 0
 LeavesOut g =
-    (c : Connection) → c .handshake .state ≡ Open → (calls rest : List Call) (out : LeftOut (keysOf (c .handshake)) calls rest)
+    (c : Connection) → c .handshake .state ≡ Open
+    → (calls rest : List Call) (out : LeftOut (keysOf (c .handshake)) calls rest)
     → SameWithout g (keysOf (c .handshake)) c calls rest out

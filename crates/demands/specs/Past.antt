@@ -1,5 +1,5 @@
--- What a history says: the last new reply, what was written since, and which numbers were accepted. It is read off what happened,
--- never off what the connection keeps. Histories have the latest first.
+-- What a history says: the last new reply, what was written since, and which numbers were accepted. It is read off
+-- what happened, never off what the connection keeps. Histories have the latest first.
 use mathlib.Core.Path.{_≡_}
 use mathlib.Core.Bool.{Bool, true, false}
 use mathlib.Core.List.{List, [], _∷_}
@@ -98,8 +98,8 @@ refusedMarks X.Argument = false
 refusedMarks X.WrongFinished = true
 refusedMarks X.HelloWhileOpen = false
 
--- the answers to a protected record whose number was accepted: "a genuine new record marks its number even if its content is then
--- refused"
+-- the answers to a protected record whose number was accepted: "a genuine new record marks its number even if its
+-- content is then refused"
 abbrev pub marks : Answer → Bool
 marks Nothing = false
 marks (Reply size) = false
@@ -169,8 +169,8 @@ keptGreeting (closed ∷ past) = keptGreeting past
 keptGreeting (started ∷ past) = none
 keptGreeting (refused ∷ past) = keptGreeting past
 
--- what a new reply fixes, of the session and the two hellos alone: randoms, MAC kind, refresh, and the contents that the unit's
--- Finished must have
+-- what a new reply fixes, of the session and the two hellos alone: randoms, MAC kind, refresh, and the contents that
+-- the unit's Finished must have
 abbrev pub agreedAs : Session → List ℕ → List ℕ → Heard → Agreed
 agreedAs session random m (H.Accepted plan) =
     record {
@@ -240,7 +240,8 @@ nextClearNumber (closed ∷ past) = nextClearNumber past
 nextClearNumber (started ∷ past) = nextClearNumber past
 nextClearNumber (refused ∷ past) = nextClearNumber past
 
--- "the last record that we sent, a resent reply not counted": of a new reply it is our protected Finished; "no record gives 0"
+-- "the last record that we sent, a resent reply not counted": of a new reply it is our protected Finished; "no record
+-- gives 0"
 abbrev pub lastHeard : Session → List ℕ → List ℕ → Heard → List ℕ
 lastHeard session random m (H.Accepted plan) = lastOf session random m plan
 lastHeard session random m (H.Unacceptable condition) = []
@@ -249,7 +250,8 @@ lastHeard session random m (H.Malformed fault) = []
 unfoldable pub lastWritten : Session → List Happened → List ℕ
 lastWritten session [] = []
 lastWritten session (answered random d r a ∷ past) =
-    pick (isReply a) (lastHeard session random (fragmentOf d r) (heardOf (fragmentOf d r) (session .id))) (lastWritten session past)
+    pick (isReply a) (lastHeard session random (fragmentOf d r) (heardOf (fragmentOf d r) (session .id)))
+    (lastWritten session past)
 lastWritten session (wrote sealed bytes ∷ past) = bytes
 lastWritten session (closed ∷ past) = lastWritten session past
 lastWritten session (started ∷ past) = lastWritten session past
@@ -257,7 +259,8 @@ lastWritten session (refused ∷ past) = lastWritten session past
 
 -- ---- what was accepted
 
--- the numbers accepted since the last change cipher spec that was taken, the latest first; a start again forgets them too
+-- the numbers accepted since the last change cipher spec that was taken, the latest first; a start again forgets them
+-- too
 unfoldable pub acceptedIn : List Happened → List ℕ
 acceptedIn [] = []
 acceptedIn (answered random d r a ∷ past) =

@@ -1,6 +1,6 @@
--- Demand 1: "A refused call writes nothing into the output we lend, and the connection is as before, except where the list names the
--- change." 01: "A refusal changes neither buffer nor connection, except that 12 under protection and 17 mark the number, and 17 also
--- closes."
+-- Demand 1: "A refused call writes nothing into the output we lend, and the connection is as before, except where the
+-- list names the change." 01: "A refusal changes neither buffer nor connection, except that 12 under protection and
+-- 17 mark the number, and 17 also closes."
 use mathlib.Core.Path.{_≡_}
 use mathlib.Core.Bool.{Bool, true, false}
 use mathlib.Core.List.{List, [], _∷_}
@@ -94,7 +94,8 @@ RefusedRecordChangesNothing =
     (h : Handshake) (random d : List ℕ) (r : Record) (x : Refusal) → judgedRecord h random d r .answer ≡ W.Refused x
     → judgedRecord h random d r .handshake ≡ refusedLeaves h (r .protected) (r .number) x
 
--- a datagram whose first record gets no reply writes nothing: "a success writes the counted bytes at the front and no others"
+-- a datagram whose first record gets no reply writes nothing: "a success writes the counted bytes at the front and no
+-- others"
 unfoldable pub NothingWrittenWithoutReply : Type 0
 NothingWrittenWithoutReply =
     (c : Connection) (d random out : List ℕ) (r : Record) (rs : List Record) → framingOf d ≡ framed (r ∷ rs)

@@ -1,5 +1,5 @@
--- What is written of a reply. 01: "Idle | clear ClientHello | reply", "Replied, Spec | the same ClientHello message | the same reply bytes",
--- "A success writes the counted bytes at the front and no others."
+-- What is written of a reply. 01: "Idle | clear ClientHello | reply", "Replied, Spec | the same ClientHello message |
+-- the same reply bytes", "A success writes the counted bytes at the front and no others."
 use mathlib.Core.Path.{_≡_}
 use mathlib.Core.List.{List, [], _∷_}
 use Prim.Native.Nat.{ℕ, _≤_}
@@ -21,12 +21,14 @@ use Rattle.demands.specs.Events.{Event, Happened, connectionOf, after, h
 use Rattle.demands.specs.Past.{keptGreeting, replyFor}
 use Rattle.demands.specs.Refusals.{writtenBy}
 
--- The bytes that the first record of a datagram sends, by its answer: a new reply, of this session to this hello with the random that was
--- lent; the same reply again, to the hello that was answered then, with our random of then; else none.
+-- The bytes that the first record of a datagram sends, by its answer: a new reply, of this session to this hello with
+-- the random that was lent; the same reply again, to the hello that was answered then, with our random of then; else
+-- none.
 abbrev pub Sends : Session → List Happened → List ℕ → List ℕ → List ℕ → Answer → Type 0
 Sends session past random m bytes Nothing = bytes ≡ []
 Sends session past random m bytes (Reply size) =
-    (plan : Plan) × (heardOf m (session .id) ≡ Accepted plan) × (bytes ≡ replyTo session random m plan) × (length bytes ≡ size)
+    (plan : Plan) × (heardOf m (session .id) ≡ Accepted plan) × (bytes ≡ replyTo session random m plan)
+    × (length bytes ≡ size)
 Sends session past random m bytes (Resent size) = (bytes ≡ replyFor session (keptGreeting past)) × (length bytes ≡ size)
 Sends session past random m bytes Spec = bytes ≡ []
 Sends session past random m bytes Open = bytes ≡ []
@@ -41,7 +43,8 @@ Sends session past random m bytes (Refused refusal) = bytes ≡ []
 -- in any run from fresh, what a receive writes
 unfoldable pub RepliesRight : Type 0
 RepliesRight =
-    (id secret : List ℕ) (es : List Event) (d random out : List ℕ) (r : Record) (rs : List Record) → length random ≡ 16 → 128 ≤ length out
+    (id secret : List ℕ) (es : List Event) (d random out : List ℕ) (r : Record) (rs : List Record)
+    → length random ≡ 16 → 128 ≤ length out
     → framingOf d ≡ framed (r ∷ rs)
     → let past = history (freshWith id secret) es [] in
     let h = after (freshWith id secret) es in

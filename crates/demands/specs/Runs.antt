@@ -1,5 +1,5 @@
--- Runs of calls. A step is what one call gives, by the definitions that the contracts of layer 4 cite; a run is a list of
--- calls, each on the connection that the one before left.
+-- Runs of calls. A step is what one call gives, by the definitions that the contracts of layer 4 cite; a run is a
+-- list of calls, each on the connection that the one before left.
 use mathlib.Core.Bool.{Bool}
 use mathlib.Core.List.{List, [], _∷_}
 use Prim.Native.Nat.{ℕ}
@@ -18,8 +18,8 @@ use Rattle.connection.specs.declared.send.Sent.{Sent}
 use Rattle.connection.specs.declared.handshake.Handshake.{Handshake}
 use Rattle.connection.specs.declared.state.State.the-variants.{Idle}
 
--- The calls on a connection, each with its arguments and the bytes that the caller lends for the output. (01: "The calls are:
--- fresh connection, receive datagram, send data, send alert, close, start again.")
+-- The calls on a connection, each with its arguments and the bytes that the caller lends for the output. (01: "The
+-- calls are: fresh connection, receive datagram, send data, send alert, close, start again.")
 pub data Call : Type 0 where
   receive : (datagram random out : List ℕ) → Call
   send-data : (bytes out : List ℕ) → Call
@@ -40,7 +40,8 @@ pub record Step : Type 0 where
   pub connection : Connection
 
 abbrev pub receivedAs : Received → List ℕ → Step
-receivedAs r out = record { result = received (r .taken) (r .answers) (r .written); output = out; connection = r .connection }
+receivedAs r out =
+    record { result = received (r .taken) (r .answers) (r .written); output = out; connection = r .connection }
 
 abbrev pub sentAs : Sent → List ℕ → Step
 sentAs s out = record { result = sent (s .outcome) (s .written); output = out; connection = s .connection }
@@ -53,7 +54,8 @@ unfoldable pub stepOf : Connection → Call → Step
 stepOf c (receive d random out) = receivedAs (receivedOf c d random (length out)) (outputOf c d random out)
 stepOf c (send-data bytes out) = sentAs (dataSent c bytes (length out)) (dataOutput c bytes out)
 stepOf c (send-alert sealed level description answered out) =
-    sentAs (alertSent c sealed level description answered (length out)) (alertOutput c sealed level description answered out)
+    sentAs (alertSent c sealed level description answered (length out))
+    (alertOutput c sealed level description answered out)
 stepOf c close = calledAs (closedOf c)
 stepOf c start = calledAs (startedOf c)
 

@@ -1,5 +1,5 @@
--- What we send. 01: "After each new reply our data and protected alerts count on from 1, clear alerts from 2, each as a datagram of one
--- record without a length." "Sending never passes 65,535."
+-- What we send. 01: "After each new reply our data and protected alerts count on from 1, clear alerts from 2, each as
+-- a datagram of one record without a length." "Sending never passes 65,535."
 use mathlib.Core.Path.{_≡_}
 use mathlib.Core.Bool.{Bool, true, false}
 use mathlib.Core.List.{List, []}
@@ -31,7 +31,8 @@ use Rattle.demands.specs.Runs.{freshWith}
 abbrev pub ourKey : Keys → ℕ → List ℕ
 ourKey k s = macSecret (k .secret) serverExpansion (keyNumber (k .refresh) s) (k .server) (k .client)
 
--- the bytes are one record without a length that reads back: its number, its content, and a right code under our key for the number
+-- the bytes are one record without a length that reads back: its number, its content, and a right code under our key
+-- for the number
 pub record SealedRecord (k : Keys) (content : Content) (s : ℕ) (body bytes : List ℕ) : Type 0 where
   pub r : Record
   pub reads : readOf bytes ≡ Q.Sound r
@@ -59,7 +60,8 @@ DataSentRight =
     → let c = connectionOf (after (freshWith id secret) es) in
     let past = history (freshWith id secret) es [] in
     dataSent c bytes (length out) .outcome ≡ O.Done
-    → SealedRecord (keysIn (sessionOf id secret) past) C.Data (nextSealed past) bytes (take (dataSent c bytes (length out) .written) (dataOutput c bytes out))
+    → SealedRecord (keysIn (sessionOf id secret) past) C.Data (nextSealed past) bytes
+    (take (dataSent c bytes (length out) .written) (dataOutput c bytes out))
 
 -- an alert: clear or protected
 abbrev pub AlertRecord : Bool → Keys → List Happened → List ℕ → List ℕ → Type 0
@@ -75,4 +77,5 @@ AlertSentRight =
     let past = history (freshWith id secret) es [] in
     alertSent c sealed level description answered (length out) .outcome ≡ O.Done
     → AlertRecord sealed (keysIn (sessionOf id secret) past) past (alertBody l k answered)
-    (take (alertSent c sealed level description answered (length out) .written) (alertOutput c sealed level description answered out))
+    (take (alertSent c sealed level description answered (length out) .written)
+    (alertOutput c sealed level description answered out))

@@ -1,6 +1,6 @@
--- The state table of 01, "Handshake", and the refusals of a record, "Refusal numbers": each row as a rule from the state and the
--- bytes of a record to its answer and to what it leaves. "Per record: 7; then place and state (18, 8); then code and window; then
--- content 12, then 13, 14 or 17."
+-- The state table of 01, "Handshake", and the refusals of a record, "Refusal numbers": each row as a rule from the
+-- state and the bytes of a record to its answer and to what it leaves. "Per record: 7; then place and state (18, 8);
+-- then code and window; then content 12, then 13, 14 or 17."
 use mathlib.Core.Path.{_≡_}
 use mathlib.Core.Logic.{_↔_, _⊎_, _≢_}
 use mathlib.Core.Bool.{Bool, true, false}
@@ -73,8 +73,8 @@ openIs Barred = false
 abbrev pub helloWhileOpen : State → List ℕ → Record → Bool
 helloWhileOpen s d r = pick (openIs s) (isHello d r) false
 
--- The clear records of the table: ClientHello in Idle, Replied and Spec; change cipher spec in Replied; alert in Replied and
--- Spec. "Everything else is refused. In Open .. other clear records 8."
+-- The clear records of the table: ClientHello in Idle, Replied and Spec; change cipher spec in Replied; alert in
+-- Replied and Spec. "Everything else is refused. In Open .. other clear records 8."
 abbrev pub clearAllowed : State → Content → Bool → Bool
 clearAllowed Idle C.ChangeCipherSpec one = false
 clearAllowed Idle C.Alert one = false
@@ -131,15 +131,16 @@ pub record Greets (h : Handshake) (d : List ℕ) (r : Record) : Type 0 where
   -- "Idle"; "Replied, Spec: another ..."
   pub another : (h .state ≡ Idle) ⊎ (Hears (h .state) × (fragmentOf d r ≢ keptHello h))
 
--- 12 under protection: "empty data", an alert or a Finished that is none, "change cipher spec or a message other than Finished
--- under protection"
+-- 12 under protection: "empty data", an alert or a Finished that is none, "change cipher spec or a message other than
+-- Finished under protection"
 abbrev pub MalformedAs : Content → List ℕ → List ℕ → Type 0
 MalformedAs C.ChangeCipherSpec c expected = Unit
 MalformedAs C.Alert c expected = alertOf c ≡ R.Malformed
 MalformedAs C.Handshake c expected = judgedOf c expected ≡ F.Malformed
 MalformedAs C.Data c expected = length c ≡ 0
 
--- The rows: the record r of the datagram d, in the handshake h, with our random, gives this answer and leaves this handshake.
+-- The rows: the record r of the datagram d, in the handshake h, with our random, gives this answer and leaves this
+-- handshake.
 pub data Row (h : Handshake) (random d : List ℕ) (r : Record) : Judged → Type 0 where
   -- 7
   row-ended : ended (h .state) ≡ true → Row h random d r (refusing X.Ended h)
@@ -148,28 +149,38 @@ pub data Row (h : Handshake) (random d : List ℕ) (r : Record) : Judged → Typ
   -- 8: "record .. not allowed in this state or place"; a ClientHello "may stand only first in its datagram"
   row-not-allowed : ended (h .state) ≡ false → helloWhileOpen (h .state) d r ≡ false → allowed (h .state) d r ≡ false
       → Row h random d r (refusing X.NotAllowed h)
-  row-not-first : allowed (h .state) d r ≡ true → isHello d r ≡ true → (r .start ≡ 0 → ⊥) → Row h random d r (refusing X.NotAllowed h)
-  -- "Idle | clear ClientHello | reply; Replied" and "Replied, Spec | another acceptable ClientHello | new reply; Replied"
+  row-not-first : allowed (h .state) d r ≡ true → isHello d r ≡ true → (r .start ≡ 0 → ⊥)
+      → Row h random d r (refusing X.NotAllowed h)
+  -- "Idle | clear ClientHello | reply; Replied" and "Replied, Spec | another acceptable ClientHello | new reply;
+  -- Replied"
   row-reply : (plan : Plan) → Greets h d r → heardOf (fragmentOf d r) (h .session .id) ≡ H.Accepted plan
-      → Row h random d r (judged (W.Reply (length (replyTo (h .session) random (fragmentOf d r) plan))) (answeredWith h random (fragmentOf d r) plan))
+      → Row h random d r
+      (judged (W.Reply (length (replyTo (h .session) random (fragmentOf d r) plan)))
+      (answeredWith h random (fragmentOf d r) plan))
   -- 12 and 13 of a hello
   row-hello-malformed : (fault : Field) → Greets h d r → heardOf (fragmentOf d r) (h .session .id) ≡ H.Malformed fault
       → Row h random d r (refusing X.Malformed h)
-  row-unacceptable : (condition : Condition) → Greets h d r → heardOf (fragmentOf d r) (h .session .id) ≡ H.Unacceptable condition
+  row-unacceptable : (condition : Condition) → Greets h d r
+      → heardOf (fragmentOf d r) (h .session .id) ≡ H.Unacceptable condition
       → Row h random d r (refusing X.Unacceptable h)
   -- "Replied, Spec | the same ClientHello message | the same reply bytes; no change"
   row-resent : Hears (h .state) → isHello d r ≡ true → r .start ≡ 0 → fragmentOf d r ≡ keptHello h
       → Row h random d r (judged (W.Resent (length (keptReply h))) h)
-  -- "Replied | clear change cipher spec (one byte 1) | Spec, window empty"; 12: "clear change cipher spec other than one byte 1"
-  row-change : h .state ≡ Replied → r .protected ≡ false → r .content ≡ C.ChangeCipherSpec → isChange (fragmentOf d r) ≡ true
+  -- "Replied | clear change cipher spec (one byte 1) | Spec, window empty"; 12: "clear change cipher spec other than
+  -- one byte 1"
+  row-change : h .state ≡ Replied → r .protected ≡ false → r .content ≡ C.ChangeCipherSpec
+      → isChange (fragmentOf d r) ≡ true
       → Row h random d r (judged W.Spec (withState (withWindow h freshWindow) Spec))
-  row-change-malformed : h .state ≡ Replied → r .protected ≡ false → r .content ≡ C.ChangeCipherSpec → isChange (fragmentOf d r) ≡ false
+  row-change-malformed : h .state ≡ Replied → r .protected ≡ false → r .content ≡ C.ChangeCipherSpec
+      → isChange (fragmentOf d r) ≡ false
       → Row h random d r (refusing X.Malformed h)
   -- "Replied, Spec | clear alert | by level"; 12, then 14: "clear alert with another checksum"
-  row-clear-malformed : Hears (h .state) → r .protected ≡ false → r .content ≡ C.Alert → alertOf (fragmentOf d r) ≡ R.Malformed
+  row-clear-malformed : Hears (h .state) → r .protected ≡ false → r .content ≡ C.Alert
+      → alertOf (fragmentOf d r) ≡ R.Malformed
       → Row h random d r (refusing X.Malformed h)
   row-checksum : (a : Alert) → Hears (h .state) → r .protected ≡ false → r .content ≡ C.Alert
-      → alertOf (fragmentOf d r) ≡ R.WellFormed a → a .checksum ≢ h .sending .last → Row h random d r (refusing X.Checksum h)
+      → alertOf (fragmentOf d r) ≡ R.WellFormed a → a .checksum ≢ h .sending .last
+      → Row h random d r (refusing X.Checksum h)
   row-clear-warning : (a : Alert) → Hears (h .state) → r .protected ≡ false → r .content ≡ C.Alert
       → alertOf (fragmentOf d r) ≡ R.WellFormed a → a .checksum ≡ h .sending .last → a .level ≡ L.Warning
       → Row h random d r (judged (W.Warning (a .description)) h)
@@ -192,20 +203,26 @@ pub data Row (h : Handshake) (random d : List ℕ) (r : Record) : Judged → Typ
   row-data : (c : List ℕ) (w : Window) → New h d r c w → r .content ≡ C.Data → 0 < length c
       → Row h random d r (judged (W.Data (r .number) (r .start + r .head) (length c)) (withWindow h w))
   -- "Spec, Open | protected alert | by level"
-  row-warning : (c : List ℕ) (w : Window) (a : Alert) → New h d r c w → r .content ≡ C.Alert → alertOf c ≡ R.WellFormed a → a .level ≡ L.Warning
+  row-warning : (c : List ℕ) (w : Window) (a : Alert) → New h d r c w → r .content ≡ C.Alert
+      → alertOf c ≡ R.WellFormed a → a .level ≡ L.Warning
       → Row h random d r (judged (W.Warning (a .description)) (withWindow h w))
-  row-critical : (c : List ℕ) (w : Window) (a : Alert) → New h d r c w → r .content ≡ C.Alert → alertOf c ≡ R.WellFormed a → a .level ≡ L.Critical
+  row-critical : (c : List ℕ) (w : Window) (a : Alert) → New h d r c w → r .content ≡ C.Alert
+      → alertOf c ≡ R.WellFormed a → a .level ≡ L.Critical
       → Row h random d r (judged (W.Critical (a .description)) (withState (withWindow h w) Closed))
-  row-barred : (c : List ℕ) (w : Window) (a : Alert) → New h d r c w → r .content ≡ C.Alert → alertOf c ≡ R.WellFormed a → a .level ≡ L.Fatal
+  row-barred : (c : List ℕ) (w : Window) (a : Alert) → New h d r c w → r .content ≡ C.Alert
+      → alertOf c ≡ R.WellFormed a → a .level ≡ L.Fatal
       → Row h random d r (judged (W.Barred (a .description)) (barred (withWindow h w)))
   -- "Spec | protected Finished, right contents | Open"
-  row-open : (c : List ℕ) (w : Window) → New h d r c w → h .state ≡ Spec → r .content ≡ C.Handshake → judgedOf c (h .agreed .expected) ≡ F.Right
+  row-open : (c : List ℕ) (w : Window) → New h d r c w → h .state ≡ Spec → r .content ≡ C.Handshake
+      → judgedOf c (h .agreed .expected) ≡ F.Right
       → Row h random d r (judged W.Open (withState (withWindow h w) Open))
   -- "Open | protected Finished under a new number, right contents | "again", Open kept"
-  row-again : (c : List ℕ) (w : Window) → New h d r c w → h .state ≡ Open → r .content ≡ C.Handshake → judgedOf c (h .agreed .expected) ≡ F.Right
+  row-again : (c : List ℕ) (w : Window) → New h d r c w → h .state ≡ Open → r .content ≡ C.Handshake
+      → judgedOf c (h .agreed .expected) ≡ F.Right
       → Row h random d r (judged W.Again (withWindow h w))
   -- 17: "genuine Finished with wrong contents", which also closes
-  row-wrong-finished : (c : List ℕ) (w : Window) → New h d r c w → r .content ≡ C.Handshake → judgedOf c (h .agreed .expected) ≡ F.Wrong
+  row-wrong-finished : (c : List ℕ) (w : Window) → New h d r c w → r .content ≡ C.Handshake
+      → judgedOf c (h .agreed .expected) ≡ F.Wrong
       → Row h random d r (judged (W.Refused X.WrongFinished) (withState (withWindow h w) Closed))
 
 -- The table holds, and nothing else does: a record is answered so exactly if there is a row that says so.

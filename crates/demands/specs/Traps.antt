@@ -1,5 +1,6 @@
--- Small cases of demand 3 that are easy to get wrong. A genuine record refused 12 is accepted all the same; two records of one number in one
--- datagram; a closing record in the midst of a datagram. Each from the Open connection of a worked handshake, with any acceptable hello.
+-- Small cases of demand 3 that are easy to get wrong. A genuine record refused 12 is accepted all the same; two
+-- records of one number in one datagram; a closing record in the midst of a datagram. Each from the Open connection
+-- of a worked handshake, with any acceptable hello.
 use mathlib.Core.Path.{_≡_}
 use mathlib.Core.Bool.{Bool, true, false}
 use mathlib.Core.List.{List, [], _∷_, _++_}
@@ -42,7 +43,8 @@ pub record JustOpen (c : Connection) : Type 0 where
 -- empty data 7, then data 7: 12, 11
 unfoldable pub EmptyThenData : Gateway → Type 0
 EmptyThenData g =
-    (c : Connection) → JustOpen c → (random out bytes : List ℕ) → length random ≡ 16 → 128 ≤ length out → length bytes ≤ 1300
+    (c : Connection) → JustOpen c → (random out bytes : List ℕ) → length random ≡ 16 → 128 ≤ length out
+    → length bytes ≤ 1300
     → (g c (receive (lastSealed (keysOf (c .handshake)) C.Data 7 []) random out) .result
     ≡ received (T.Records 1) (slotsOf (W.Refused X.Malformed ∷ [])) 0)
     × (g (g c (receive (lastSealed (keysOf (c .handshake)) C.Data 7 []) random out) .connection)
@@ -50,18 +52,25 @@ EmptyThenData g =
     ≡ received (T.Records 1) (slotsOf (W.Refused X.Repeated ∷ [])) 0)
 
 -- two records of one number in one datagram: data, 11
+abbrev pub twice : Keys → List ℕ → List ℕ → List ℕ
+twice k one two = longSealed k C.Data 7 one ++ lastSealed k C.Data 7 two
+
 unfoldable pub TwiceInOne : Gateway → Type 0
 TwiceInOne g =
-    (c : Connection) → JustOpen c → (random out one two : List ℕ) → length random ≡ 16 → 128 ≤ length out → 1 ≤ length one → length one ≤ 600
+    (c : Connection) → JustOpen c → (random out one two : List ℕ) → length random ≡ 16 → 128 ≤ length out
+    → 1 ≤ length one → length one ≤ 600
     → length two ≤ 600
-    → g c (receive (longSealed (keysOf (c .handshake)) C.Data 7 one ++ lastSealed (keysOf (c .handshake)) C.Data 7 two) random out) .result
+    → g c (receive (twice (keysOf (c .handshake)) one two) random out) .result
     ≡ received (T.Records 2) (slotsOf (W.Data 7 5 (length one) ∷ W.Refused X.Repeated ∷ [])) 0
 
 -- data, critical, data in one datagram: data, critical, 7
+abbrev pub withAlert : Keys → List ℕ → List ℕ → List ℕ → List ℕ
+withAlert k one alert two = longSealed k C.Data 7 one ++ (longSealed k C.Alert 8 alert ++ lastSealed k C.Data 9 two)
+
 unfoldable pub ClosedBetween : Gateway → Type 0
 ClosedBetween g =
-    (c : Connection) → JustOpen c → (random out one two : List ℕ) (description : Description) (checksum : ℕ) → length random ≡ 16 → 128 ≤ length out
+    (c : Connection) → JustOpen c → (random out one two : List ℕ) (description : Description) (checksum : ℕ)
+    → length random ≡ 16 → 128 ≤ length out
     → 1 ≤ length one → length one ≤ 600 → length two ≤ 600 → checksum < 4294967296
-    → g c (receive (longSealed (keysOf (c .handshake)) C.Data 7 one
-    ++ (longSealed (keysOf (c .handshake)) C.Alert 8 (alertBytes Critical description checksum) ++ lastSealed (keysOf (c .handshake)) C.Data 9 two)) random out) .result
+    → g c (receive (withAlert (keysOf (c .handshake)) one (alertBytes Critical description checksum) two) random out) .result
     ≡ received (T.Records 3) (slotsOf (W.Data 7 5 (length one) ∷ W.Critical description ∷ W.Refused X.Ended ∷ [])) 0

@@ -1,5 +1,6 @@
--- It works: for every session, acceptable hello and random there is the reply; then change cipher spec, the Finished that the definitions
--- give, and data of at least one byte are answered spec, open, data. So that no premise of the other statements is empty.
+-- It works: for every session, acceptable hello and random there is the reply; then change cipher spec, the Finished
+-- that the definitions give, and data of at least one byte are answered spec, open, data. So that no premise of the
+-- other statements is empty.
 use mathlib.Core.Path.{_≡_}
 use mathlib.Core.Bool.{Bool, true, false}
 use mathlib.Core.List.{List, [], _∷_}
@@ -52,17 +53,21 @@ pub record Worked (g : Gateway) (id secret m random out bytes : List ℕ) (plan 
   pub c₄ : Connection
   pub replied : g (connectionOf (freshWith id secret)) (receive (clearDatagram C.Handshake 0 m) random out)
       ≡ record {
-        result = oneAnswer (W.Reply (length (replyTo (sessionOf id secret) random m plan))) (length (replyTo (sessionOf id secret) random m plan));
+        result = oneAnswer (W.Reply (length (replyTo (sessionOf id secret) random m plan)))
+        (length (replyTo (sessionOf id secret) random m plan));
         output = laidOver out 0 (replyTo (sessionOf id secret) random m plan);
         connection = c₁;
       }
   pub changed : g c₁ (receive (clearDatagram C.ChangeCipherSpec 1 changeBytes) random out)
       ≡ record { result = oneAnswer W.Spec 0; output = out; connection = c₂ }
-  pub opened : g c₂ (receive (sealedDatagram (keysAfter secret random m plan) C.Handshake 0 (finishedOf (expectedOf (sessionOf id secret) random m plan))) random out)
+  pub opened : g c₂
+      (receive (sealedDatagram (keysAfter secret random m plan) C.Handshake 0
+      (finishedOf (expectedOf (sessionOf id secret) random m plan))) random out)
       ≡ record { result = oneAnswer W.Open 0; output = out; connection = c₃ }
   pub handed : g c₃ (receive (sealedDatagram (keysAfter secret random m plan) C.Data 1 bytes) random out)
       ≡ record { result = oneAnswer (W.Data 1 3 (length bytes)) 0; output = out; connection = c₄ }
-  pub as-sent : handedOf (sealedDatagram (keysAfter secret random m plan) C.Data 1 bytes) (W.Data 1 3 (length bytes)) ≡ bytes
+  pub as-sent : handedOf (sealedDatagram (keysAfter secret random m plan) C.Data 1 bytes) (W.Data 1 3 (length bytes))
+      ≡ bytes
 
 unfoldable pub Works : Gateway → Type 0
 Works g =

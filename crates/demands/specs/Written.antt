@@ -1,6 +1,6 @@
--- Demand 2: "Records, alerts, hellos, key changes and Finished are read and written exactly as WAP-261 WTLS of 6 April 2001 defines them,
--- within the stated profile." What is written is read back, and the well-formed hellos are exactly those that are written. The laws stand in
--- the layers that own the definitions.
+-- Demand 2: "Records, alerts, hellos, key changes and Finished are read and written exactly as WAP-261 WTLS of 6
+-- April 2001 defines them, within the stated profile." What is written is read back, and the well-formed hellos are
+-- exactly those that are written. The laws stand in the layers that own the definitions.
 use mathlib.Core.Path.{_≡_}
 use mathlib.Core.Logic.{_↔_}
 use mathlib.Core.Bool.{Bool, true, false}
@@ -44,19 +44,26 @@ asRead long protected content number size =
 
 pub record ReadAsWritten : Type 0 where
   -- records: with a length, whatever stands behind; without one, up to the end
-  pub long-record : (protected : Bool) (content : Content) (number : ℕ) (fragment tail : List ℕ) → number < 65536 → 0 < length fragment
+  pub long-record : (protected : Bool) (content : Content) (number : ℕ) (fragment tail : List ℕ) → number < 65536
+      → 0 < length fragment
       → length fragment < 65536
-      → readOf (recordOf true protected content number fragment ++ tail) ≡ Q.Sound (asRead true protected content number (length fragment))
-  pub short-record : (protected : Bool) (content : Content) (number : ℕ) (fragment : List ℕ) → number < 65536 → 0 < length fragment
-      → readOf (recordOf false protected content number fragment) ≡ Q.Sound (asRead false protected content number (length fragment))
+      → readOf (recordOf true protected content number fragment ++ tail)
+      ≡ Q.Sound (asRead true protected content number (length fragment))
+  pub short-record : (protected : Bool) (content : Content) (number : ℕ) (fragment : List ℕ) → number < 65536
+      → 0 < length fragment
+      → readOf (recordOf false protected content number fragment)
+      ≡ Q.Sound (asRead false protected content number (length fragment))
   pub its-fragment : (long protected : Bool) (content : Content) (number : ℕ) (fragment tail : List ℕ)
-      → take (length fragment) (drop (headerSize long) (recordOf long protected content number fragment ++ tail)) ≡ fragment
+      → take (length fragment) (drop (headerSize long) (recordOf long protected content number fragment ++ tail))
+      ≡ fragment
   -- codes: a fragment is genuine exactly if it is a content with its code behind it
   pub its-code : (key : List ℕ) (mac : Mac) (number byte : ℕ) (fragment : List ℕ)
-      → (genuineBy (hmac key) (sizeOf mac) number byte fragment ≡ true) ↔ ((c : List ℕ) × (fragment ≡ fragmentBy (hmac key) (sizeOf mac) number byte c))
+      → (genuineBy (hmac key) (sizeOf mac) number byte fragment ≡ true)
+      ↔ ((c : List ℕ) × (fragment ≡ fragmentBy (hmac key) (sizeOf mac) number byte c))
   -- alerts, change cipher spec, Finished
   pub alerts : (level : Level) (description : Description) (checksum : ℕ) → checksum < 4294967296
-      → alertOf (alertBytes level description checksum) ≡ R.WellFormed (record { level = level; description = description; checksum = checksum })
+      → alertOf (alertBytes level description checksum)
+      ≡ R.WellFormed (record { level = level; description = description; checksum = checksum })
   pub changes : (s : List ℕ) → (isChange s ≡ true) ↔ (s ≡ changeBytes)
   pub finisheds : (m v : List ℕ) → length v ≡ 12 → (judgedOf m v ≡ F.Right) ↔ (m ≡ finishedOf v)
   -- hellos, of bytes
