@@ -43,19 +43,22 @@ start-at (r ∷ rs) zero n d c h = let z : n ≡ n + 0 = omega arith in c .0 ∙
 start-at (r ∷ rs) (suc i) n d c h =
     let at : ℕ = startOf d n in
     let s : Stands (drop at d) (placedAt r 0) = stands (drop at d) (placedAt r 0) (c .1 .0) in
-    let used-e : r .used ≡ headAt d at + sizeAt d at = s .used ∙ ap₂ (λ x y. x + y) (s .head ∙ head-is d at) (s .size ∙ size-is d at) in
+    let used-e : r .used ≡ headAt d at + sizeAt d at = s .used
+    ∙ ap₂ (λ x y. x + y) (s .head ∙ head-is d at) (s .size ∙ size-is d at) in
     let next : at + r .used ≡ at + headAt d at + sizeAt d at = omega arith in
     let one-on : suc n + i ≡ n + suc i = omega arith in
     start-at rs i (suc n) d (subst (λ k. CoversFrom d k rs) next (c .1 .1)) (omega arith) ∙ ap (startOf d) one-on
 
-starts : (d : List ℕ) (rs : List Record) → framingOf d ≡ framed rs → (i : ℕ) → i < length rs → getD rs i blank .start ≡ startOf d i
+starts : (d : List ℕ) (rs : List Record) → framingOf d ≡ framed rs → (i : ℕ) → i < length rs
+    → getD rs i blank .start ≡ startOf d i
 unfolding startOf
 starts d rs f i h = let z : 0 + i ≡ i = omega arith in start-at rs i 0 d (covers d rs f .0) h ∙ ap (startOf d) z
 
 -- ---- answer i is that of record i
 
 answer-at : (rs : List Record) (i : ℕ) (h : Handshake) (random d : List ℕ) → i < length rs
-    → getD (answersOf h random d rs) i Nothing ≡ judgedRecord (endOf h random d (take i rs)) random d (getD rs i blank) .answer
+    → getD (answersOf h random d rs) i Nothing ≡ judgedRecord (endOf h random d (take i rs)) random d
+    (getD rs i blank) .answer
 unfolding answersOf endOf
 answer-at [] i h random d l = absurd (omega arith)
 answer-at (r ∷ rs) zero h random d l = refl
@@ -70,14 +73,17 @@ slot-at : (l : List Answer) (i : ℕ) → i < length l → getD (slotsOf l) i (s
 unfolding slotsOf
 slot-at l i h =
     ap (λ s. s .answer)
-    (List·getD-append (map slot l) (replicate (8 - length l) (slot Nothing)) (slot Nothing) i (omega (arith, length-map l slot)) ∙ slot-map l i h)
+    (List·getD-append (map slot l) (replicate (8 - length l) (slot Nothing)) (slot Nothing) i
+    (omega (arith, length-map l slot)) ∙ slot-map l i h)
 
 -- a record of the datagram
-in-place : (d : List ℕ) (rs : List Record) → framingOf d ≡ framed rs → (i : ℕ) → i < length rs → RecordOf d (getD rs i blank)
+in-place : (d : List ℕ) (rs : List Record) → framingOf d ≡ framed rs → (i : ℕ) → i < length rs
+    → RecordOf d (getD rs i blank)
 in-place d rs f i h =
     record { before = take i rs; behind = drop (suc i) rs; framing = f ∙ ap framed (split-at rs i blank h) }
 
-answered : (c : Connection) (d random out : List ℕ) (rs : List Record) → CallFits (length random) (length out) → framingOf d ≡ framed rs
+answered : (c : Connection) (d random out : List ℕ) (rs : List Record) → CallFits (length random) (length out)
+    → framingOf d ≡ framed rs
     → (i : ℕ) → i < length rs
     → answerAt (stepOf c (receive d random out) .result) i
     ≡ judgedRecord (endOf (c .handshake) random d (take i rs)) random d (getD rs i blank) .answer

@@ -62,11 +62,13 @@ exactly-start =
       refused = λ c x.
           let h : Handshake = c .handshake in
           through (called-is (startedIn h (h .state) .outcome) (Refused x))
-          (refused-when (WhyStart (h .state)) (h .state ≡ S.Closed) (startedIn h (h .state) .outcome) (start-holds h (h .state)) (start-because h (h .state)) x);
+          (refused-when (WhyStart (h .state)) (h .state ≡ S.Closed) (startedIn h (h .state) .outcome)
+          (start-holds h (h .state)) (start-because h (h .state)) x);
       goes = λ c.
           let h : Handshake = c .handshake in
           through (called-is (startedIn h (h .state) .outcome) Done)
-          (done-when (WhyStart (h .state)) (h .state ≡ S.Closed) (startedIn h (h .state) .outcome) (start-holds h (h .state)) (ap (λ y. startedIn h y .outcome)));
+          (done-when (WhyStart (h .state)) (h .state ≡ S.Closed) (startedIn h (h .state) .outcome)
+          (start-holds h (h .state)) (ap (λ y. startedIn h y .outcome)));
     }
 
 -- ---- close
@@ -110,11 +112,13 @@ exactly-close =
       refused = λ c x.
           let h : Handshake = c .handshake in
           through (called-is (closedIn h (h .state) .outcome) (Refused x))
-          (refused-when (WhyClose (h .state)) (h .state ≢ S.Barred) (closedIn h (h .state) .outcome) (close-holds h (h .state)) (close-because h (h .state)) x);
+          (refused-when (WhyClose (h .state)) (h .state ≢ S.Barred) (closedIn h (h .state) .outcome)
+          (close-holds h (h .state)) (close-because h (h .state)) x);
       goes = λ c.
           let h : Handshake = c .handshake in
           through (called-is (closedIn h (h .state) .outcome) Done)
-          (done-when (WhyClose (h .state)) (h .state ≢ S.Barred) (closedIn h (h .state) .outcome) (close-holds h (h .state)) (close-goes h (h .state)));
+          (done-when (WhyClose (h .state)) (h .state ≢ S.Barred) (closedIn h (h .state) .outcome)
+          (close-holds h (h .state)) (close-goes h (h .state)));
     }
 
 -- ---- fresh connection
@@ -140,14 +144,17 @@ module _ (id secret : List ℕ) where
 
   fresh-secret : length secret ≢ 20 → freshOf id secret .outcome ≡ Refused X.Argument
   fresh-secret b =
-      decide (eqb (length id) 8) (λ e. fresh-past (eqb-true (length id) 8 e) b) (λ e. fresh-id (eqb-false (length id) 8 e))
+      decide (eqb (length id) 8) (λ e. fresh-past (eqb-true (length id) 8 e) b)
+      (λ e. fresh-id (eqb-false (length id) 8 e))
 
   fresh-holds : Holds Why Goes (freshOf id secret .outcome)
   fresh-holds =
       decide (eqb (length id) 8)
       (λ e. decide (eqb (length secret) 20)
-      (λ f. subst (Holds Why Goes) (sym (fresh-goes (eqb-true (length id) 8 e, eqb-true (length secret) 20 f))) (eqb-true (length id) 8 e, eqb-true (length secret) 20 f))
-      (λ f. subst (Holds Why Goes) (sym (fresh-secret (eqb-false (length secret) 20 f))) (inr (eqb-false (length secret) 20 f))))
+      (λ f. subst (Holds Why Goes) (sym (fresh-goes (eqb-true (length id) 8 e, eqb-true (length secret) 20 f)))
+      (eqb-true (length id) 8 e, eqb-true (length secret) 20 f))
+      (λ f. subst (Holds Why Goes) (sym (fresh-secret (eqb-false (length secret) 20 f)))
+      (inr (eqb-false (length secret) 20 f))))
       (λ e. subst (Holds Why Goes) (sym (fresh-id (eqb-false (length id) 8 e))) (inl (eqb-false (length id) 8 e)))
 
   fresh-because : (x : Refusal) → Why x → freshOf id secret .outcome ≡ Refused x
@@ -170,6 +177,8 @@ module _ (id secret : List ℕ) where
 pub exactly-fresh : ExactlyFresh
 exactly-fresh =
     record {
-      refused = λ id secret. refused-when (Why id secret) (Goes id secret) (freshOf id secret .outcome) (fresh-holds id secret) (fresh-because id secret);
-      goes = λ id secret. done-when (Why id secret) (Goes id secret) (freshOf id secret .outcome) (fresh-holds id secret) (fresh-goes id secret);
+      refused = λ id secret. refused-when (Why id secret) (Goes id secret) (freshOf id secret .outcome)
+          (fresh-holds id secret) (fresh-because id secret);
+      goes = λ id secret. done-when (Why id secret) (Goes id secret) (freshOf id secret .outcome)
+          (fresh-holds id secret) (fresh-goes id secret);
     }

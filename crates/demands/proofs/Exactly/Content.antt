@@ -1,5 +1,5 @@
--- Contents, byte by byte: change cipher spec, alerts and Finished. The idea: what is read of a content has its reason in the bytes, and
--- two readings of one content are equal.
+-- Contents, byte by byte: change cipher spec, alerts and Finished. The idea: what is read of a content has its reason
+-- in the bytes, and two readings of one content are equal.
 use mathlib.Core.Path.{_≡_, refl, sym, ap, subst, _∙_}
 use mathlib.Core.Logic.{_⊎_, _≢_, inl, inr}
 use mathlib.Core.Bool.{Bool, true, false}
@@ -32,7 +32,7 @@ use Rattle.message.specs.declared.finished.Verified.{Verified}
 use Rattle.message.specs.declared.finished.Verified.the-variants as F
 use Rattle.demands.specs.Exactly.Numbers.{isAssigned}
 use Rattle.demands.specs.Exactly.Record.{IsAlert, IsFinished}
-use Rattle.demands.proofs.Exactly.Reasons.{decide}
+use Rattle.demands.proofs.Exactly.Reasons.{clash, decide}
 use Rattle.demands.proofs.Exactly.Sends.{LevelHolds, level-holds, SortedHolds, sorted-holds}
 
 -- ---- change cipher spec
@@ -44,13 +44,14 @@ one-byte (x ∷ y ∷ s) l e = absurd (omega arith)
 
 pub change-is : (s : List ℕ) → isChange s ≡ true → s ≡ 1 ∷ []
 unfolding isChange
-change-is s e = decide (eqb (length s) 1) (λ a. decide (eqb (getD s 0 0) 1) (λ b. one-byte s (eqb-true (length s) 1 a) (eqb-true (getD s 0 0) 1 b))
-    (λ b. let z : false ≡ true = sym (rw (a, b) refl) ∙ e in let n : _≡_ {A = ℕ} 0 1 = cc in absurd (omega arith)))
-    (λ a. let z : false ≡ true = sym (rw a refl) ∙ e in let n : _≡_ {A = ℕ} 0 1 = cc in absurd (omega arith))
+change-is s e = decide (eqb (length s) 1)
+    (λ a. decide (eqb (getD s 0 0) 1) (λ b. one-byte s (eqb-true (length s) 1 a) (eqb-true (getD s 0 0) 1 b))
+    (λ b. clash (sym (sym (rw (a, b) refl) ∙ e))))
+    (λ a. clash (sym (sym (rw a refl) ∙ e)))
 
 pub change-not : (s : List ℕ) → isChange s ≡ false → s ≢ 1 ∷ []
 unfolding isChange
-change-not s e f = let z : true ≡ false = sym (ap isChange f) ∙ e in let n : _≡_ {A = ℕ} 0 1 = cc in omega arith
+change-not s e f = clash (sym (ap isChange f) ∙ e)
 
 pub not-change : (s : List ℕ) → s ≢ 1 ∷ [] → isChange s ≡ false
 not-change s n = decide (isChange s) (λ e. absurd (n (change-is s e))) (λ e. e)
@@ -61,7 +62,8 @@ abbrev pub AlertHolds : List ℕ → Reading → Type 0
 AlertHolds s R.Malformed = IsAlert s → ⊥
 AlertHolds s (R.WellFormed a) = IsAlert s × (a .checksum ≡ wordAt s 2)
 
-leveled-holds : (s : List ℕ) → length s ≡ 6 → (g : Graded) (t : Sorted) → LevelHolds (getD s 0 0) g → SortedHolds (isAssigned (getD s 1 0)) t
+leveled-holds : (s : List ℕ) → length s ≡ 6 → (g : Graded) (t : Sorted) → LevelHolds (getD s 0 0) g
+    → SortedHolds (isAssigned (getD s 1 0)) t
     → AlertHolds s (leveled g t (wordAt s 2))
 leveled-holds s l (G.Is level) (D.Assigned d) (a, b) k = ((l, a, b, k), refl)
 leveled-holds s l (G.Is level) D.Unassigned ab k = λ w. let z : _≡_ {A = ℕ} 0 1 = cc (w .3) in omega arith
@@ -72,7 +74,8 @@ pub alert-holds : (s : List ℕ) → AlertHolds s (alertOf s)
 unfolding alertOf
 alert-holds s =
     decide (eqb (length s) 6)
-    (λ e. rw e (leveled-holds s (eqb-true (length s) 6 e) (levelOf (getD s 0 0)) (sortedOf (getD s 1 0)) (level-holds (getD s 0 0)) (sorted-holds (getD s 1 0))))
+    (λ e. rw e (leveled-holds s (eqb-true (length s) 6 e) (levelOf (getD s 0 0)) (sortedOf (getD s 1 0))
+    (level-holds (getD s 0 0)) (sorted-holds (getD s 1 0))))
     (λ e. rw e (λ w. eqb-false (length s) 6 e (w .0)))
 
 pub not-alert : (s : List ℕ) → (IsAlert s → ⊥) → alertOf s ≡ R.Malformed
@@ -85,7 +88,8 @@ not-alert s n = go (alertOf s) (alert-holds s)
 pub is-alert : (s : List ℕ) → IsAlert s → (a : Alert) × (alertOf s ≡ R.WellFormed a) × (a .checksum ≡ wordAt s 2)
 is-alert s i = go (alertOf s) refl (alert-holds s)
   where
-    go : (x : Reading) → alertOf s ≡ x → AlertHolds s x → (a : Alert) × (alertOf s ≡ R.WellFormed a) × (a .checksum ≡ wordAt s 2)
+    go : (x : Reading) → alertOf s ≡ x → AlertHolds s x
+        → (a : Alert) × (alertOf s ≡ R.WellFormed a) × (a .checksum ≡ wordAt s 2)
     go R.Malformed e w = absurd (w i)
     go (R.WellFormed a) e w = (a, e, w .1)
 
@@ -110,9 +114,14 @@ finished-holds s expected =
     let i : IsFinished s = (l, w .type, omega (arith, w .size)) in
     decide (sameBytes (partOf s 3 15) expected)
     (λ e. rw (a, b, e) (i, sym (twelve-left s l) ∙ same-equal (partOf s 3 15) expected e))
-    (λ e. rw (a, b, e) (i, λ f. let z : true ≡ false = sym (equal-same (partOf s 3 15) expected (twelve-left s l ∙ f)) ∙ e in let n : _≡_ {A = ℕ} 0 1 = cc in omega arith)))
+    (λ e. rw (a, b, e) (i, λ f. clash (sym (equal-same (partOf s 3 15) expected (twelve-left s l ∙ f)) ∙ e))))
     (λ b. rw (a, b) (λ i.
-    let w : Filled finished s = record { long-enough = omega (arith, i .0); type = i .1; size = omega (arith, i .0, i .2) } in
+    let w : Filled finished s = record {
+      long-enough = omega (arith, i .0);
+      type = i .1;
+      size
+          = omega (arith, i .0, i .2);
+    } in
     let z : true ≡ false = sym (fills-of finished s w) ∙ b in
     let n : _≡_ {A = ℕ} 0 1 = cc in
     omega arith)))

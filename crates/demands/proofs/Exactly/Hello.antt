@@ -1,5 +1,5 @@
--- Hellos, by what is written of their values. The idea: the well-formed hellos are exactly those that the writer writes (layer 3), and the
--- conditions of acceptance are the tests on those values.
+-- Hellos, by what is written of their values. The idea: the well-formed hellos are exactly those that the writer
+-- writes (layer 3), and the conditions of acceptance are the tests on those values.
 use mathlib.Core.Path.{_≡_, refl, sym, ap, subst, _∙_}
 use mathlib.Core.Logic.{_⊎_, _≢_, inl, inr}
 use mathlib.Core.Bool.{Bool, true, false}
@@ -32,7 +32,7 @@ use Rattle.message.specs.declared.hello.Reading.{Reading}
 use Rattle.message.specs.declared.hello.Reading.the-variants as R
 use Rattle.demands.specs.Exactly.Numbers.{isAmong}
 use Rattle.demands.specs.Exactly.Record.{Bytes, WellFormedHello, OffersPair, Acceptable}
-use Rattle.demands.proofs.Exactly.Reasons.{decide}
+use Rattle.demands.proofs.Exactly.Reasons.{clash, decide}
 
 -- ---- a part of bytes is bytes
 
@@ -58,7 +58,7 @@ is-fits cipher mac e =
     decide (eqb cipher 0)
     (λ a. decide (eqb mac 2) (λ b. (eqb-true cipher 0 a, inl (eqb-true mac 2 b)))
     (λ b. (eqb-true cipher 0 a, inr (eqb-true mac 3 (sym (rw (a, b) refl) ∙ e)))))
-    (λ a. let z : false ≡ true = sym (rw a refl) ∙ e in let n : _≡_ {A = ℕ} 0 1 = cc in absurd (omega arith))
+    (λ a. clash (sym (sym (rw a refl) ∙ e)))
 
 -- the first pair that fits is a pair that fits, and there is none where none is found
 abbrev FitHolds : List ℕ → ℕ → Type 0
@@ -80,7 +80,7 @@ fit-holds (cipher ∷ mac ∷ rest) =
     behind e (inr (z, n)) = inr (z, either)
       where
         either : ((cipher ≡ 0) × ((mac ≡ 2) ⊎ (mac ≡ 3))) ⊎ OffersPair rest → ⊥
-        either (inl (c, m)) = let t : true ≡ false = sym (fits-is cipher mac c m) ∙ e in let k : _≡_ {A = ℕ} 0 1 = cc in omega arith
+        either (inl (c, m)) = clash (sym (fits-is cipher mac c m) ∙ e)
         either (inr o) = n o
 
 abbrev ListedHolds : List ℕ → Listed → Type 0
@@ -113,9 +113,16 @@ module _ (v : Values) (id : List ℕ) where
   paired-holds a b (L.Is mac) o =
       decide (hasNull (v .methods))
       (λ c. decide (eqb (v .numbering) 2)
-      (λ e. rw (c, e) (record { version = a; session = b; pair = o; compression = sym (null-is (v .methods)) ∙ c; numbering = eqb-true (v .numbering) 2 e }))
+      (λ e. rw (c, e) (record {
+        version = a;
+        session = b;
+        pair = o;
+        compression = sym (null-is (v .methods))
+            ∙ c;
+        numbering = eqb-true (v .numbering) 2 e;
+      }))
       (λ e. rw (c, e) (λ x. eqb-false (v .numbering) 2 e (x .numbering))))
-      (λ c. rw c (λ x. let z : true ≡ false = sym (x .compression) ∙ sym (null-is (v .methods)) ∙ c in let n : _≡_ {A = ℕ} 0 1 = cc in omega arith))
+      (λ c. rw c (λ x. clash (sym (x .compression) ∙ sym (null-is (v .methods)) ∙ c)))
   paired-holds a b L.Other o = λ x. o (x .pair)
 
   accept-holds : AcceptHolds v id (acceptanceOf v id)
@@ -124,8 +131,9 @@ module _ (v : Values) (id : List ℕ) where
       decide (eqb (v .version) 1)
       (λ a. decide (sameBytes (v .session) id)
       (λ b. rw (a, b)
-      (paired-holds (eqb-true (v .version) 1 a) (same-equal (v .session) id b) (listedAs (firstFit (v .suites))) (listed-holds (v .suites))))
-      (λ b. rw (a, b) (λ x. let z : true ≡ false = sym (equal-same (v .session) id (x .session)) ∙ b in let n : _≡_ {A = ℕ} 0 1 = cc in omega arith)))
+      (paired-holds (eqb-true (v .version) 1 a) (same-equal (v .session) id b) (listedAs (firstFit (v .suites)))
+      (listed-holds (v .suites))))
+      (λ b. rw (a, b) (λ x. clash (sym (equal-same (v .session) id (x .session)) ∙ b))))
       (λ a. rw a (λ x. eqb-false (v .version) 1 a (x .version)))
 
 -- ---- a message that is to be a ClientHello
@@ -138,16 +146,19 @@ module _ (m id : List ℕ) where
 
   -- what is written of values is read as well formed
   reads-so : (w : WellFormedHello m) → readOf m ≡ R.WellFormed (placesOf (w .values))
-  reads-so w = subst (λ l. readOf l ≡ R.WellFormed (placesOf (w .values))) (w .layout) (written-read (w .values) (w .can) .0)
+  reads-so w = subst (λ l. readOf l ≡ R.WellFormed (placesOf (w .values))) (w .layout)
+      (written-read (w .values) (w .can) .0)
 
   values-so : (w : WellFormedHello m) → valuesAt m (placesOf (w .values)) ≡ w .values
-  values-so w = subst (λ l. valuesAt l (placesOf (w .values)) ≡ w .values) (w .layout) (written-read (w .values) (w .can) .1)
+  values-so w = subst (λ l. valuesAt l (placesOf (w .values)) ≡ w .values) (w .layout)
+      (written-read (w .values) (w .can) .1)
 
   pub heard-holds : Bytes m → HeardHolds (heardOf m id)
   unfolding heardOf
   heard-holds b = go (readOf m) refl
     where
-      accepted-as : (h : Hello) → readOf m ≡ R.WellFormed h → (a : Acceptance) → AcceptHolds (valuesAt m h) id a → HeardHolds (judged a)
+      accepted-as : (h : Hello) → readOf m ≡ R.WellFormed h → (a : Acceptance) → AcceptHolds (valuesAt m h) id a
+          → HeardHolds (judged a)
       accepted-as h e (A.Accepted plan) x = tt
       accepted-as h e (A.Unacceptable condition) x =
           let written = read-written m b h e in
@@ -155,7 +166,8 @@ module _ (m id : List ℕ) where
 
       go : (r : Reading) → readOf m ≡ r → HeardHolds (heardAs m id r)
       go (R.WellFormed h) e = accepted-as h e (acceptanceOf (valuesAt m h) id) (accept-holds (valuesAt m h) id)
-      go (R.Malformed fault) e = λ w. let t : R.Malformed fault ≡ R.WellFormed (placesOf (w .values)) = sym e ∙ reads-so w in let n : _≡_ {A = ℕ} 0 1 = cc in omega arith
+      go (R.Malformed fault) e = λ w. let t : R.Malformed fault ≡ R.WellFormed (placesOf (w .values)) = sym e
+          ∙ reads-so w in let n : _≡_ {A = ℕ} 0 1 = cc in omega arith
 
   pub not-hello : Bytes m → (WellFormedHello m → ⊥) → (fault : Field) × (heardOf m id ≡ H.Malformed fault)
   unfolding heardOf
@@ -167,7 +179,8 @@ module _ (m id : List ℕ) where
           absurd (n (record { values = valuesAt m h; can = written .0; layout = written .1 }))
       go (R.Malformed fault) e = (fault, refl)
 
-  pub not-acceptable : (w : WellFormedHello m) → (Acceptable (w .values) id → ⊥) → (condition : Condition) × (heardOf m id ≡ H.Unacceptable condition)
+  pub not-acceptable : (w : WellFormedHello m) → (Acceptable (w .values) id → ⊥)
+      → (condition : Condition) × (heardOf m id ≡ H.Unacceptable condition)
   unfolding heardOf
   not-acceptable w n =
       let (condition, e) = go (acceptanceOf (w .values) id) (accept-holds (w .values) id) in

@@ -1,5 +1,5 @@
--- One record at a place of a datagram, byte by byte. The idea: what the reader tests of the part where the record begins are the
--- bytes of the datagram from there on.
+-- One record at a place of a datagram, byte by byte. The idea: what the reader tests of the part where the record
+-- begins are the bytes of the datagram from there on.
 use mathlib.Core.Path.{_≡_, refl, sym, ap, ap₂, subst, _∙_}
 use mathlib.Core.Logic.{_⊎_, inl, inr}
 use mathlib.Core.Bool.{Bool, true, false}
@@ -29,7 +29,17 @@ kindAt s = kindOf (getD s 0 0)
 -- the record that is read
 abbrev pub madeOf : List ℕ → Record
 madeOf s =
-    record { byte = getD s 0 0; content = contentOf (kindAt s .content); protected = kindAt s .protected; number = pairAt s 1; start = 0; head = headOf (kindAt s); size = sizeOf s (kindAt s); used = headOf (kindAt s) + sizeOf s (kindAt s) }
+    record {
+      byte = getD s 0 0;
+      content = contentOf (kindAt s .content);
+      protected = kindAt s .protected;
+      number = pairAt s 1;
+      start = 0;
+      head = headOf (kindAt s);
+      size = sizeOf s (kindAt s);
+      used = headOf
+          (kindAt s) + sizeOf s (kindAt s);
+    }
 
 module _ (s : List ℕ) (some : 0 < length s) where
   part-type : soundKind (kindAt s) ≡ false → readOf s ≡ Refused F.Kind
@@ -40,10 +50,17 @@ module _ (s : List ℕ) (some : 0 < length s) where
   unfolding readOf readAs
   part-head k l = rw (ne-eqb (length s) 0 (λ e. omega arith), k, lt-ltb (length s) (headOf (kindAt s)) l) refl
 
-  part-empty : soundKind (kindAt s) ≡ true → headOf (kindAt s) ≤ length s → sizeOf s (kindAt s) ≡ 0 → readOf s ≡ Refused F.Fragment
+  part-empty : soundKind (kindAt s) ≡ true → headOf (kindAt s) ≤ length s → sizeOf s (kindAt s) ≡ 0
+      → readOf s ≡ Refused F.Fragment
   unfolding readOf readAs framedOf
   part-empty k l z =
-      rw (ne-eqb (length s) 0 (λ e. omega arith), k, le-ltb (length s) (headOf (kindAt s)) l, eq-eqb (sizeOf s (kindAt s)) 0 z) refl
+      rw (
+        ne-eqb (length s) 0 (λ e. omega arith),
+        k,
+        le-ltb (length s) (headOf (kindAt s)) l,
+        eq-eqb
+            (sizeOf s (kindAt s)) 0 z,
+      ) refl
 
   part-past : soundKind (kindAt s) ≡ true → headOf (kindAt s) ≤ length s → 0 < sizeOf s (kindAt s)
       → length s < headOf (kindAt s) + sizeOf s (kindAt s) → readOf s ≡ Refused F.Fragment
@@ -51,7 +68,14 @@ module _ (s : List ℕ) (some : 0 < length s) where
   part-past k l z p =
       let h : ℕ = headOf (kindAt s) in
       let n : ℕ = sizeOf s (kindAt s) in
-      rw (ne-eqb (length s) 0 (λ e. omega arith), k, le-ltb (length s) h l, ne-eqb n 0 (λ e. omega arith), lt-ltb (length s - h) n (omega arith)) refl
+      rw (
+        ne-eqb (length s) 0 (λ e. omega arith),
+        k,
+        le-ltb (length s) h l,
+        ne-eqb n 0 (λ e. omega arith),
+        lt-ltb
+            (length s - h) n (omega arith),
+      ) refl
 
   part-sound : soundKind (kindAt s) ≡ true → headOf (kindAt s) ≤ length s → 0 < sizeOf s (kindAt s)
       → headOf (kindAt s) + sizeOf s (kindAt s) ≤ length s → readOf s ≡ Sound (madeOf s)
@@ -59,13 +83,21 @@ module _ (s : List ℕ) (some : 0 < length s) where
   part-sound k l z p =
       let h : ℕ = headOf (kindAt s) in
       let n : ℕ = sizeOf s (kindAt s) in
-      rw (ne-eqb (length s) 0 (λ e. omega arith), k, le-ltb (length s) h l, ne-eqb n 0 (λ e. omega arith), le-ltb (length s - h) n (omega arith)) refl
+      rw (
+        ne-eqb (length s) 0 (λ e. omega arith),
+        k,
+        le-ltb (length s) h l,
+        ne-eqb n 0 (λ e. omega arith),
+        le-ltb
+            (length s - h) n (omega arith),
+      ) refl
 
 -- ---- the type byte
 
 -- 3, over its parts
 tested : Bool → Bool → ℕ → Bool
-tested numbered reserved content = pick numbered (pick reserved false (pick (leb 1 content) (leb content 4) false)) false
+tested numbered reserved content = pick numbered
+    (pick reserved false (pick (leb 1 content) (leb content 4) false)) false
 
 tested-right : (numbered reserved : Bool) (content : ℕ) → reserved ≡ false → numbered ≡ true → 1 ≤ content → content ≤ 4
     → tested numbered reserved content ≡ true
@@ -77,11 +109,13 @@ unfolding tested
 tested-reserved true reserved content r = rw r refl
 tested-reserved false reserved content r = refl
 
-tested-unnumbered : (numbered reserved : Bool) (content : ℕ) → numbered ≡ false → tested numbered reserved content ≡ false
+tested-unnumbered : (numbered reserved : Bool) (content : ℕ) → numbered ≡ false
+    → tested numbered reserved content ≡ false
 unfolding tested
 tested-unnumbered numbered reserved content n = rw n refl
 
-tested-content : (numbered reserved : Bool) (content : ℕ) → (content ≡ 0) ⊎ (4 < content) → tested numbered reserved content ≡ false
+tested-content : (numbered reserved : Bool) (content : ℕ) → (content ≡ 0) ⊎ (4 < content)
+    → tested numbered reserved content ≡ false
 unfolding tested
 tested-content false reserved content w = refl
 tested-content true true content w = refl
@@ -124,7 +158,8 @@ module _ (d : List ℕ) (at : ℕ) where
       decide (reservedAt d at) (λ r. bad (inl r))
       (λ r. decide (numberedAt d at)
       (λ n. decide (leb 1 (contentAt d at))
-      (λ a. decide (leb (contentAt d at) 4) (λ b. good (r, n, leb-true 1 (contentAt d at) a, leb-true (contentAt d at) 4 b))
+      (λ a. decide (leb (contentAt d at) 4) (λ b. good
+      (r, n, leb-true 1 (contentAt d at) a, leb-true (contentAt d at) 4 b))
       (λ b. bad (inr (inr (inr (leb-false (contentAt d at) 4 b))))))
       (λ a. bad (inr (inr (inl (omega (arith, leb-false 1 (contentAt d at) a)))))))
       (λ n. bad (inr (inl n))))
@@ -166,19 +201,24 @@ module _ (d : List ℕ) (at : ℕ) where
     pub read-head : RightType d at → HeaderPasses d at → readOf part ≡ Refused F.Header
     read-head r p = part-head part some-left (right-type r) (omega (arith, left-is, head-is))
 
-    pub read-fragment : RightType d at → at + headAt d at ≤ length d → WrongFragment d at → readOf part ≡ Refused F.Fragment
+    pub read-fragment : RightType d at → at + headAt d at ≤ length d → WrongFragment d at
+        → readOf part ≡ Refused F.Fragment
     read-fragment r l (inl z) = part-empty part some-left (right-type r) (omega (arith, left-is, head-is)) (size-is ∙ z)
     read-fragment r l (inr p) =
         decide (eqb (sizeAt d at) 0)
-        (λ e. part-empty part some-left (right-type r) (omega (arith, left-is, head-is)) (size-is ∙ eqb-true (sizeAt d at) 0 e))
+        (λ e. part-empty part some-left (right-type r) (omega (arith, left-is, head-is))
+        (size-is ∙ eqb-true (sizeAt d at) 0 e))
         (λ e.
-        part-past part some-left (right-type r) (omega (arith, left-is, head-is)) (omega (arith, size-is, eqb-false (sizeAt d at) 0 e))
+        part-past part some-left (right-type r) (omega (arith, left-is, head-is))
+        (omega (arith, size-is, eqb-false (sizeAt d at) 0 e))
         (omega (arith, left-is, head-is, size-is)))
 
-    pub read-sound : RightType d at → at + headAt d at ≤ length d → 0 < sizeAt d at → at + headAt d at + sizeAt d at ≤ length d
+    pub read-sound : RightType d at → at + headAt d at ≤ length d → 0 < sizeAt d at
+        → at + headAt d at + sizeAt d at ≤ length d
         → readOf part ≡ Sound (madeOf part)
     read-sound r l z p =
-        part-sound part some-left (right-type r) (omega (arith, left-is, head-is)) (omega (arith, size-is)) (omega (arith, left-is, head-is, size-is))
+        part-sound part some-left (right-type r) (omega (arith, left-is, head-is)) (omega (arith, size-is))
+        (omega (arith, left-is, head-is, size-is))
 
     pub used-is : madeOf part .used ≡ headAt d at + sizeAt d at
     used-is = ap₂ (λ x y. x + y) head-is size-is
@@ -189,9 +229,11 @@ module _ (d : List ℕ) (at : ℕ) where
     by-record three two four sound =
         by-type three
         (λ r. decide (ltb (length d) (at + headAt d at)) (λ e. two r (ltb-true (length d) (at + headAt d at) e))
-        (λ e. decide (eqb (sizeAt d at) 0) (λ z. four r (ltb-false (length d) (at + headAt d at) e) (inl (eqb-true (sizeAt d at) 0 z)))
+        (λ e. decide (eqb (sizeAt d at) 0) (λ z. four r (ltb-false (length d) (at + headAt d at) e)
+        (inl (eqb-true (sizeAt d at) 0 z)))
         (λ z. decide (ltb (length d) (at + headAt d at + sizeAt d at))
-        (λ p. four r (ltb-false (length d) (at + headAt d at) e) (inr (ltb-true (length d) (at + headAt d at + sizeAt d at) p)))
+        (λ p. four r (ltb-false (length d) (at + headAt d at) e)
+        (inr (ltb-true (length d) (at + headAt d at + sizeAt d at) p)))
         (λ p. sound (record {
           begins = begins;
           right = r;

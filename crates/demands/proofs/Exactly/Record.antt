@@ -1,5 +1,6 @@
--- The refusals of a record, exactly when. The idea: the rule of the table that a record falls under has its reason in the bytes (`Rules`),
--- and what each rule does then is decided by code, window and content in turn; each way out has its reason, and each reason its way out.
+-- The refusals of a record, exactly when. The idea: the rule of the table that a record falls under has its reason in
+-- the bytes (`Rules`), and what each rule does then is decided by code, window and content in turn; each way out has
+-- its reason, and each reason its way out.
 use mathlib.Core.Path.{_≡_, refl, sym, ap, ap₂, subst, _∙_}
 use mathlib.Core.Logic.{_↔_, _⊎_, _≢_, inl, inr}
 use mathlib.Core.Bool.{Bool, true, false}
@@ -68,7 +69,7 @@ use Rattle.demands.specs.Exactly.Numbers.{Over}
 use Rattle.demands.specs.Exactly.Whole.{typeAt, headAt, sizeAt}
 use Rattle.demands.specs.Exactly.Record.{ExactlyRecord, Seen, seenAt, IsHello, Hears, Guarded, Allowed, hello, change, alert, guarded, CodedAs, Fresh, IsAlert, IsFinished, WellFormedHello, Acceptable, Greets, WhyMalformed, bad-hello, bad-change, bad-alert, bad-sealed-change, bad-sealed-alert, bad-message, empty-data, WhyRecord, Bytes}
 use Rattle.demands.proofs.Exactly.Coded.{content-before}
-use Rattle.demands.proofs.Exactly.Reasons.{decide}
+use Rattle.demands.proofs.Exactly.Reasons.{clash, decide}
 use Rattle.demands.proofs.Exactly.Reading.{byte-is, wrong-type, by-type, head-is, size-is, number-is}
 use Rattle.demands.proofs.Exactly.Content.{change-is, change-not, not-change, AlertHolds, alert-holds, not-alert, is-alert, FinishedHolds, finished-holds, not-finished, wrong-finished}
 use Rattle.demands.proofs.Exactly.Hello.{bytes-take, bytes-drop, HeardHolds, heard-holds, not-hello, not-acceptable}
@@ -91,12 +92,14 @@ AnswerHolds Why (W.Refused x) = Why x
 
 -- ---- answers that refuse nothing, by level and by state
 
-clear-level : (Why : Refusal → Type 0) (h : Handshake) (l : Level) (d : Description) → AnswerHolds Why (byLevel h l d .answer)
+clear-level : (Why : Refusal → Type 0) (h : Handshake) (l : Level) (d : Description)
+    → AnswerHolds Why (byLevel h l d .answer)
 clear-level Why h L.Warning d = tt
 clear-level Why h L.Critical d = tt
 clear-level Why h L.Fatal d = tt
 
-sealed-level : (Why : Refusal → Type 0) (h : Handshake) (l : Level) (d : Description) → AnswerHolds Why (sealedLevel h l d .answer)
+sealed-level : (Why : Refusal → Type 0) (h : Handshake) (l : Level) (d : Description)
+    → AnswerHolds Why (sealedLevel h l d .answer)
 sealed-level Why h L.Warning d = tt
 sealed-level Why h L.Critical d = tt
 sealed-level Why h L.Fatal d = tt
@@ -109,7 +112,8 @@ finished-in Why h S.Open = tt
 finished-in Why h S.Closed = tt
 finished-in Why h S.Barred = tt
 
-module _ (h : Handshake) (numbers random : List ℕ) (window : h .window ≡ windowOf 32 numbers) (byte number place at : ℕ) (f : List ℕ) (bytes : Bytes f) where
+module _ (h : Handshake) (numbers random : List ℕ) (window : h .window ≡ windowOf 32 numbers) (byte number place at : ℕ)
+    (f : List ℕ) (bytes : Bytes f) where
   -- the window answers as the history does
   by-history : acceptOf 32 (h .window) number ≡ judgedBy 32 numbers number
   by-history = ap (λ w. acceptOf 32 w number) window ∙ meaning 32 (lit< tt) numbers number
@@ -119,11 +123,13 @@ module _ (h : Handshake) (numbers random : List ℕ) (window : h .window ≡ win
       → f ≡ fragmentBy (hmac (unitKey (keysOf h) number)) (sizeOf (h .agreed .mac)) number byte (contentIn h f)
   made-of g = genuine-made (hmac (unitKey (keysOf h) number)) (sizeOf (h .agreed .mac)) number byte f g .1
 
-  of-made : (c : List ℕ) → f ≡ fragmentBy (hmac (unitKey (keysOf h) number)) (sizeOf (h .agreed .mac)) number byte c → genuineIn h byte number f ≡ true
+  of-made : (c : List ℕ) → f ≡ fragmentBy (hmac (unitKey (keysOf h) number)) (sizeOf (h .agreed .mac)) number byte c
+      → genuineIn h byte number f ≡ true
   of-made c e =
       ap (genuineIn h byte number) e ∙ sealed-genuine (unitKey (keysOf h) number) (h .agreed .mac) number byte c
 
-  content-of : (c : List ℕ) → f ≡ fragmentBy (hmac (unitKey (keysOf h) number)) (sizeOf (h .agreed .mac)) number byte c → contentIn h f ≡ c
+  content-of : (c : List ℕ) → f ≡ fragmentBy (hmac (unitKey (keysOf h) number)) (sizeOf (h .agreed .mac)) number byte c
+      → contentIn h f ≡ c
   content-of c e = ap (contentIn h) e ∙ content-before (unitKey (keysOf h) number) (h .agreed .mac) number byte c
 
   module _ (p : Bool) where
@@ -135,7 +141,8 @@ module _ (h : Handshake) (numbers random : List ℕ) (window : h .window ≡ win
 
     -- ---- each way out has its reason
 
-    heard-a : (content : Content) → Greets h (seen content) → (x : Heard) → HeardHolds f (h .session .id) x → AnswerHolds (Why content) (heardTo h random f x .answer)
+    heard-a : (content : Content) → Greets h (seen content) → (x : Heard) → HeardHolds f (h .session .id) x
+        → AnswerHolds (Why content) (heardTo h random f x .answer)
     heard-a content g (H.Accepted plan) w = tt
     heard-a content g (H.Unacceptable condition) w = (g, w)
     heard-a content g (H.Malformed fault) w = bad-hello g w
@@ -144,7 +151,8 @@ module _ (h : Handshake) (numbers random : List ℕ) (window : h .window ≡ win
     unfolding greetedBy
     greet-a content g = heard-a content g (heardOf f (h .session .id)) (heard-holds f (h .session .id) bytes)
 
-    again-a : (content : Content) → IsHello (seen content) → at ≡ 0 → Hears (h .state) → AnswerHolds (Why content) (greetedAgain h random f .answer)
+    again-a : (content : Content) → IsHello (seen content) → at ≡ 0 → Hears (h .state)
+        → AnswerHolds (Why content) (greetedAgain h random f .answer)
     unfolding greetedAgain
     again-a content i z s =
         decide (isKept (h .kept) f) (λ e. rw e tt)
@@ -153,25 +161,29 @@ module _ (h : Handshake) (numbers random : List ℕ) (window : h .window ≡ win
         (greet-a content (record {
           hello = i;
           first = z;
-          another = inr (s, λ k. let t : true ≡ false = sym (equal-same f (keptHello h) k) ∙ e in let n : _≡_ {A = ℕ} 0 1 = cc in omega arith);
+          another = inr (s, λ k. clash (sym (equal-same f (keptHello h) k) ∙ e));
         })))
 
-    change-a : (content : Content) → h .state ≡ S.Replied → p ≡ false → numberOf content ≡ 1 → AnswerHolds (Why content) (changedBy h f .answer)
+    change-a : (content : Content) → h .state ≡ S.Replied → p ≡ false → numberOf content ≡ 1
+        → AnswerHolds (Why content) (changedBy h f .answer)
     unfolding changedBy
     change-a content s c n = decide (isChange f) (λ e. rw e tt) (λ e. rw e (bad-change s c n (change-not f e)))
 
-    hear-a : (content : Content) → Hears (h .state) → p ≡ false → numberOf content ≡ 2 → AnswerHolds (Why content) (heardAlert h f .answer)
+    hear-a : (content : Content) → Hears (h .state) → p ≡ false → numberOf content ≡ 2
+        → AnswerHolds (Why content) (heardAlert h f .answer)
     unfolding heardAlert
     hear-a content s c n = go (alertOf f) (alert-holds f)
       where
         go : (x : Reading) → AlertHolds f x → AnswerHolds (Why content) (heardBy h x .answer)
         go R.Malformed w = bad-alert s c n w
         go (R.WellFormed a) w =
-            decide (eqb (a .checksum) (h .sending .last)) (λ e. rw e (clear-level (Why content) h (a .level) (a .description)))
+            decide (eqb (a .checksum) (h .sending .last))
+            (λ e. rw e (clear-level (Why content) h (a .level) (a .description)))
             (λ e. rw e (s, c, n, w .0, λ k. eqb-false (a .checksum) (h .sending .last) e (w .1 ∙ k)))
 
     -- the content of a genuine new record, in the handshake g with its mark
-    content-a : (content : Content) (g : Handshake) (c : List ℕ) → g .agreed ≡ h .agreed → Fresh h numbers (seen content) c
+    content-a : (content : Content) (g : Handshake) (c : List ℕ) → g .agreed ≡ h .agreed
+        → Fresh h numbers (seen content) c
         → AnswerHolds (Why content) (contentBy g (sealedKind content) number place c .answer)
     unfolding contentBy alertedBy verifiedBy
     content-a C.ChangeCipherSpec g c same fresh = bad-sealed-change c fresh refl
@@ -180,16 +192,19 @@ module _ (h : Handshake) (numbers random : List ℕ) (window : h .window ≡ win
         go : (x : Reading) → AlertHolds c x → AnswerHolds (Why C.Alert) (alertedTo g x .answer)
         go R.Malformed w = bad-sealed-alert c fresh refl w
         go (R.WellFormed a) w = sealed-level (Why C.Alert) g (a .level) (a .description)
-    content-a C.Handshake g c same fresh = go (judgedOf c (g .agreed .expected)) (finished-holds c (g .agreed .expected))
+    content-a C.Handshake g c same fresh = go (judgedOf c (g .agreed .expected))
+        (finished-holds c (g .agreed .expected))
       where
-        go : (x : Verified) → FinishedHolds c (g .agreed .expected) x → AnswerHolds (Why C.Handshake) (verifiedTo g x .answer)
+        go : (x : Verified) → FinishedHolds c (g .agreed .expected) x
+            → AnswerHolds (Why C.Handshake) (verifiedTo g x .answer)
         go F.Right w = finished-in (Why C.Handshake) g (g .state)
         go F.Wrong w = (c, fresh, refl, w .0, λ e. w .1 (e ∙ ap (λ a. a .expected) (sym same)))
         go F.Malformed w = bad-message c fresh refl w
     content-a C.Data g c same fresh =
         decide (eqb (length c) 0) (λ e. rw e (empty-data c fresh refl (eqb-true (length c) 0 e))) (λ e. rw e tt)
 
-    window-a : (content : Content) (c : List ℕ) → Guarded (h .state) (seen content) → CodedAs (keysOf h) (seen content) c → (x : Acceptance) → acceptOf 32 (h .window) number ≡ x
+    window-a : (content : Content) (c : List ℕ) → Guarded (h .state) (seen content)
+        → CodedAs (keysOf h) (seen content) c → (x : Acceptance) → acceptOf 32 (h .window) number ≡ x
         → AnswerHolds (Why content) (windowedTo h (sealedKind content) number place c x .answer)
     window-a content c g k A.TooOld e = (g, (c, k), old-means 32 numbers number (sym by-history ∙ e))
     window-a content c g k A.Repeated e =
@@ -198,19 +213,20 @@ module _ (h : Handshake) (numbers random : List ℕ) (window : h .window ≡ win
         let m = new-means 32 numbers number w arrived (sym by-history ∙ e) in
         content-a content (withWindow h w) c refl (record { guarded = g; coded = k; recent = m .0; unseen = m .1 })
 
-    unseal-a : (content : Content) → Guarded (h .state) (seen content) → AnswerHolds (Why content) (unsealedBy h (sealedKind content) byte number place f .answer)
+    unseal-a : (content : Content) → Guarded (h .state) (seen content)
+        → AnswerHolds (Why content) (unsealedBy h (sealedKind content) byte number place f .answer)
     unfolding unsealedBy
     unseal-a content g =
         decide (genuineIn h byte number f)
         (λ e. rw e (window-a content (contentIn h f) g (made-of e) (acceptOf 32 (h .window) number) refl))
-        (λ e. rw e (g, λ c k. let t : true ≡ false = sym (of-made c k) ∙ e in let n : _≡_ {A = ℕ} 0 1 = cc in omega arith))
+        (λ e. rw e (g, λ c k. clash (sym (of-made c k) ∙ e)))
 
     -- a ClientHello that is not first in its datagram
     late-not : (content : Content) → IsHello (seen content) → at ≢ 0 → Allowed (h .state) (seen content) → ⊥
     late-not content i z (hello s j e) = z e
     late-not content i z (change s c n) = omega (arith, i .handshake)
     late-not content i z (alert s c n) = omega (arith, i .handshake)
-    late-not content i z (guarded g) = let t : true ≡ false = sym (g .protection) ∙ i .clear in let n : _≡_ {A = ℕ} 0 1 = cc in omega arith
+    late-not content i z (guarded g) = clash (sym (g .protection) ∙ i .clear)
 
     awaits-not : (h .state ≡ S.Idle) ⊎ Hears (h .state) → Over (h .state) → ⊥
     awaits-not (inl a) (inl b) = let n : _≡_ {A = ℕ} 0 1 = cc in omega arith
@@ -225,7 +241,8 @@ module _ (h : Handshake) (numbers random : List ℕ) (window : h .window ≡ win
     awaits-closed (inr (inl a)) b = let n : _≡_ {A = ℕ} 0 1 = cc in omega arith
     awaits-closed (inr (inr a)) b = let n : _≡_ {A = ℕ} 0 1 = cc in omega arith
 
-    late : (content : Content) → (h .state ≡ S.Idle) ⊎ Hears (h .state) → IsHello (seen content) → at ≢ 0 → Why content X.NotAllowed
+    late : (content : Content) → (h .state ≡ S.Idle) ⊎ Hears (h .state) → IsHello (seen content) → at ≢ 0
+        → Why content X.NotAllowed
     late content s i z = (awaits-not s, λ o j. awaits-closed s o, late-not content i z)
 
     module _ (content : Content) (one : Bool) (first : eqb (getD f 0 0) 1 ≡ one) where
@@ -235,7 +252,8 @@ module _ (h : Handshake) (numbers random : List ℕ) (window : h .window ≡ win
       abbrev ruled : Rule → Judged
       ruled rule = ruledBy h random rule kind byte number at place f
 
-      rule-a : (rule : Rule) → RuleHolds byte number f at (h .state) content p one first rule → AnswerHolds (Why content) (ruled rule .answer)
+      rule-a : (rule : Rule) → RuleHolds byte number f at (h .state) content p one first rule
+          → AnswerHolds (Why content) (ruled rule .answer)
       unfolding ruledBy
       rule-a T.Ended w = w
       rule-a T.NotAllowed w = w
@@ -245,11 +263,13 @@ module _ (h : Handshake) (numbers random : List ℕ) (window : h .window ≡ win
           (λ e. rw e (greet-a content (record { hello = i; first = eqb-true at 0 e; another = inl s })))
           (λ e. rw e (late content (inl s) i (eqb-false at 0 e)))
       rule-a T.GreetAgain (s, i) =
-          decide (eqb at 0) (λ e. rw e (again-a content i (eqb-true at 0 e) s)) (λ e. rw e (late content (inr s) i (eqb-false at 0 e)))
+          decide (eqb at 0) (λ e. rw e (again-a content i (eqb-true at 0 e) s))
+          (λ e. rw e (late content (inr s) i (eqb-false at 0 e)))
       rule-a T.Change (s, c, n) = change-a content s c n
       rule-a T.Hear (s, c, n) = hear-a content s c n
       rule-a T.Unseal g =
-          subst (λ k. AnswerHolds (Why content) (unsealedBy h k byte number place f .answer)) (sym (kind-sealed content p one (g .protection)))
+          subst (λ k. AnswerHolds (Why content) (unsealedBy h k byte number place f .answer))
+          (sym (kind-sealed content p one (g .protection)))
           (unseal-a content g)
 
       abbrev verdict : Judged
@@ -266,9 +286,11 @@ module _ (h : Handshake) (numbers random : List ℕ) (window : h .window ≡ win
       -- 8
       not-allowed-b : Why content X.NotAllowed → verdict .answer ≡ W.Refused X.NotAllowed
       unfolding ruledBy
-      not-allowed-b (ended, opened, none) = go (ruleOf (h .state) kind) (rule-holds byte number f at (h .state) content p one first)
+      not-allowed-b (ended, opened, none) = go (ruleOf (h .state) kind)
+          (rule-holds byte number f at (h .state) content p one first)
         where
-          go : (rule : Rule) → RuleHolds byte number f at (h .state) content p one first rule → ruled rule .answer ≡ W.Refused X.NotAllowed
+          go : (rule : Rule) → RuleHolds byte number f at (h .state) content p one first rule
+              → ruled rule .answer ≡ W.Refused X.NotAllowed
           go T.Ended w = absurd (ended w)
           go T.NotAllowed w = refl
           go T.HelloWhileOpen (s, i) = absurd (opened s i)
@@ -286,7 +308,8 @@ module _ (h : Handshake) (numbers random : List ℕ) (window : h .window ≡ win
       greeted g = go (g .another)
         where
           go : (h .state ≡ S.Idle) ⊎ (Hears (h .state) × (f ≢ keptHello h)) → verdict ≡ greetedBy h random f
-          go (inl s) = by-rule T.Greet (idle-rule byte number f at (h .state) content p one first s (g .hello)) ∙ rw (eq-eqb at 0 (g .first)) refl
+          go (inl s) = by-rule T.Greet (idle-rule byte number f at (h .state) content p one first s (g .hello))
+              ∙ rw (eq-eqb at 0 (g .first)) refl
           go (inr (s, n)) =
               by-rule T.GreetAgain (hears-rule byte number f at (h .state) content p one first s (g .hello))
               ∙ rw (eq-eqb at 0 (g .first), differ-same f (keptHello h) n) refl
@@ -299,7 +322,8 @@ module _ (h : Handshake) (numbers random : List ℕ) (window : h .window ≡ win
           ∙ ap (λ k. unsealedBy h k byte number place f) (kind-sealed content p one (g .protection))
 
       -- .. whose code is not right
-      forged-b : Guarded (h .state) (seen content) → ((c : List ℕ) → CodedAs (keysOf h) (seen content) c → ⊥) → verdict ≡ refusing X.Forged h
+      forged-b : Guarded (h .state) (seen content) → ((c : List ℕ) → CodedAs (keysOf h) (seen content) c → ⊥)
+          → verdict ≡ refusing X.Forged h
       unfolding unsealedBy
       forged-b g n =
           unsealed g ∙ decide (genuineIn h byte number f) (λ e. absurd (n (contentIn h f) (made-of e))) (λ e. rw e refl)
@@ -331,7 +355,8 @@ module _ (h : Handshake) (numbers random : List ℕ) (window : h .window ≡ win
           let (fault, e) = not-hello f (h .session .id) bytes n in
           ap (λ j. j .answer) (greeted g) ∙ ap (λ x. heardTo h random f x .answer) e
       malformed-b (bad-change s c n w) =
-          ap (λ j. j .answer) (by-rule T.Change (change-rule byte number f at (h .state) content p one first s c n)) ∙ rw (not-change f w) refl
+          ap (λ j. j .answer) (by-rule T.Change (change-rule byte number f at (h .state) content p one first s c n))
+          ∙ rw (not-change f w) refl
       malformed-b (bad-alert s c n w) =
           ap (λ j. j .answer) (by-rule T.Hear (alert-rule byte number f at (h .state) content p one first s c n))
           ∙ ap (λ x. heardBy h x .answer) (not-alert f w)
@@ -353,15 +378,18 @@ module _ (h : Handshake) (numbers random : List ℕ) (window : h .window ≡ win
 
       pub because : (x : Refusal) → Why content x → verdict .answer ≡ W.Refused x
       unfolding ruledBy greetedBy heardAlert contentBy verifiedBy
-      because X.Ended w = ap (λ j. j .answer) (by-rule T.Ended (over-rule byte number f at (h .state) content p one first w))
+      because X.Ended w = ap (λ j. j .answer) (by-rule T.Ended
+          (over-rule byte number f at (h .state) content p one first w))
       because X.HelloWhileOpen (s, i) =
           ap (λ j. j .answer) (by-rule T.HelloWhileOpen (open-rule byte number f at (h .state) content p one first s i))
       because X.NotAllowed w = not-allowed-b w
       because X.Forged (g, n) = ap (λ j. j .answer) (forged-b g n)
       because X.TooOld (g, (c, k), l) =
-          ap (λ j. j .answer) (windowed g c k) ∙ ap (λ x. windowedTo h (sealedKind content) number place c x .answer) (old-when 32 numbers number l)
+          ap (λ j. j .answer) (windowed g c k) ∙ ap (λ x. windowedTo h (sealedKind content) number place c x .answer)
+          (old-when 32 numbers number l)
       because X.Repeated (g, (c, k), l, a) =
-          ap (λ j. j .answer) (windowed g c k) ∙ ap (λ x. windowedTo h (sealedKind content) number place c x .answer) (repeated-when 32 numbers number l a)
+          ap (λ j. j .answer) (windowed g c k) ∙ ap (λ x. windowedTo h (sealedKind content) number place c x .answer)
+          (repeated-when 32 numbers number l a)
       because X.Malformed w = malformed-b w
       because X.Unacceptable (g, (w, n)) =
           let (condition, e) = not-acceptable f (h .session .id) w n in
@@ -414,24 +442,34 @@ seen-is d r o =
     let s : Stands (drop at d) (placedAt r 0) = l .stand in
     let byte-e : r .byte ≡ typeAt d at = s .byte ∙ byte-is d at in
     let kind-e : kindOf (getD (drop at d) 0 0) ≡ kindOf (typeAt d at) = ap kindOf (byte-is d at) in
-    let protected-e : r .protected ≡ bit 2 (typeAt d at) = s .protected ∙ ap (λ k. k .protected) kind-e ∙ protected-of (typeAt d at) in
+    let protected-e : r .protected ≡ bit 2 (typeAt d at) = s .protected ∙ ap (λ k. k .protected) kind-e
+    ∙ protected-of (typeAt d at) in
     let bounds : (1 ≤ typeAt d at % 16) × (typeAt d at % 16 ≤ 4) =
-    by-type d at (λ w. let t : true ≡ false = sym (s .kind) ∙ wrong-type d at w in let n : _≡_ {A = ℕ} 0 1 = cc in absurd (omega arith)) (λ g. (g .2, g .3)) in
+    by-type d at (λ w. clash (sym (s .kind) ∙ wrong-type d at w)) (λ g. (g .2, g .3)) in
     let content-e : numberOf (r .content) ≡ typeAt d at % 16 =
     ap numberOf (s .content ∙ ap contentOf (ap (λ k. k .content) kind-e ∙ content-of-byte (typeAt d at)))
     ∙ content-number (typeAt d at % 16) (bounds .0) (bounds .1) in
     let number-e : r .number ≡ pairAt d (at + 1) = s .number ∙ number-is d at in
     let fragment-e : fragmentOf d r ≡ take (sizeAt d at) (drop (at + headAt d at) d) =
     ap₂ (λ n k. take n (drop (at + k) d)) (s .size ∙ size-is d at) (s .head ∙ head-is d at) in
-    λ i. record { byte = byte-e i; protected = protected-e i; content = content-e i; number = number-e i; fragment = fragment-e i; at = at }
+    λ i. record {
+      byte = byte-e i;
+      protected = protected-e i;
+      content = content-e i;
+      number = number-e i;
+      fragment = fragment-e i;
+      at = at;
+    }
 
 judged-by : (h : Handshake) (random d : List ℕ) (r : Record)
     → judgedRecord h random d r
-    ≡ ruledBy h random (ruleOf (h .state) (kindBy (r .content) (r .protected) (eqb (getD (fragmentOf d r) 0 0) 1))) (kindBy (r .content) (r .protected) (eqb (getD (fragmentOf d r) 0 0) 1))
+    ≡ ruledBy h random (ruleOf (h .state) (kindBy (r .content) (r .protected) (eqb (getD (fragmentOf d r) 0 0) 1)))
+    (kindBy (r .content) (r .protected) (eqb (getD (fragmentOf d r) 0 0) 1))
     (r .byte) (r .number) (r .start) (r .start + r .head) (fragmentOf d r)
 unfolding judgedRecord
 judged-by h random d r =
-    ap (λ k. ruledBy h random (ruleOf (h .state) k) k (r .byte) (r .number) (r .start) (r .start + r .head) (fragmentOf d r))
+    ap (λ k. ruledBy h random (ruleOf (h .state) k) k (r .byte) (r .number) (r .start) (r .start + r .head)
+    (fragmentOf d r))
     (kind-by (r .content) (r .protected) (getD (fragmentOf d r) 0 0))
 
 pub exactly-record : ExactlyRecord
@@ -445,9 +483,11 @@ exactly-record h numbers random d r all o window x =
       λ e.
           subst (λ s. WhyRecord h numbers s x) (seen-is d r o)
           (subst (AnswerHolds (WhyRecord h numbers q)) (sym same ∙ e)
-          (verdict-holds h numbers random window (r .byte) (r .number) (r .start + r .head) (r .start) f b (r .protected) (r .content) one refl)),
+          (verdict-holds h numbers random window (r .byte) (r .number) (r .start + r .head) (r .start) f b
+          (r .protected) (r .content) one refl)),
       λ w.
           same
-          ∙ because h numbers random window (r .byte) (r .number) (r .start + r .head) (r .start) f b (r .protected) (r .content) one refl x
+          ∙ because h numbers random window (r .byte) (r .number) (r .start + r .head) (r .start) f b (r .protected)
+          (r .content) one refl x
           (subst (λ s. WhyRecord h numbers s x) (sym (seen-is d r o)) w),
     )

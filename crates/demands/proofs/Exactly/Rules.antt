@@ -1,5 +1,6 @@
--- The state table by the bytes. The idea: what a record is, as the definitions sort it, is decided by its protected bit, its content number
--- and its first byte; so each rule of the table has its reason there, and each reason its rule.
+-- The state table by the bytes. The idea: what a record is, as the definitions sort it, is decided by its protected
+-- bit, its content number and its first byte; so each rule of the table has its reason there, and each reason its
+-- rule.
 use mathlib.Core.Path.{_≡_, refl, sym, ap, subst, _∙_}
 use mathlib.Core.Logic.{_⊎_, _≢_, inl, inr}
 use mathlib.Core.Bool.{Bool, true, false}
@@ -26,7 +27,14 @@ use Rattle.demands.specs.Exactly.Record.{Seen, IsHello, Hears, Guarded, 
 -- what a record's fields say of its bytes
 abbrev pub seenOf : ℕ → Bool → Content → ℕ → List ℕ → ℕ → Seen
 seenOf byte protected content number fragment at =
-    record { byte = byte; protected = protected; content = numberOf content; number = number; fragment = fragment; at = at }
+    record {
+      byte = byte;
+      protected = protected;
+      content = numberOf content;
+      number = number;
+      fragment = fragment;
+      at = at;
+    }
 
 -- the kind, with the test of the first byte as it came out
 abbrev pub kindBy : Content → Bool → Bool → Kind
@@ -39,7 +47,8 @@ kindBy C.Handshake true one = K.SealedHandshake
 kindBy C.Data false one = K.OtherClear
 kindBy C.Data true one = K.SealedData
 
-pub kind-by : (content : Content) (protected : Bool) (first : ℕ) → kindOf content protected first ≡ kindBy content protected (eqb first 1)
+pub kind-by : (content : Content) (protected : Bool) (first : ℕ)
+    → kindOf content protected first ≡ kindBy content protected (eqb first 1)
 kind-by C.ChangeCipherSpec false first = refl
 kind-by C.ChangeCipherSpec true first = refl
 kind-by C.Alert false first = refl
@@ -157,16 +166,22 @@ module _ (byte number : ℕ) (f : List ℕ) (at : ℕ) where
     RuleHolds T.Unseal = Guarded state q
 
     not-allowed : rule ≡ T.NotAllowed → Allowed state q → ⊥
-    not-allowed e (hello (inl s) i z) = let t : T.NotAllowed ≡ T.Greet = sym e ∙ idle-rule s i in let n : _≡_ {A = ℕ} 0 1 = cc in omega arith
-    not-allowed e (hello (inr s) i z) = let t : T.NotAllowed ≡ T.GreetAgain = sym e ∙ hears-rule s i in let n : _≡_ {A = ℕ} 0 1 = cc in omega arith
-    not-allowed e (change s c n) = let t : T.NotAllowed ≡ T.Change = sym e ∙ change-rule s c n in let z : _≡_ {A = ℕ} 0 1 = cc in omega arith
-    not-allowed e (alert s c n) = let t : T.NotAllowed ≡ T.Hear = sym e ∙ alert-rule s c n in let z : _≡_ {A = ℕ} 0 1 = cc in omega arith
-    not-allowed e (guarded g) = let t : T.NotAllowed ≡ T.Unseal = sym e ∙ guarded-rule g in let z : _≡_ {A = ℕ} 0 1 = cc in omega arith
+    not-allowed e (hello (inl s) i z) = let t : T.NotAllowed ≡ T.Greet = sym e
+        ∙ idle-rule s i in let n : _≡_ {A = ℕ} 0 1 = cc in omega arith
+    not-allowed e (hello (inr s) i z) = let t : T.NotAllowed ≡ T.GreetAgain = sym e
+        ∙ hears-rule s i in let n : _≡_ {A = ℕ} 0 1 = cc in omega arith
+    not-allowed e (change s c n) = let t : T.NotAllowed ≡ T.Change = sym e
+        ∙ change-rule s c n in let z : _≡_ {A = ℕ} 0 1 = cc in omega arith
+    not-allowed e (alert s c n) = let t : T.NotAllowed ≡ T.Hear = sym e
+        ∙ alert-rule s c n in let z : _≡_ {A = ℕ} 0 1 = cc in omega arith
+    not-allowed e (guarded g) = let t : T.NotAllowed ≡ T.Unseal = sym e
+        ∙ guarded-rule g in let z : _≡_ {A = ℕ} 0 1 = cc in omega arith
 
     none-of : rule ≡ T.NotAllowed → RuleHolds T.NotAllowed
     none-of e = (
       λ o. let t : T.NotAllowed ≡ T.Ended = sym e ∙ over-rule o in let z : _≡_ {A = ℕ} 0 1 = cc in omega arith,
-      λ s i. let t : T.NotAllowed ≡ T.HelloWhileOpen = sym e ∙ open-rule s i in let z : _≡_ {A = ℕ} 0 1 = cc in omega arith,
+      λ s i. let t : T.NotAllowed ≡ T.HelloWhileOpen = sym e
+          ∙ open-rule s i in let z : _≡_ {A = ℕ} 0 1 = cc in omega arith,
       not-allowed e,
     )
 

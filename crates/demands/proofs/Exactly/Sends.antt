@@ -1,5 +1,5 @@
--- The refusals of the sends, exactly when. The idea: the tests of each send in their order; each test that is passed is a fact that
--- the later reasons carry.
+-- The refusals of the sends, exactly when. The idea: the tests of each send in their order; each test that is passed
+-- is a fact that the later reasons carry.
 use mathlib.Core.Path.{_≡_, refl, sym, ap, subst, _∙_}
 use mathlib.Core.Logic.{_↔_, _⊎_, inl, inr}
 use mathlib.Core.Bool.{Bool, true, false}
@@ -62,12 +62,16 @@ goes-out number size room h l = rw (le-ltb 65535 number h, le-ltb room size l) r
 
 -- by the number and the room
 by-number : (P : Outcome → Type 0) (number size room : ℕ) → (65535 < number → P (Refused X.Spent))
-    → (number ≤ 65535 → room < size → P (Refused X.Room)) → (number ≤ 65535 → size ≤ room → P Done) → P (numberedBy number size room)
+    → (number ≤ 65535 → room < size → P (Refused X.Room)) → (number ≤ 65535 → size ≤ room → P Done)
+    → P (numberedBy number size room)
 by-number P number size room a b c =
-    decide (ltb 65535 number) (λ e. subst P (sym (spent number size room (ltb-true 65535 number e))) (a (ltb-true 65535 number e)))
+    decide (ltb 65535 number) (λ e. subst P (sym (spent number size room (ltb-true 65535 number e)))
+    (a (ltb-true 65535 number e)))
     (λ e. decide (ltb room size)
-    (λ f. subst P (sym (no-room number size room (ltb-false 65535 number e) (ltb-true room size f))) (b (ltb-false 65535 number e) (ltb-true room size f)))
-    (λ f. subst P (sym (goes-out number size room (ltb-false 65535 number e) (ltb-false room size f))) (c (ltb-false 65535 number e) (ltb-false room size f))))
+    (λ f. subst P (sym (no-room number size room (ltb-false 65535 number e) (ltb-true room size f)))
+    (b (ltb-false 65535 number e) (ltb-true room size f)))
+    (λ f. subst P (sym (goes-out number size room (ltb-false 65535 number e) (ltb-false room size f)))
+    (c (ltb-false 65535 number e) (ltb-false room size f))))
 
 -- ---- send data
 
@@ -79,7 +83,8 @@ module _ (state : State) (size number code room : ℕ) where
   Goes = DataGoes state size number code room
 
   -- past 16
-  data-past : DataFits size → dataRefused state size number code room ≡ andThen (mayData state) (numberedBy number (3 + size + code) room)
+  data-past : DataFits size → dataRefused state size number code room ≡ andThen (mayData state)
+      (numberedBy number (3 + size + code) room)
   unfolding dataRefused
   data-past f = rw (ne-eqb size 0 (λ e. omega (arith, f .0)), le-ltb 1300 size (f .1)) refl
 
@@ -92,7 +97,8 @@ module _ (state : State) (size number code room : ℕ) where
   data-much l = rw (ne-eqb size 0 (λ e. omega arith), lt-ltb 1300 size l) refl
 
   -- past 16, in a state
-  data-in : (s : State) → state ≡ s → DataFits size → dataRefused state size number code room ≡ andThen (mayData s) (numberedBy number (3 + size + code) room)
+  data-in : (s : State) → state ≡ s → DataFits size
+      → dataRefused state size number code room ≡ andThen (mayData s) (numberedBy number (3 + size + code) room)
   data-in s e f = data-past f ∙ ap (λ x. andThen (mayData x) (numberedBy number (3 + size + code) room)) e
 
   data-because : (x : Refusal) → Why x → dataRefused state size number code room ≡ Refused x
@@ -118,12 +124,14 @@ module _ (state : State) (size number code room : ℕ) where
   data-goes : Goes → dataRefused state size number code room ≡ Done
   data-goes (f, e, n, l) = data-in S.Open e f ∙ goes-out number (3 + size + code) room n l
 
-  data-state : (s : State) → state ≡ s → DataFits size → Holds Why Goes (andThen (mayData s) (numberedBy number (3 + size + code) room))
+  data-state : (s : State) → state ≡ s → DataFits size
+      → Holds Why Goes (andThen (mayData s) (numberedBy number (3 + size + code) room))
   data-state S.Idle e f = (f, inl e)
   data-state S.Replied e f = (f, inr (inl e))
   data-state S.Spec e f = (f, inr (inr e))
   data-state S.Open e f =
-      by-number (Holds Why Goes) number (3 + size + code) room (λ l. (f, e, l)) (λ n l. (f, e, n, l)) (λ n l. (f, e, n, l))
+      by-number (Holds Why Goes) number (3 + size + code) room (λ l. (f, e, l)) (λ n l. (f, e, n, l))
+      (λ n l. (f, e, n, l))
   data-state S.Closed e f = (f, inl e)
   data-state S.Barred e f = (f, inr e)
 
@@ -146,16 +154,21 @@ exactly-data =
           let n : ℕ = h .sending .protected in
           let z : ℕ = sizeOf (h .agreed .mac) in
           through (sent-refused c (afterProtected h next) next out (dataOutcome h (length bytes) (length out)) x)
-          (refused-when (WhyData (h .state) (length bytes) n z (length out)) (DataGoes (h .state) (length bytes) n z (length out)) (dataOutcome h (length bytes) (length out))
-          (data-holds (h .state) (length bytes) n z (length out)) (data-because (h .state) (length bytes) n z (length out)) x);
+          (refused-when (WhyData (h .state) (length bytes) n z (length out))
+          (DataGoes (h .state) (length bytes) n z (length out)) (dataOutcome h (length bytes) (length out))
+          (data-holds (h .state) (length bytes) n z (length out))
+          (data-because (h .state) (length bytes) n z (length out)) x);
       goes = λ c bytes out.
           let h : Handshake = c .handshake in
           let next : List ℕ = nextProtected h C.Data bytes in
           let n : ℕ = h .sending .protected in
           let z : ℕ = sizeOf (h .agreed .mac) in
-          through (sent-done c (afterProtected h next) next out (dataOutcome h (length bytes) (length out)) (3 + length bytes + z) (next-size h C.Data bytes))
-          (done-when (WhyData (h .state) (length bytes) n z (length out)) (DataGoes (h .state) (length bytes) n z (length out)) (dataOutcome h (length bytes) (length out))
-          (data-holds (h .state) (length bytes) n z (length out)) (data-goes (h .state) (length bytes) n z (length out)));
+          through (sent-done c (afterProtected h next) next out (dataOutcome h (length bytes) (length out))
+          (3 + length bytes + z) (next-size h C.Data bytes))
+          (done-when (WhyData (h .state) (length bytes) n z (length out))
+          (DataGoes (h .state) (length bytes) n z (length out)) (dataOutcome h (length bytes) (length out))
+          (data-holds (h .state) (length bytes) n z (length out))
+          (data-goes (h .state) (length bytes) n z (length out)));
     }
 
 -- ---- a level and a description, known or not
@@ -202,7 +215,8 @@ alert-refused : (c : Connection) (sealed : Bool) (answered out : List ℕ) (g : 
     ↔ (alertOutcomeIn sealed (c .handshake) (length answered) (length out) g s ≡ Refused x)
 alert-refused c sealed answered out (G.Is level) (D.Assigned description) x =
     let next : List ℕ = nextAlert sealed (c .handshake) (alertBody level description answered) in
-    sent-refused c (afterAlert sealed (c .handshake) next) next out (alertOutcome sealed (c .handshake) (length answered) (length out)) x
+    sent-refused c (afterAlert sealed (c .handshake) next) next out
+    (alertOutcome sealed (c .handshake) (length answered) (length out)) x
 alert-refused c sealed answered out (G.Is level) D.Unassigned x = (λ e. cc, λ e. ap (λ z. sent z 0) e)
 alert-refused c sealed answered out G.Unassigned (D.Assigned description) x = (λ e. cc, λ e. ap (λ z. sent z 0) e)
 alert-refused c sealed answered out G.Unassigned D.Unassigned x = (λ e. cc, λ e. ap (λ z. sent z 0) e)
@@ -213,15 +227,20 @@ alert-size true h level description answered = next-size h C.Alert (alertBody le
 alert-size false h level description answered = clear-size h (alertBody level description answered)
 
 alert-done : (c : Connection) (sealed : Bool) (answered out : List ℕ) (g : Graded) (s : Sorted)
-    → (sentAs (alertSentAs c sealed answered (length out) g s) out .result ≡ sent Done (9 + alertCodeOf sealed (c .handshake)))
+    → (sentAs (alertSentAs c sealed answered (length out) g s) out .result ≡ sent Done
+    (9 + alertCodeOf sealed (c .handshake)))
     ↔ (alertOutcomeIn sealed (c .handshake) (length answered) (length out) g s ≡ Done)
 alert-done c sealed answered out (G.Is level) (D.Assigned description) =
     let next : List ℕ = nextAlert sealed (c .handshake) (alertBody level description answered) in
-    sent-done c (afterAlert sealed (c .handshake) next) next out (alertOutcome sealed (c .handshake) (length answered) (length out)) (9 + alertCodeOf sealed (c .handshake))
+    sent-done c (afterAlert sealed (c .handshake) next) next out
+    (alertOutcome sealed (c .handshake) (length answered) (length out)) (9 + alertCodeOf sealed (c .handshake))
     (alert-size sealed (c .handshake) level description answered)
-alert-done c sealed answered out (G.Is level) D.Unassigned = (λ e. cc, λ e. let z : _≡_ {A = ℕ} 0 1 = cc in absurd (omega arith))
-alert-done c sealed answered out G.Unassigned (D.Assigned description) = (λ e. cc, λ e. let z : _≡_ {A = ℕ} 0 1 = cc in absurd (omega arith))
-alert-done c sealed answered out G.Unassigned D.Unassigned = (λ e. cc, λ e. let z : _≡_ {A = ℕ} 0 1 = cc in absurd (omega arith))
+alert-done c sealed answered out (G.Is level) D.Unassigned =
+    (λ e. cc, λ e. let z : _≡_ {A = ℕ} 0 1 = cc in absurd (omega arith))
+alert-done c sealed answered out G.Unassigned (D.Assigned description) =
+    (λ e. cc, λ e. let z : _≡_ {A = ℕ} 0 1 = cc in absurd (omega arith))
+alert-done c sealed answered out G.Unassigned D.Unassigned =
+    (λ e. cc, λ e. let z : _≡_ {A = ℕ} 0 1 = cc in absurd (omega arith))
 
 -- by the sense, which states may
 abbrev may : Bool → State → Outcome
@@ -229,7 +248,8 @@ may true state = maySeal state
 may false state = mayClear state
 
 outcome-is : (sealed : Bool) (h : Handshake) (lent room : ℕ)
-    → alertOutcome sealed h lent room ≡ alertRefused (may sealed (h .state)) lent (alertNumberOf sealed h) (alertCodeOf sealed h) room
+    → alertOutcome sealed h lent room ≡ alertRefused (may sealed (h .state)) lent (alertNumberOf sealed h)
+    (alertCodeOf sealed h) room
 outcome-is true h lent room = refl
 outcome-is false h lent room = refl
 
@@ -251,7 +271,8 @@ module _ (sealed : Bool) (state : State) (level description lent number code roo
   unfolding alertRefused
   alert-much l = rw (lt-ltb 1400 lent l) refl
 
-  alert-in : (s : State) (o : Outcome) → state ≡ s → may sealed s ≡ o → lent ≤ 1400 → outcome ≡ andThen o (numberedBy number (9 + code) room)
+  alert-in : (s : State) (o : Outcome) → state ≡ s → may sealed s ≡ o → lent ≤ 1400
+      → outcome ≡ andThen o (numberedBy number (9 + code) room)
   alert-in s o e m l = alert-past l ∙ ap (λ x. andThen x (numberedBy number (9 + code) room)) (ap (may sealed) e ∙ m)
 
   may-done : (b : Bool) → AlertMay b state → may b state ≡ Done
@@ -280,8 +301,10 @@ module _ (sealed : Bool) (state : State) (level description lent number code roo
   alert-because X.Argument a b k (inr (inr (inr l))) = alert-much l
   alert-because X.Ended a b k (f, o) = alert-in state (Refused X.Ended) refl (may-over sealed o) (f .3)
   alert-because X.NotAllowed a b k (f, n) = alert-in state (Refused X.NotAllowed) refl (may-not sealed n) (f .3)
-  alert-because X.Spent a b k (f, m, l) = alert-in state Done refl (may-done sealed m) (f .3) ∙ spent number (9 + code) room l
-  alert-because X.Room a b k (f, m, n, l) = alert-in state Done refl (may-done sealed m) (f .3) ∙ no-room number (9 + code) room n l
+  alert-because X.Spent a b k (f, m, l) = alert-in state Done refl (may-done sealed m) (f .3)
+      ∙ spent number (9 + code) room l
+  alert-because X.Room a b k (f, m, n, l) = alert-in state Done refl (may-done sealed m) (f .3)
+      ∙ no-room number (9 + code) room n l
   alert-because (X.Framing fault) a b k w = absurd w
   alert-because X.Forged a b k w = absurd w
   alert-because X.TooOld a b k w = absurd w
@@ -312,37 +335,50 @@ module _ (sealed : Bool) (state : State) (level description lent number code roo
   alert-unknown X.WrongFinished bad w = absurd w
   alert-unknown X.HelloWhileOpen bad w = absurd w
 
-  alert-numbered : (f : AlertFits level description lent) → AlertMay sealed state → Holds WhyA GoesA (numberedBy number (9 + code) room)
+  alert-numbered : (f : AlertFits level description lent) → AlertMay sealed state
+      → Holds WhyA GoesA (numberedBy number (9 + code) room)
   alert-numbered f m =
       by-number (Holds WhyA GoesA) number (9 + code) room (λ l. (f, m, l)) (λ n l. (f, m, n, l)) (λ n l. (f, m, n, l))
 
 -- by sense and state
-alert-state : (sealed : Bool) (s : State) (level description lent number code room : ℕ) → AlertFits level description lent
-    → Holds (WhyAlert sealed s level description lent number code room) (AlertGoes sealed s level description lent number code room)
+alert-state : (sealed : Bool) (s : State) (level description lent number code room : ℕ)
+    → AlertFits level description lent
+    → Holds (WhyAlert sealed s level description lent number code room)
+    (AlertGoes sealed s level description lent number code room)
     (andThen (may sealed s) (numberedBy number (9 + code) room))
 alert-state true S.Idle level description lent number code room f = (f, refl)
-alert-state true S.Replied level description lent number code room f = alert-numbered true S.Replied level description lent number code room f (inl refl)
-alert-state true S.Spec level description lent number code room f = alert-numbered true S.Spec level description lent number code room f (inr (inl refl))
-alert-state true S.Open level description lent number code room f = alert-numbered true S.Open level description lent number code room f (inr (inr refl))
+alert-state true S.Replied level description lent number code room f
+    = alert-numbered true S.Replied level description lent number code room f (inl refl)
+alert-state true S.Spec level description lent number code room f
+    = alert-numbered true S.Spec level description lent number code room f (inr (inl refl))
+alert-state true S.Open level description lent number code room f
+    = alert-numbered true S.Open level description lent number code room f (inr (inr refl))
 alert-state true S.Closed level description lent number code room f = (f, inl refl)
 alert-state true S.Barred level description lent number code room f = (f, inr refl)
 alert-state false S.Idle level description lent number code room f = (f, inl refl)
-alert-state false S.Replied level description lent number code room f = alert-numbered false S.Replied level description lent number code room f (inl refl)
-alert-state false S.Spec level description lent number code room f = alert-numbered false S.Spec level description lent number code room f (inr refl)
+alert-state false S.Replied level description lent number code room f
+    = alert-numbered false S.Replied level description lent number code room f (inl refl)
+alert-state false S.Spec level description lent number code room f
+    = alert-numbered false S.Spec level description lent number code room f (inr refl)
 alert-state false S.Open level description lent number code room f = (f, inr refl)
 alert-state false S.Closed level description lent number code room f = (f, inl refl)
 alert-state false S.Barred level description lent number code room f = (f, inr refl)
 
-alert-holds : (sealed : Bool) (state : State) (level description lent number code room : ℕ) → 1 ≤ level → level ≤ 3 → isAssigned description ≡ true
-    → Holds (WhyAlert sealed state level description lent number code room) (AlertGoes sealed state level description lent number code room)
+alert-holds : (sealed : Bool) (state : State) (level description lent number code room : ℕ) → 1 ≤ level → level ≤ 3
+    → isAssigned description ≡ true
+    → Holds (WhyAlert sealed state level description lent number code room)
+    (AlertGoes sealed state level description lent number code room)
     (alertRefused (may sealed state) lent number code room)
 alert-holds sealed state level description lent number code room a b k =
-    let H : Outcome → Type 0 = Holds (WhyAlert sealed state level description lent number code room) (AlertGoes sealed state level description lent number code room) in
+    let H : Outcome → Type 0 = Holds (WhyAlert sealed state level description lent number code room)
+    (AlertGoes sealed state level description lent number code room) in
     decide (ltb 1400 lent)
-    (λ e. subst H (sym (alert-much sealed state level description lent number code room (ltb-true 1400 lent e))) (inr (inr (inr (ltb-true 1400 lent e)))))
+    (λ e. subst H (sym (alert-much sealed state level description lent number code room (ltb-true 1400 lent e)))
+    (inr (inr (inr (ltb-true 1400 lent e)))))
     (λ e.
     let f : AlertFits level description lent = (a, b, k, ltb-false 1400 lent e) in
-    subst H (sym (alert-past sealed state level description lent number code room (f .3))) (alert-state sealed state level description lent number code room f))
+    subst H (sym (alert-past sealed state level description lent number code room (f .3)))
+    (alert-state sealed state level description lent number code room f))
 
 -- all four: known level and description, or not
 module _ (sealed : Bool) (h : Handshake) (level description lent room : ℕ) where
@@ -376,13 +412,17 @@ module _ (sealed : Bool) (h : Handshake) (level description lent room : ℕ) whe
       → (x : Refusal) → WhyIn x → alertOutcomeIn sealed h lent room g s ≡ Refused x
   in-because (G.Is l) (D.Assigned d) (a, b) k x w =
       outcome-is sealed h lent room
-      ∙ alert-because sealed (h .state) level description lent (alertNumberOf sealed h) (alertCodeOf sealed h) room x a b k w
+      ∙ alert-because sealed (h .state) level description lent (alertNumberOf sealed h)
+      (alertCodeOf sealed h) room x a b k w
   in-because (G.Is l) D.Unassigned ab k x w =
-      alert-unknown sealed (h .state) level description lent (alertNumberOf sealed h) (alertCodeOf sealed h) room x (undescribed k) w
+      alert-unknown sealed (h .state) level description lent (alertNumberOf sealed h) (alertCodeOf sealed h) room x
+      (undescribed k) w
   in-because G.Unassigned (D.Assigned d) u k x w =
-      alert-unknown sealed (h .state) level description lent (alertNumberOf sealed h) (alertCodeOf sealed h) room x (unlevelled u) w
+      alert-unknown sealed (h .state) level description lent (alertNumberOf sealed h) (alertCodeOf sealed h) room x
+      (unlevelled u) w
   in-because G.Unassigned D.Unassigned u k x w =
-      alert-unknown sealed (h .state) level description lent (alertNumberOf sealed h) (alertCodeOf sealed h) room x (unlevelled u) w
+      alert-unknown sealed (h .state) level description lent (alertNumberOf sealed h) (alertCodeOf sealed h) room x
+      (unlevelled u) w
 
   in-goes : (g : Graded) (s : Sorted) → LevelHolds level g → SortedHolds (isAssigned description) s
       → GoesIn → alertOutcomeIn sealed h lent room g s ≡ Done
@@ -402,15 +442,21 @@ exactly-alert =
           let n : ℕ = length answered in
           let room : ℕ = length out in
           through (alert-refused c sealed answered out (levelOf level) (sortedOf description) x)
-          (refused-when (WhyIn sealed h level description n room) (GoesIn sealed h level description n room) (alertOutcomeIn sealed h n room (levelOf level) (sortedOf description))
-          (in-holds sealed h level description n room (levelOf level) (sortedOf description) (level-holds level) (sorted-holds description))
-          (in-because sealed h level description n room (levelOf level) (sortedOf description) (level-holds level) (sorted-holds description)) x);
+          (refused-when (WhyIn sealed h level description n room) (GoesIn sealed h level description n room)
+          (alertOutcomeIn sealed h n room (levelOf level) (sortedOf description))
+          (in-holds sealed h level description n room (levelOf level) (sortedOf description) (level-holds level)
+          (sorted-holds description))
+          (in-because sealed h level description n room (levelOf level) (sortedOf description) (level-holds level)
+          (sorted-holds description)) x);
       goes = λ c sealed level description answered out.
           let h : Handshake = c .handshake in
           let n : ℕ = length answered in
           let room : ℕ = length out in
           through (alert-done c sealed answered out (levelOf level) (sortedOf description))
-          (done-when (WhyIn sealed h level description n room) (GoesIn sealed h level description n room) (alertOutcomeIn sealed h n room (levelOf level) (sortedOf description))
-          (in-holds sealed h level description n room (levelOf level) (sortedOf description) (level-holds level) (sorted-holds description))
-          (in-goes sealed h level description n room (levelOf level) (sortedOf description) (level-holds level) (sorted-holds description)));
+          (done-when (WhyIn sealed h level description n room) (GoesIn sealed h level description n room)
+          (alertOutcomeIn sealed h n room (levelOf level) (sortedOf description))
+          (in-holds sealed h level description n room (levelOf level) (sortedOf description) (level-holds level)
+          (sorted-holds description))
+          (in-goes sealed h level description n room (levelOf level) (sortedOf description) (level-holds level)
+          (sorted-holds description)));
     }

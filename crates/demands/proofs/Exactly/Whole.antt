@@ -1,5 +1,5 @@
--- The refusals of a datagram as a whole, exactly when. The idea: behind n sound records the walk stands where record n begins; what it
--- finds there is said by the bytes, and a fault there is the fault of the whole.
+-- The refusals of a datagram as a whole, exactly when. The idea: behind n sound records the walk stands where record
+-- n begins; what it finds there is said by the bytes, and a fault there is the fault of the whole.
 use mathlib.Core.Path.{_≡_, refl, sym, ap, ap₂, subst, _∙_}
 use mathlib.Core.Logic.{_↔_, _⊎_, _≢_, inl, inr}
 use mathlib.Core.Bool.{Bool, true, false}
@@ -46,7 +46,8 @@ module _ (d : List ℕ) where
   unfolding framingFrom
   step-ninth at h = rw (ne-eqb (length (drop at d)) 0 (λ e. omega (arith, length-drop at d))) refl
 
-  step-fault : (room at : ℕ) (f : Fault) → at < length d → readOf (drop at d) ≡ Refused f → walk (suc room) at ≡ faulty f at
+  step-fault : (room at : ℕ) (f : Fault) → at < length d → readOf (drop at d) ≡ Refused f
+      → walk (suc room) at ≡ faulty f at
   unfolding framingFrom
   step-fault room at f h e = rw (ne-eqb (length (drop at d)) 0 (λ z. omega (arith, length-drop at d)), e) refl
 
@@ -56,9 +57,14 @@ module _ (d : List ℕ) where
   step-sound room at s =
       let r : Record = madeOf (drop at d) in
       let next : at + r .used ≡ at + headAt d at + sizeAt d at = omega (arith, used-is d at (s .begins)) in
-      let rest : framingFrom room (at + r .used) (drop (r .used) (drop at d)) ≡ walk room (at + headAt d at + sizeAt d at)
+      let rest : framingFrom room (at + r .used) (drop (r .used) (drop at d)) ≡ walk room
+      (at + headAt d at + sizeAt d at)
       = ap (framingFrom room (at + r .used)) (drop-drop (r .used) at d) ∙ ap (walk room) next in
-      rw (ne-eqb (length (drop at d)) 0 (λ z. omega (arith, length-drop at d, s .begins)), read-sound d at (s .begins) (s .right) (s .head) (s .some) (s .inside))
+      rw (
+        ne-eqb (length (drop at d)) 0 (λ z. omega (arith, length-drop at d, s .begins)),
+        read-sound d at (s .begins)
+            (s .right) (s .head) (s .some) (s .inside),
+      )
       (ap (after (placedAt r at ∷ [])) rest)
 
   -- ---- what the walk finds has its reason
@@ -75,13 +81,15 @@ module _ (d : List ℕ) where
     reached : (n at : ℕ) → SoundBefore d n → at ≡ startOf d n → at < length d → Reached d n at
     reached n at s e h = record { fits = fits; sound = s; here = e; begins = h }
 
-    walk-holds : (room n : ℕ) → n + room ≡ 8 → SoundBefore d n → startOf d n ≤ length d → FramingHolds n (walk room (startOf d n))
+    walk-holds : (room n : ℕ) → n + room ≡ 8 → SoundBefore d n → startOf d n ≤ length d
+        → FramingHolds n (walk room (startOf d n))
     unfolding startOf SoundBefore
     walk-holds zero n e s l =
         let at : ℕ = startOf d n in
         let eight : n ≡ 8 = omega arith in
         decide (eqb at (length d))
-        (λ z. subst (FramingHolds n) (sym (step-end zero at (eqb-true at (length d) z))) (n, omega arith, s, eqb-true at (length d) z, omega arith))
+        (λ z. subst (FramingHolds n) (sym (step-end zero at (eqb-true at (length d) z)))
+        (n, omega arith, s, eqb-true at (length d) z, omega arith))
         (λ z.
         let h : at < length d = omega (arith, eqb-false at (length d) z) in
         subst (FramingHolds n) (sym (step-ninth at h)) (subst (λ k. Reached d k at) eight (reached n at s refl h)))
@@ -89,15 +97,20 @@ module _ (d : List ℕ) where
         let at : ℕ = startOf d n in
         let few : n < 8 = omega arith in
         decide (eqb at (length d))
-        (λ z. subst (FramingHolds n) (sym (step-end (suc room) at (eqb-true at (length d) z))) (n, omega arith, s, eqb-true at (length d) z, omega arith))
+        (λ z. subst (FramingHolds n) (sym (step-end (suc room) at (eqb-true at (length d) z)))
+        (n, omega arith, s, eqb-true at (length d) z, omega arith))
         (λ z.
         let h : at < length d = omega (arith, eqb-false at (length d) z) in
         let here : Reached d n at = reached n at s refl h in
         by-record d at h
         (λ w. subst (FramingHolds n) (sym (step-fault room at F.Kind h (read-type d at h w))) (n, few, here, w))
-        (λ r p. subst (FramingHolds n) (sym (step-fault room at F.Header h (read-head d at h r p))) (n, few, here, r, p))
-        (λ r i w. subst (FramingHolds n) (sym (step-fault room at F.Fragment h (read-fragment d at h r i w))) (n, few, here, r, i, w))
-        (λ q. subst (FramingHolds n) (sym (step-sound room at q)) (after-holds n (placedAt (madeOf (drop at d)) at) (walk room (at + headAt d at + sizeAt d at)) (walk-holds room (suc n) (omega arith) (s, q) (q .inside)))))
+        (λ r p. subst (FramingHolds n) (sym (step-fault room at F.Header h (read-head d at h r p)))
+        (n, few, here, r, p))
+        (λ r i w. subst (FramingHolds n) (sym (step-fault room at F.Fragment h (read-fragment d at h r i w)))
+        (n, few, here, r, i, w))
+        (λ q. subst (FramingHolds n) (sym (step-sound room at q))
+        (after-holds n (placedAt (madeOf (drop at d)) at) (walk room (at + headAt d at + sizeAt d at))
+        (walk-holds room (suc n) (omega arith) (s, q) (q .inside)))))
 
     -- ---- and what the bytes say, the walk finds
 
@@ -110,22 +123,27 @@ module _ (d : List ℕ) where
     framing-holds = subst (FramingHolds 0) (sym whole-walk) (walk-holds 8 0 refl tt (omega arith))
 
   -- a fault behind n sound records is the fault of the whole
-  through-fault : (n room : ℕ) (f : Fault) (p : ℕ) → n + room ≡ 8 → SoundBefore d n → walk room (startOf d n) ≡ faulty f p
+  through-fault : (n room : ℕ) (f : Fault) (p : ℕ) → n + room ≡ 8 → SoundBefore d n
+      → walk room (startOf d n) ≡ faulty f p
       → framingFrom 8 0 d ≡ faulty f p
   unfolding startOf SoundBefore
-  through-fault zero room f p e s w = let eight : room ≡ 8 = omega arith in subst (λ k. framingFrom k 0 d ≡ faulty f p) eight w
+  through-fault zero room f p e s w = let eight : room ≡ 8 = omega arith in subst
+      (λ k. framingFrom k 0 d ≡ faulty f p) eight w
   through-fault (suc n) room f p e (s, q) w =
-      through-fault n (suc room) f p (omega arith) s (step-sound room (startOf d n) q ∙ ap (after (placedAt (madeOf (drop (startOf d n) d)) (startOf d n) ∷ [])) w)
+      through-fault n (suc room) f p (omega arith) s
+      (step-sound room (startOf d n) q ∙ ap (after (placedAt (madeOf (drop (startOf d n) d)) (startOf d n) ∷ [])) w)
 
   -- and so are the records behind n others
-  through-framed : (n room : ℕ) (more : List Record) → n + room ≡ 8 → SoundBefore d n → walk room (startOf d n) ≡ framed more
+  through-framed : (n room : ℕ) (more : List Record) → n + room ≡ 8 → SoundBefore d n
+      → walk room (startOf d n) ≡ framed more
       → (rs : List Record) × (framingFrom 8 0 d ≡ framed rs) × (length rs ≡ n + length more)
   unfolding startOf SoundBefore
   through-framed zero room more e s w =
       let eight : room ≡ 8 = omega arith in (more, subst (λ k. framingFrom k 0 d ≡ framed more) eight w, omega arith)
   through-framed (suc n) room more e (s, q) w =
       let r : Record = placedAt (madeOf (drop (startOf d n) d)) (startOf d n) in
-      let (rs, f, l) = through-framed n (suc room) (r ∷ more) (omega arith) s (step-sound room (startOf d n) q ∙ ap (after (r ∷ [])) w) in
+      let (rs, f, l) = through-framed n (suc room) (r ∷ more) (omega arith) s
+      (step-sound room (startOf d n) q ∙ ap (after (r ∷ [])) w) in
       (rs, f, omega arith)
 
   size-fault : (length d ≡ 0) ⊎ (1400 < length d) → framingOf d ≡ faulty F.Size 0
@@ -134,7 +152,8 @@ module _ (d : List ℕ) where
   size-fault (inr l) = rw (ne-eqb (length d) 0 (λ e. omega arith), lt-ltb 1400 (length d) l) refl
 
   -- the fault of the record where the walk stands
-  here-fault : (n at : ℕ) (f : Fault) → n < 8 → (h : Reached d n at) → readOf (drop at d) ≡ Refused f → framingOf d ≡ faulty f at
+  here-fault : (n at : ℕ) (f : Fault) → n < 8 → (h : Reached d n at) → readOf (drop at d) ≡ Refused f
+      → framingOf d ≡ faulty f at
   here-fault n at f few h e =
       let room : ℕ = 8 - suc n in
       whole-walk (h .fits)
@@ -148,12 +167,14 @@ module _ (d : List ℕ) where
       ∙ through-fault 8 0 F.Ninth at refl (h .sound) (ap (walk 0) (sym (h .here)) ∙ step-ninth at (h .begins))
   faulty-because F.Kind at (n, few, h, w) = here-fault n at F.Kind few h (read-type d at (h .begins) w)
   faulty-because F.Header at (n, few, h, r, p) = here-fault n at F.Header few h (read-head d at (h .begins) r p)
-  faulty-because F.Fragment at (n, few, h, r, l, w) = here-fault n at F.Fragment few h (read-fragment d at (h .begins) r l w)
+  faulty-because F.Fragment at (n, few, h, r, l, w) = here-fault n at F.Fragment few h
+      (read-fragment d at (h .begins) r l w)
 
   framed-because : (n : ℕ) → SoundlyFramed d n → (rs : List Record) × (framingOf d ≡ framed rs) × (length rs ≡ n)
   framed-because n h =
       let few : n ≤ 8 = h .few in
-      let (rs, f, l) = through-framed n (8 - n) [] (omega arith) (h .sound) (step-end (8 - n) (startOf d n) (h .whole)) in
+      let (rs, f, l) = through-framed n (8 - n) [] (omega arith) (h .sound)
+      (step-end (8 - n) (startOf d n) (h .whole)) in
       (rs, whole-walk (h .fits) ∙ f, omega arith)
 
   -- what the framing of a datagram says, its bytes say
@@ -169,13 +190,21 @@ module _ (d : List ℕ) where
   says-of : SizeFits d → (y : Framing) → FramingHolds 0 y → Says y
   says-of fits (framed rs) (m, e, s, z, l) =
       let all : m ≡ length rs = omega arith in
-      subst (SoundlyFramed d) all (record { fits = fits; some = some-records m z (fits .0); few = l; sound = s; whole = z })
+      subst (SoundlyFramed d) all (record {
+        fits = fits;
+        some = some-records m z (fits .0);
+        few = l;
+        sound = s;
+        whole = z;
+      })
   says-of fits (faulty f at) w = w
 
   framing-says : Says (framingOf d)
   framing-says =
-      decide (eqb (length d) 0) (λ e. let w = inl (eqb-true (length d) 0 e) in subst Says (sym (size-fault w)) (refl, w))
-      (λ e. decide (ltb 1400 (length d)) (λ l. let w = inr (ltb-true 1400 (length d) l) in subst Says (sym (size-fault w)) (refl, w))
+      decide (eqb (length d) 0) (λ e. let w = inl (eqb-true (length d) 0 e) in subst Says (sym (size-fault w))
+      (refl, w))
+      (λ e. decide (ltb 1400 (length d)) (λ l. let w = inr (ltb-true 1400 (length d) l) in subst Says
+      (sym (size-fault w)) (refl, w))
       (λ l.
       let fits : SizeFits d = (omega (arith, eqb-false (length d) 0 e), ltb-false 1400 (length d) l) in
       says-of fits (framingOf d) (framing-holds fits)))
@@ -222,13 +251,16 @@ module _ (c : Connection) (d random out : List ℕ) where
   result-holds =
       decide (eqb (length random) 16)
       (λ r. decide (ltb (length out) 128)
-      (λ o. let a = eqb-true (length random) 16 r in let b = ltb-true (length out) 128 o in subst H (sym (is-room a b)) (a, b))
+      (λ o. let a = eqb-true (length random) 16 r in let b = ltb-true (length out) 128 o in subst H (sym (is-room a b))
+      (a, b))
       (λ o.
-      let fits : CallFits (length random) (length out) = (eqb-true (length random) 16 r, ltb-false (length out) 128 o) in
+      let fits : CallFits (length random) (length out)
+      = (eqb-true (length random) 16 r, ltb-false (length out) 128 o) in
       subst H (sym (is-framed fits)) (by-holds fits (framingOf d) (framing-says d))))
       (λ r. let a = eqb-false (length random) 16 r in subst H (sym (is-argument a)) a)
 
-  whole-because : (x : Refusal) → WhyWhole (length random) (length out) x → result ≡ received (T.Refused x) (slotsOf []) 0
+  whole-because : (x : Refusal) → WhyWhole (length random) (length out) x
+      → result ≡ received (T.Refused x) (slotsOf []) 0
   whole-because X.Argument w = is-argument w
   whole-because X.Room (r, o) = is-room r o
   whole-because (X.Framing fault) w = absurd w
@@ -273,8 +305,12 @@ module _ (c : Connection) (d random out : List ℕ) where
       → (answers : List Slot) × (written : ℕ) × (result ≡ received (T.Records n) answers written)
   taken-because n fits s =
       let (rs, f, l) = framed-because d n s in
-      let r : Received = framedTo c random d (framed rs) in
-      (r .answers, r .written, is-framed fits ∙ ap resultBy f ∙ ap (λ t. received t (r .answers) (r .written)) (by-records rs ∙ ap T.Records l))
+      let r : Received = framedTo c random d (framed rs) in (
+        r .answers,
+        r .written,
+        is-framed fits ∙ ap resultBy f
+            ∙ ap (λ t. received t (r .answers) (r .written)) (by-records rs ∙ ap T.Records l),
+      )
 
 pub exactly-receive : ExactlyReceive stepOf
 exactly-receive =

@@ -1,5 +1,6 @@
--- 01, "Refusal numbers": "Receive: .. then one answer per record." The answer to record i of a datagram that is taken, from the call down to
--- the bytes: it refuses exactly for the reason that the bytes from the start of record i on give, in the handshake that the records before it left.
+-- 01, "Refusal numbers": "Receive: .. then one answer per record." The answer to record i of a datagram that is
+-- taken, from the call down to the bytes: it refuses exactly for the reason that the bytes from the start of record i
+-- on give, in the handshake that the records before it left.
 use mathlib.Core.Path.{_≡_}
 use mathlib.Core.Logic.{_↔_}
 use mathlib.Core.List.{List}
@@ -25,7 +26,9 @@ answerAt (called outcome) i = Nothing
 
 unfoldable pub ExactlyAnswers : Gateway → Type 0
 ExactlyAnswers g =
-    (c : Connection) (d random out : List ℕ) (rs : List Record) → Bytes d → CallFits (length random) (length out) → framingOf d ≡ framed rs
-    → (i : ℕ) → i < length rs → (numbers : List ℕ) → endOf (c .handshake) random d (take i rs) .window ≡ windowOf 32 numbers → (x : Refusal)
+    (c : Connection) (d random out : List ℕ) (rs : List Record) → Bytes d → CallFits (length random) (length out)
+    → framingOf d ≡ framed rs
+    → (i : ℕ) → i < length rs → (numbers : List ℕ)
+    → endOf (c .handshake) random d (take i rs) .window ≡ windowOf 32 numbers → (x : Refusal)
     → (answerAt (g c (receive d random out) .result) i ≡ Refused x)
     ↔ WhyRecord (endOf (c .handshake) random d (take i rs)) numbers (seenAt d (startOf d i)) x

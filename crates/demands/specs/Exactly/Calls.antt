@@ -1,4 +1,5 @@
--- 01, "Refusal numbers", of the calls without an output: "Start again: 7, then 8 unless Closed. Close: 7. Fresh connection: 16 only."
+-- 01, "Refusal numbers", of the calls without an output: "Start again: 7, then 8 unless Closed. Close: 7. Fresh
+-- connection: 16 only."
 use mathlib.Core.Path.{_≡_}
 use mathlib.Core.Logic.{_↔_, _⊎_, _≢_}
 use mathlib.Core.List.{List}
@@ -31,7 +32,8 @@ WhyStart state X.WrongFinished = ⊥
 WhyStart state X.HelloWhileOpen = ⊥
 
 pub record ExactlyStart (g : Gateway) : Type 0 where
-  pub refused : (c : Connection) (x : Refusal) → (g c start .result ≡ called (Refused x)) ↔ WhyStart (c .handshake .state) x
+  pub refused : (c : Connection) (x : Refusal) → (g c start .result ≡ called (Refused x))
+      ↔ WhyStart (c .handshake .state) x
   pub goes : (c : Connection) → (g c start .result ≡ called Done) ↔ (c .handshake .state ≡ Closed)
 
 -- close: 7 where Barred. "Close leads anywhere but Barred to Closed."
@@ -52,7 +54,8 @@ WhyClose state X.WrongFinished = ⊥
 WhyClose state X.HelloWhileOpen = ⊥
 
 pub record ExactlyClose (g : Gateway) : Type 0 where
-  pub refused : (c : Connection) (x : Refusal) → (g c close .result ≡ called (Refused x)) ↔ WhyClose (c .handshake .state) x
+  pub refused : (c : Connection) (x : Refusal) → (g c close .result ≡ called (Refused x))
+      ↔ WhyClose (c .handshake .state) x
   pub goes : (c : Connection) → (g c close .result ≡ called Done) ↔ (c .handshake .state ≢ Barred)
 
 -- fresh connection, 16 only: "identifier not 8, secret not 20"
@@ -73,5 +76,6 @@ WhyFresh id secret X.WrongFinished = ⊥
 WhyFresh id secret X.HelloWhileOpen = ⊥
 
 pub record ExactlyFresh : Type 0 where
-  pub refused : (id secret : List ℕ) (x : Refusal) → (freshOf id secret .outcome ≡ Refused x) ↔ WhyFresh (length id) (length secret) x
+  pub refused : (id secret : List ℕ) (x : Refusal) → (freshOf id secret .outcome ≡ Refused x)
+      ↔ WhyFresh (length id) (length secret) x
   pub goes : (id secret : List ℕ) → (freshOf id secret .outcome ≡ Done) ↔ ((length id ≡ 8) × (length secret ≡ 20))

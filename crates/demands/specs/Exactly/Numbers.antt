@@ -1,4 +1,5 @@
--- The eighteen numbers of 01, "Refusal numbers", by the name that the answers have for each; and words that several rows share.
+-- The eighteen numbers of 01, "Refusal numbers", by the name that the answers have for each; and words that several
+-- rows share.
 use mathlib.Core.Path.{_≡_}
 use mathlib.Core.Logic.{_⊎_}
 use mathlib.Core.Bool.{Bool, true, false}

@@ -1,5 +1,5 @@
--- 01, "Refusal numbers", of a record: "Per record: 7; then place and state (18, 8); then code and window; then content 12, then 13, 14 or
--- 17." Said over the bytes of the datagram, the state, and the numbers accepted before.
+-- 01, "Refusal numbers", of a record: "Per record: 7; then place and state (18, 8); then code and window; then
+-- content 12, then 13, 14 or 17." Said over the bytes of the datagram, the state, and the numbers accepted before.
 use mathlib.Core.Path.{_≡_}
 use mathlib.Core.Logic.{_↔_, _⊎_, _≢_}
 use mathlib.Core.Bool.{Bool, true, false}
@@ -62,13 +62,15 @@ pub record IsHello (q : Seen) : Type 0 where
 abbrev pub Hears : State → Type 0
 Hears state = (state ≡ Replied) ⊎ (state ≡ Spec)
 
--- "In Spec and Open, a protected record of an allowed kind": "in Spec the allowed kinds are handshake and alert; in Open all four"
+-- "In Spec and Open, a protected record of an allowed kind": "in Spec the allowed kinds are handshake and alert; in
+-- Open all four"
 pub record Guarded (state : State) (q : Seen) : Type 0 where
   pub protection : q .protected ≡ true
   pub kind : ((state ≡ Spec) × ((q .content ≡ 2) ⊎ (q .content ≡ 3))) ⊎ (state ≡ Open)
 
--- the rows: "Idle | clear ClientHello", "Replied, Spec | the same, another ClientHello", "which may stand only first in its datagram";
--- "Replied | clear change cipher spec"; "Replied, Spec | clear alert"; and the protected records of Spec and Open
+-- the rows: "Idle | clear ClientHello", "Replied, Spec | the same, another ClientHello", "which may stand only first
+-- in its datagram"; "Replied | clear change cipher spec"; "Replied, Spec | clear alert"; and the protected records of
+-- Spec and Open
 pub data Allowed (state : State) (q : Seen) : Type 0 where
   hello : (state ≡ Idle) ⊎ Hears state → IsHello q → q .at ≡ 0 → Allowed state q
   change : state ≡ Replied → q .protected ≡ false → q .content ≡ 1 → Allowed state q
@@ -110,7 +112,8 @@ OffersPair [] = ⊥
 OffersPair (cipher ∷ []) = ⊥
 OffersPair (cipher ∷ mac ∷ rest) = ((cipher ≡ 0) × ((mac ≡ 2) ⊎ (mac ≡ 3))) ⊎ OffersPair rest
 
--- "It is acceptable if it has version 1, the planted session identifier, a pair .., null compression and explicit numbering."
+-- "It is acceptable if it has version 1, the planted session identifier, a pair .., null compression and explicit
+-- numbering."
 pub record Acceptable (v : Values) (id : List ℕ) : Type 0 where
   pub version : v .version ≡ 1
   pub session : v .session ≡ id
@@ -124,12 +127,15 @@ pub record Greets (h : Handshake) (q : Seen) : Type 0 where
   pub first : q .at ≡ 0
   pub another : (h .state ≡ Idle) ⊎ (Hears (h .state) × (q .fragment ≢ keptHello h))
 
--- 12, clear: a malformed hello, "clear change cipher spec other than one byte 1", "wrong alert length, unassigned alert level or
--- description"; and under protection: "change cipher spec or a message other than Finished", such an alert, "empty data"
+-- 12, clear: a malformed hello, "clear change cipher spec other than one byte 1", "wrong alert length, unassigned
+-- alert level or description"; and under protection: "change cipher spec or a message other than Finished", such an
+-- alert, "empty data"
 pub data WhyMalformed (h : Handshake) (numbers : List ℕ) (q : Seen) : Type 0 where
   bad-hello : Greets h q → (WellFormedHello (q .fragment) → ⊥) → WhyMalformed h numbers q
-  bad-change : h .state ≡ Replied → q .protected ≡ false → q .content ≡ 1 → q .fragment ≢ 1 ∷ [] → WhyMalformed h numbers q
-  bad-alert : Hears (h .state) → q .protected ≡ false → q .content ≡ 2 → (IsAlert (q .fragment) → ⊥) → WhyMalformed h numbers q
+  bad-change : h .state ≡ Replied → q .protected ≡ false → q .content ≡ 1 → q .fragment ≢ 1 ∷ []
+      → WhyMalformed h numbers q
+  bad-alert : Hears (h .state) → q .protected ≡ false → q .content ≡ 2 → (IsAlert (q .fragment) → ⊥)
+      → WhyMalformed h numbers q
   bad-sealed-change : (c : List ℕ) → Fresh h numbers q c → q .content ≡ 1 → WhyMalformed h numbers q
   bad-sealed-alert : (c : List ℕ) → Fresh h numbers q c → q .content ≡ 2 → (IsAlert c → ⊥) → WhyMalformed h numbers q
   bad-message : (c : List ℕ) → Fresh h numbers q c → q .content ≡ 3 → (IsFinished c → ⊥) → WhyMalformed h numbers q
@@ -152,7 +158,8 @@ WhyRecord h numbers q X.TooOld =
     Guarded (h .state) q × ((c : List ℕ) × CodedAs (keysOf h) q c) × (q .number + 32 ≤ highestOf numbers)
 -- 11: "repeated": "a number accepted before"
 WhyRecord h numbers q X.Repeated =
-    Guarded (h .state) q × ((c : List ℕ) × CodedAs (keysOf h) q c) × (highestOf numbers < q .number + 32) × (accepted numbers (q .number) ≡ true)
+    Guarded (h .state) q × ((c : List ℕ) × CodedAs (keysOf h) q c) × (highestOf numbers < q .number + 32) ×
+    (accepted numbers (q .number) ≡ true)
 -- 12: "malformed content"
 WhyRecord h numbers q X.Malformed = WhyMalformed h numbers q
 -- 13: "hello well formed, not acceptable"
@@ -160,7 +167,8 @@ WhyRecord h numbers q X.Unacceptable =
     Greets h q × ((w : WellFormedHello (q .fragment)) × (Acceptable (w .values) (h .session .id) → ⊥))
 -- 14: "clear alert with another checksum"
 WhyRecord h numbers q X.Checksum =
-    Hears (h .state) × (q .protected ≡ false) × (q .content ≡ 2) × IsAlert (q .fragment) × (wordAt (q .fragment) 2 ≢ h .sending .last)
+    Hears (h .state) × (q .protected ≡ false) × (q .content ≡ 2) × IsAlert (q .fragment) ×
+    (wordAt (q .fragment) 2 ≢ h .sending .last)
 -- 17: "genuine Finished with wrong contents"
 WhyRecord h numbers q X.WrongFinished =
     (c : List ℕ) × Fresh h numbers q c × (q .content ≡ 3) × IsFinished c × (drop 3 c ≢ h .agreed .expected)
@@ -174,9 +182,10 @@ WhyRecord h numbers q X.Argument = ⊥
 abbrev pub Bytes : List ℕ → Type 0
 Bytes d = (i : ℕ) → getD d i 0 < 256
 
--- A record of a soundly framed datagram, in a handshake whose window holds the numbers accepted so far (as it does in every run from fresh),
--- is refused so exactly if there is that reason.
+-- A record of a soundly framed datagram, in a handshake whose window holds the numbers accepted so far (as it does in
+-- every run from fresh), is refused so exactly if there is that reason.
 unfoldable pub ExactlyRecord : Type 0
 ExactlyRecord =
-    (h : Handshake) (numbers random d : List ℕ) (r : Record) → Bytes d → RecordOf d r → h .window ≡ windowOf 32 numbers → (x : Refusal)
+    (h : Handshake) (numbers random d : List ℕ) (r : Record) → Bytes d → RecordOf d r → h .window ≡ windowOf 32 numbers
+    → (x : Refusal)
     → (judgedRecord h random d r .answer ≡ W.Refused x) ↔ WhyRecord h numbers (seenAt d (r .start)) x

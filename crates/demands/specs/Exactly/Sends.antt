@@ -1,5 +1,5 @@
--- 01, "Refusal numbers", of the sends: "Send: 16, 7, 8, 15, 6. Data is sent only in Open, protected alerts in Replied, Spec and Open, clear
--- ones in Replied and Spec."
+-- 01, "Refusal numbers", of the sends: "Send: 16, 7, 8, 15, 6. Data is sent only in Open, protected alerts in
+-- Replied, Spec and Open, clear ones in Replied and Spec."
 use mathlib.Core.Path.{_≡_}
 use mathlib.Core.Logic.{_↔_, _⊎_}
 use mathlib.Core.Bool.{Bool, true, false}
@@ -34,7 +34,8 @@ WhyData state size number code room X.NotAllowed = DataFits size × ((state ≡ 
 -- 15: "sending number spent": "sending never passes 65,535"
 WhyData state size number code room X.Spent = DataFits size × (state ≡ Open) × (65535 < number)
 -- 6: "output buffer too short: under the record's size for send"
-WhyData state size number code room X.Room = DataFits size × (state ≡ Open) × (number ≤ 65535) × (room < 3 + size + code)
+WhyData state size number code room X.Room = DataFits size × (state ≡ Open) × (number ≤ 65535) ×
+    (room < 3 + size + code)
 -- no other
 WhyData state size number code room (X.Framing fault) = ⊥
 WhyData state size number code room X.Forged = ⊥
@@ -54,12 +55,15 @@ DataGoes state size number code room =
 pub record ExactlyData (g : Gateway) : Type 0 where
   pub refused : (c : Connection) (bytes out : List ℕ) (x : Refusal)
       → (g c (send-data bytes out) .result ≡ sent (Refused x) 0)
-      ↔ WhyData (c .handshake .state) (length bytes) (c .handshake .sending .protected) (sizeOf (c .handshake .agreed .mac)) (length out) x
+      ↔ WhyData (c .handshake .state) (length bytes) (c .handshake .sending .protected)
+      (sizeOf (c .handshake .agreed .mac)) (length out) x
   pub goes : (c : Connection) (bytes out : List ℕ)
       → (g c (send-data bytes out) .result ≡ sent Done (3 + length bytes + sizeOf (c .handshake .agreed .mac)))
-      ↔ DataGoes (c .handshake .state) (length bytes) (c .handshake .sending .protected) (sizeOf (c .handshake .agreed .mac)) (length out)
+      ↔ DataGoes (c .handshake .state) (length bytes) (c .handshake .sending .protected)
+      (sizeOf (c .handshake .agreed .mac)) (length out)
 
--- ---- send an alert, protected or clear: a level, a description, and the record of `lent` bytes that it answers. An alert is six bytes.
+-- ---- send an alert, protected or clear: a level, a description, and the record of `lent` bytes that it answers. An
+-- alert is six bytes.
 
 -- "level or description unknown, record lent for an alert over 1,400"
 abbrev pub AlertFits : ℕ → ℕ → ℕ → Type 0
@@ -90,7 +94,8 @@ WhyAlert sealed state level description lent number code room X.Argument =
 -- 7: "Barred, or Closed"
 WhyAlert sealed state level description lent number code room X.Ended = AlertFits level description lent × Over state
 -- 8: "call not allowed in this state"
-WhyAlert sealed state level description lent number code room X.NotAllowed = AlertFits level description lent × AlertMayNot sealed state
+WhyAlert sealed state level description lent number code room X.NotAllowed
+    = AlertFits level description lent × AlertMayNot sealed state
 -- 15: "sending number spent"
 WhyAlert sealed state level description lent number code room X.Spent =
     AlertFits level description lent × AlertMay sealed state × (65535 < number)
@@ -115,7 +120,10 @@ AlertGoes sealed state level description lent number code room =
 pub record ExactlyAlert (g : Gateway) : Type 0 where
   pub refused : (c : Connection) (sealed : Bool) (level description : ℕ) (answered out : List ℕ) (x : Refusal)
       → (g c (send-alert sealed level description answered out) .result ≡ sent (Refused x) 0)
-      ↔ WhyAlert sealed (c .handshake .state) level description (length answered) (alertNumberOf sealed (c .handshake)) (alertCodeOf sealed (c .handshake)) (length out) x
+      ↔ WhyAlert sealed (c .handshake .state) level description (length answered) (alertNumberOf sealed (c .handshake))
+      (alertCodeOf sealed (c .handshake)) (length out) x
   pub goes : (c : Connection) (sealed : Bool) (level description : ℕ) (answered out : List ℕ)
-      → (g c (send-alert sealed level description answered out) .result ≡ sent Done (9 + alertCodeOf sealed (c .handshake)))
-      ↔ AlertGoes sealed (c .handshake .state) level description (length answered) (alertNumberOf sealed (c .handshake)) (alertCodeOf sealed (c .handshake)) (length out)
+      → (g c (send-alert sealed level description answered out) .result ≡ sent Done
+      (9 + alertCodeOf sealed (c .handshake)))
+      ↔ AlertGoes sealed (c .handshake .state) level description (length answered) (alertNumberOf sealed (c .handshake))
+      (alertCodeOf sealed (c .handshake)) (length out)

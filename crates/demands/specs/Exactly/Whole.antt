@@ -1,5 +1,6 @@
--- 01, "Refusal numbers", of a datagram as a whole: "Receive: 16, 6, 1, then framing from the front (per record 5, 3, 2, 4), then one answer
--- per record. 1 to 5 refuse the whole datagram and give the offset of the record at fault (0 for 1)." Said over the bytes.
+-- 01, "Refusal numbers", of a datagram as a whole: "Receive: 16, 6, 1, then framing from the front (per record 5, 3,
+-- 2, 4), then one answer per record. 1 to 5 refuse the whole datagram and give the offset of the record at fault (0
+-- for 1)." Said over the bytes.
 use mathlib.Core.Path.{_≡_}
 use mathlib.Core.Logic.{_↔_, _⊎_, _≢_}
 use mathlib.Core.Bool.{Bool, true, false}
@@ -21,7 +22,8 @@ use Rattle.demands.specs.Runs.{receive, received, Gateway}
 
 -- ---- the record that begins at `at`, byte by byte
 
--- "Type byte: bit 0 length present, bit 1 sequence number present, bit 2 protected, bit 3 reserved, bits 4 to 7 content"
+-- "Type byte: bit 0 length present, bit 1 sequence number present, bit 2 protected, bit 3 reserved, bits 4 to 7
+-- content"
 abbrev pub typeAt : List ℕ → ℕ → ℕ
 typeAt d at = getD d at 0
 
@@ -100,7 +102,8 @@ WhyFaulty d F.Ninth at = Reached d 8 at
 -- 3, 2, 4, of one of the first eight
 WhyFaulty d F.Kind at = (n : ℕ) × (n < 8) × Reached d n at × WrongType d at
 WhyFaulty d F.Header at = (n : ℕ) × (n < 8) × Reached d n at × RightType d at × HeaderPasses d at
-WhyFaulty d F.Fragment at = (n : ℕ) × (n < 8) × Reached d n at × RightType d at × (at + headAt d at ≤ length d) × WrongFragment d at
+WhyFaulty d F.Fragment at = (n : ℕ) × (n < 8) × Reached d n at × RightType d at ×
+    (at + headAt d at ≤ length d) × WrongFragment d at
 
 -- 1 to 5 are the only ones that have an offset
 abbrev pub WhyMisframed : List ℕ → Refusal → ℕ → Type 0
@@ -151,12 +154,14 @@ pub record SoundlyFramed (d : List ℕ) (n : ℕ) : Type 0 where
 pub record ExactlyReceive (g : Gateway) : Type 0 where
   -- 16 and 6, without an offset
   pub refused : (c : Connection) (d random out : List ℕ) (x : Refusal)
-      → (g c (receive d random out) .result ≡ received (T.Refused x) (slotsOf []) 0) ↔ WhyWhole (length random) (length out) x
+      → (g c (receive d random out) .result ≡ received (T.Refused x) (slotsOf []) 0)
+      ↔ WhyWhole (length random) (length out) x
   -- 1 to 5, with it
   pub misframed : (c : Connection) (d random out : List ℕ) (x : Refusal) (at : ℕ)
       → (g c (receive d random out) .result ≡ received (T.Misframed x at) (slotsOf []) 0)
       ↔ (CallFits (length random) (length out) × WhyMisframed d x at)
   -- taken, with its n records
   pub taken : (c : Connection) (d random out : List ℕ) (n : ℕ)
-      → ((answers : List Slot) × (written : ℕ) × (g c (receive d random out) .result ≡ received (T.Records n) answers written))
+      → ((answers : List Slot) × (written : ℕ) ×
+      (g c (receive d random out) .result ≡ received (T.Records n) answers written))
       ↔ (CallFits (length random) (length out) × SoundlyFramed d n)
