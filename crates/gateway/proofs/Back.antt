@@ -2,13 +2,13 @@
 -- reads them (`placed`), and bytes that are cut at those places are the cuts joined (`cut-joined`).
 use mathlib.Core.Path.{_≡_, refl, sym, _∙_, ap, ap₂, subst}
 use mathlib.Core.Bool.{Bool, true, false}
-use mathlib.Core.List.{List, [], _∷_, _++_, append-nil}
-use Prim.Native.Nat.{ℕ, zero, suc, _+_, _*_, _≤_, _<_}
+use mathlib.Core.List.{List, [], _∷_, _++_}
+use Prim.Native.Nat.{ℕ, zero, suc, _+_, _*_, _<_}
 use native.Mathlib.Omega.{arith}
 use lib.ListN.{length, take, drop, getD, length-append}
 use lib.Seq.{take-at, drop-at, take-add, drop-drop, take-all}
 use lib.Dec.{eqb, ltb}
-use borrow.Author.Tests.{eqb-true, eq-eqb, ltb-false, le-ltb}
+use borrow.Author.Tests.{eqb-true, eq-eqb, ltb-false}
 use Rattle.digest.specs.Pick.{pick}
 use Rattle.digest.specs.Bytes.{bytes2, bytes4, bytes8, wordAt}
 use Rattle.digest.specs.Mac.{numberOf}
@@ -19,8 +19,8 @@ use Rattle.connection.specs.declared.state.State.the-variants.{Idle, Replied, S
 use Rattle.connection.specs.declared.handshake.Handshake.{Handshake}
 use Rattle.connection.specs.declared.calls.Connection.{Connection}
 use Rattle.gateway.specs.Fields.{joined, bytesIn, twoIn, eightIn}
-use Rattle.gateway.specs.Saved.{mark, stateNumber, savedHandshake, savedOf, isSaved, stateNumbered, macNumbered, sessionIn, agreedIn, keptIn, windowIn, sendingIn, handshakeIn, connectionIn, Loaded, Is, No, loaded, Ranged, Bytes}
-use Rattle.gateway.proofs.Laying.{joined-append, joined-one, joined-size, joined-none, length-eight}
+use Rattle.gateway.specs.Saved.{mark, stateNumber, savedHandshake, savedOf, isSaved, stateNumbered, macNumbered, sessionIn, agreedIn, keptIn, windowIn, sendingIn, handshakeIn, connectionIn, Is, No, loaded, Ranged, Bytes}
+use Rattle.gateway.proofs.Laying.{joined-append, joined-one, joined-none, length-eight}
 use Rattle.gateway.proofs.Reading.{part-length}
 use Rattle.gateway.proofs.Calling.{both-true}
 use Rattle.gateway.proofs.Numbers.{byte-back, two-back, four-back, eight-back, byte-part, two-there, four-there, eight-there, word-below, eight-below}

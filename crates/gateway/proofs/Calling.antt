@@ -3,26 +3,24 @@
 use mathlib.Core.Path.{_≡_, refl, sym, _∙_, ap}
 use mathlib.Core.Bool.{Bool, true, false}
 use mathlib.Core.List.{List, [], _∷_}
-use Prim.Native.Nat.{ℕ, zero, suc, _+_, _≤_, _<_}
+use Prim.Native.Nat.{ℕ, zero, suc, _≤_, _<_}
 use native.Mathlib.Omega.{arith}
 use lib.ListN.{length, getD}
 use lib.Dec.{eqb, ltb}
-use borrow.Author.Tests.{eqb-true, ne-eqb, eq-eqb}
+use borrow.Author.Tests.{eqb-true, ne-eqb}
 use Rattle.digest.specs.Pick.{pick}
 use Rattle.digest.specs.Bytes.{wordAt}
-use Rattle.digest.proofs.Picks.{pick-yes, pick-no, picks}
+use Rattle.digest.proofs.Picks.{pick-yes, pick-no}
 use Rattle.message.specs.Alert.{levelOf, sortedOf, among, descriptions, descriptionNumber}
 use Rattle.message.specs.declared.alert.Description.{Description}
 use Rattle.message.specs.declared.alert.Description.the-variants as K
 use Rattle.message.specs.declared.alert.Graded.{Graded}
 use Rattle.message.specs.declared.alert.Graded.the-variants as G
-use Rattle.message.specs.declared.alert.Sorted.{Sorted}
 use Rattle.message.specs.declared.alert.Sorted.the-variants as D
 use Rattle.connection.specs.Send.{alertSent, alertOutput, alertSentAs, alertOutputAs, unsent}
 use Rattle.connection.specs.declared.calls.Connection.{Connection}
 use Rattle.connection.specs.declared.calls.Called.{Called}
 use Rattle.connection.specs.declared.refusal.Refusal.the-variants.{Argument}
-use Rattle.connection.specs.declared.send.Sent.{Sent}
 use Rattle.connection.proofs.Sending.{no-level, no-level-output}
 use Rattle.gateway.specs.Saved.{isSaved, connectionIn}
 use Rattle.gateway.specs.Calls.{resultOf, notTaken, refusalIn, leftIn, calledResult, calledState, sense, lentFor}

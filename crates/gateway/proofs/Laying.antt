@@ -2,10 +2,10 @@
 -- from place `at` on. Each store of one more field is one step.
 use mathlib.Core.Path.{_≡_, refl, sym, _∙_, ap, ap₂}
 use mathlib.Core.List.{List, [], _∷_, _++_, append-nil, append-assoc}
-use Prim.Native.Nat.{ℕ, zero, suc, _+_, _≤_}
+use Prim.Native.Nat.{ℕ, _+_, _≤_}
 use native.Mathlib.Omega.{arith}
-use lib.ListN.{length, take, drop, length-append, length-drop, drop-of-length-le, take-append-drop}
-use lib.Seq.{length-take-le, drop-append-add, drop-drop, take-all, drop-length}
+use lib.ListN.{length, take, drop, length-append, drop-of-length-le, take-append-drop}
+use lib.Seq.{length-take-le, drop-append-add, drop-drop}
 use Rattle.digest.specs.Bytes.{laidOver, laidWithin, bytes8}
 use Rattle.digest.proofs.Lay.{laid-front, length-laid}
 use Rattle.connection.proofs.Filling.{within}

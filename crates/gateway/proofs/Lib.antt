@@ -5,3 +5,5 @@ pub mod Calling
 pub mod Numbers
 pub mod Back
 pub mod Results
+pub mod Sizes
+pub mod Coincide

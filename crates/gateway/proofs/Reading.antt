@@ -1,11 +1,11 @@
 -- Fields read from their places: an array of n zeros over which n bytes of a part are laid is that part.
-use mathlib.Core.Path.{_≡_, refl, sym, _∙_, ap, ap₂, subst}
+use mathlib.Core.Path.{_≡_, refl, sym, _∙_, ap, subst}
 use mathlib.Core.List.{List, [], _∷_, _++_}
-use Prim.Native.Nat.{ℕ, zero, suc, _+_, _*_, _≤_, _<_}
+use Prim.Native.Nat.{ℕ, _+_, _*_, _≤_, _<_}
 use native.Mathlib.Omega.{arith}
 use native.Mathlib.Numerals.{add-one}
-use lib.ListN.{length, take, drop, getD, replicate, length-append, length-drop}
-use lib.Seq.{length-take-le, take-suc, take-all}
+use lib.ListN.{length, drop, getD, replicate, length-drop}
+use lib.Seq.{length-take-le}
 use Rattle.digest.specs.Bytes.{laidOver, laidWithin, bytes4, bytes8}
 use Rattle.connection.proofs.Filling.{filled-whole}
 use Rattle.connection.specs.Receive.{slot}

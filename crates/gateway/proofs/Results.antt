@@ -2,7 +2,7 @@
 -- connection, and by the outcome of the connection's call.
 use mathlib.Core.Path.{_≡_, refl, sym, _∙_, ap}
 use mathlib.Core.Bool.{Bool, true, false}
-use mathlib.Core.List.{List, []}
+use mathlib.Core.List.{List}
 use Prim.Native.Nat.{ℕ, _+_, _*_, _/_, _%_, _<_}
 use native.Mathlib.Omega.{arith}
 use lib.ListN.{length}
@@ -28,13 +28,11 @@ use Rattle.connection.specs.declared.calls.Outcome.{Outcome}
 use Rattle.connection.specs.declared.calls.Outcome.the-variants.{Done, Refused}
 use Rattle.connection.specs.declared.receive.Taken.{Taken}
 use Rattle.connection.specs.declared.receive.Taken.the-variants as T
-use Rattle.connection.specs.declared.receive.Received.{Received}
-use Rattle.connection.specs.declared.send.Sent.{Sent}
 use Rattle.connection.proofs.Running.{laid-nothing}
 use Rattle.gateway.specs.Saved.{isSaved, connectionIn, savedOf}
 use Rattle.gateway.specs.Report.{reportOf}
 use Rattle.gateway.specs.Counts.{tallyBytes, tallyIn}
-use Rattle.gateway.specs.Calls.{resultOf, refusalPart, writtenPart, countPart, notTaken, refusalIn, leftIn, freshResult, freshState, calledResult, calledState, closeResult, closeState, startResult, startState, sentResult, sentState, dataResult, dataState, dataOut, sense, alertResult, alertState, alertOut, lentFor, takenResult, whereTaken, got, receiveResult, receiveState, receiveTally, receiveAnswers, receiveOut}
+use Rattle.gateway.specs.Calls.{resultOf, refusalPart, writtenPart, countPart, notTaken, refusalIn, leftIn, freshResult, freshState, calledResult, calledState, closeResult, closeState, startResult, startState, sentResult, sentState, dataResult, dataState, dataOut, alertResult, alertState, alertOut, lentFor, takenResult, whereTaken, got, receiveResult, receiveState, receiveTally, receiveAnswers, receiveOut}
 
 -- The parts of an answer.
 high-of : (f w c : ℕ) → ((f * 65536 + w % 65536) * 65536 + c % 65536) / 65536 ≡ f * 65536 + w % 65536

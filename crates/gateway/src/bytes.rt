@@ -1,7 +1,7 @@
 // Numbers spelled as bytes, the most significant first, and read back.
 ghost use mathlib.Core.Path.{_≡_};
 ghost use Prim.Native.Nat.{_+_, _*_, _≤_};
-ghost use lib.ListN.{length, getD};
+ghost use lib.ListN.{length};
 ghost use Rattle.digest.specs.Bytes.{bytes2, bytes4, bytes8, wordAt};
 ghost use Rattle.gateway.specs.Fields.{twoIn, eightIn};
 

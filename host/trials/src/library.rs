@@ -101,10 +101,14 @@ impl Library {
             }
             Ok(received) => {
                 lines.push(format!("receive records {}", received.answers().len()));
+                let records = peer::wire::frame(datagram).unwrap_or_default();
                 for (index, answer) in received.answers().enumerate() {
-                    if let Answer::Data { start, bytes, .. } = answer {
-                        if datagram[start..start + bytes.len()] != *bytes {
-                            self.wrong = Some("the data is no part of the datagram".to_string());
+                    if let Answer::Data { number, start, bytes } = answer {
+                        if datagram[start..start + bytes.len()] != *bytes
+                            || records[index].fragment.start != start
+                            || records[index].number != number
+                        {
+                            self.wrong = Some("the data is not that of its record".to_string());
                         }
                     }
                     lines.push(format!("{index} {}", words_of(&answer)));

@@ -1,5 +1,5 @@
 -- `gateway_close`: the bytes, then the call.
-use mathlib.Core.Path.{_≡_, refl, sym, _∙_, ap}
+use mathlib.Core.Path.{refl, sym, _∙_, ap}
 use Rattle.connection.specs.Calls.{closedOf}
 use Rattle.gateway.specs.Calls.{closeResult, closeState}
 use Rattle.gateway.proofs.Calling.{saved-size, called, test-no}

@@ -1,6 +1,5 @@
 -- `gateway_fresh`: the room, then the call.
-use mathlib.Core.Path.{_≡_, refl, sym, _∙_, ap}
-use lib.ListN.{length}
+use mathlib.Core.Path.{_≡_, refl, _∙_, ap}
 use Rattle.digest.proofs.Picks.{picks}
 use Rattle.gateway.specs.Calls.{freshResult, freshState, resultOf, refusalIn, leftIn}
 use borrow.Author.Needs.{needs}

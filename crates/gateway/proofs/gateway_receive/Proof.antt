@@ -1,5 +1,5 @@
 -- `gateway_receive`: what is lent, then the call.
-use mathlib.Core.Path.{_≡_, refl, sym, _∙_, ap}
+use mathlib.Core.Path.{refl, sym, _∙_, ap}
 use lib.ListN.{length}
 use Rattle.connection.specs.Receive.{receivedOf, outputOf}
 use Rattle.connection.specs.Tally.{countedOf}

@@ -1,5 +1,5 @@
 -- `gateway_send_data`: the bytes, then the call.
-use mathlib.Core.Path.{_≡_, refl, sym, _∙_, ap}
+use mathlib.Core.Path.{refl, sym, _∙_, ap}
 use lib.ListN.{length}
 use Rattle.connection.specs.Send.{dataSent, dataOutput}
 use Rattle.gateway.specs.Calls.{dataResult, dataState, dataOut, sentResult, sentState}

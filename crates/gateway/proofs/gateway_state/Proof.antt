@@ -1,5 +1,5 @@
 -- `gateway_state`: the bytes, then the number of the state.
-use mathlib.Core.Path.{_≡_, refl, sym, _∙_, ap}
+use mathlib.Core.Path.{sym, _∙_}
 use native.Mathlib.Omega.{arith}
 use Rattle.gateway.specs.Calls.{stateResult}
 use Rattle.gateway.proofs.Calling.{saved-size, test-yes, test-no}

@@ -1,5 +1,5 @@
 -- `counts::put_tally`: four fields fill the bytes.
-use mathlib.Core.Path.{_≡_, refl, sym, _∙_, ap}
+use mathlib.Core.Path.{refl}
 use native.Mathlib.Omega.{arith}
 use Rattle.digest.specs.Bytes.{bytes4}
 use Rattle.gateway.proofs.Laying.{laid-none, laid-more, laid-whole}

@@ -1,6 +1,6 @@
 -- `leave::leave_called`: refused, nothing is written; done, the connection.
-use mathlib.Core.Path.{_≡_, refl, sym, _∙_, ap}
-use Rattle.gateway.specs.Calls.{resultOf, refusalIn, leftIn}
+use mathlib.Core.Path.{refl, _∙_, ap}
+use Rattle.gateway.specs.Calls.{resultOf}
 use borrow.Author.Needs.{needs}
 use Rattle.gateway.proofs.leave.leave_called.Statement.{statement}
 use Rattle.gateway.proofs.leave.leave_called.Tie as tie

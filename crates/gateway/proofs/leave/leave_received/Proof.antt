@@ -1,7 +1,7 @@
 -- `leave::leave_received`: refused as a whole, nothing is written; else the connection, the tally and the answers.
-use mathlib.Core.Path.{_≡_, refl, sym, _∙_, ap}
+use mathlib.Core.Path.{refl, _∙_, ap}
 use Rattle.connection.specs.Tally.{countedOf}
-use Rattle.gateway.specs.Counts.{tallyBytes, tallyIn}
+use Rattle.gateway.specs.Counts.{tallyBytes}
 use Rattle.gateway.specs.Calls.{resultOf}
 use borrow.Author.Needs.{needs}
 use Rattle.gateway.proofs.leave.leave_received.Statement.{statement}

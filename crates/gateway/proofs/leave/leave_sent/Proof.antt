@@ -1,5 +1,5 @@
 -- `leave::leave_sent`: refused, nothing is written; done, the connection.
-use mathlib.Core.Path.{_≡_, refl, sym, _∙_, ap}
+use mathlib.Core.Path.{refl, _∙_, ap}
 use Rattle.gateway.specs.Calls.{resultOf}
 use borrow.Author.Needs.{needs}
 use Rattle.gateway.proofs.leave.leave_sent.Statement.{statement}

@@ -1,5 +1,5 @@
 -- `load::is_saved`: the tests in their order.
-use mathlib.Core.Path.{_≡_, refl, sym, _∙_, ap}
+use mathlib.Core.Path.{_≡_, refl, sym}
 use Rattle.digest.proofs.Picks.{picks}
 use mathlib.Core.Bool.{Bool, true, false}
 use Rattle.gateway.specs.Saved.{isSaved}

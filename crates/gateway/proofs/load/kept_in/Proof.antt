@@ -1,5 +1,4 @@
 -- `load::kept_in`: each array is the part of the bytes at its place.
-use mathlib.Core.Path.{_≡_, refl, sym, _∙_, ap}
 use native.Mathlib.Omega.{arith}
 use Rattle.gateway.specs.Saved.{keptIn}
 use Rattle.gateway.proofs.Reading.{part-filled}

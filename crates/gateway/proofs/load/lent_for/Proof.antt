@@ -1,7 +1,7 @@
 -- `load::lent_for`: the two sizes, then the bytes.
-use mathlib.Core.Path.{_≡_, refl, sym, _∙_, ap}
+use mathlib.Core.Path.{_≡_, refl}
 use Rattle.digest.proofs.Picks.{picks}
-use mathlib.Core.Bool.{Bool, true, false}
+use mathlib.Core.Bool.{Bool, false}
 use Rattle.gateway.specs.Calls.{lentFor}
 use borrow.Author.Needs.{needs}
 use Rattle.gateway.proofs.load.lent_for.Statement.{statement}

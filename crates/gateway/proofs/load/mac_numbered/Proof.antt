@@ -1,5 +1,5 @@
 -- `load::mac_numbered`: two numbers.
-use mathlib.Core.Path.{_≡_, refl, sym, _∙_, ap}
+use mathlib.Core.Path.{_≡_, refl}
 use Rattle.digest.proofs.Picks.{picks}
 use Rattle.gateway.specs.Saved.{macNumbered}
 use Rattle.digest.specs.declared.mac.Mac.{Mac}

@@ -1,5 +1,5 @@
 -- `load::state_numbered`: one test for each state.
-use mathlib.Core.Path.{_≡_, refl, sym, _∙_, ap}
+use mathlib.Core.Path.{_≡_, refl}
 use Rattle.digest.proofs.Picks.{picks}
 use Rattle.gateway.specs.Saved.{stateNumbered}
 use Rattle.connection.specs.declared.state.State.{State}

@@ -1,5 +1,5 @@
 -- `report::entry_of`: answer by answer.
-use mathlib.Core.Path.{_≡_, refl, sym, _∙_, ap}
+use mathlib.Core.Path.{_∙_, ap}
 use Rattle.gateway.specs.Report.{entry}
 use borrow.Author.Needs.{needs}
 use Rattle.gateway.proofs.report.entry_of.Statement.{statement}

@@ -1,12 +1,9 @@
 -- `report::put_answers`: after i turns the first i answers are laid.
-use mathlib.Core.Path.{_≡_, refl, sym, _∙_, ap}
+use mathlib.Core.Path.{_≡_, ap}
 use native.Mathlib.Omega.{arith}
 use Prim.Native.Nat.{_≤_, _-_, _*_}
-use lib.ListN.{getD}
-use Rattle.connection.specs.Receive.{slot}
-use Rattle.connection.specs.declared.answer.Answer.the-variants.{Nothing}
 use borrow.Author.Needs.{needs}
-use Rattle.gateway.specs.Report.{entryOf, entryBytes, reportFirst, reportOf}
+use Rattle.gateway.specs.Report.{entryBytes, reportFirst, reportOf}
 use Rattle.gateway.proofs.Laying.{Laid, laid-none, laid-whole}
 use Rattle.gateway.proofs.Reading.{report-more, length-entry}
 use Rattle.gateway.proofs.report.put_answers.Statement.{statement}

@@ -4,7 +4,7 @@ use native.Mathlib.Omega.{arith}
 use lib.ListN.{length}
 use Rattle.gateway.proofs.Laying.{laid-none, laid-more}
 use Rattle.digest.specs.Mac.{numberOf}
-use mathlib.Core.List.{List, [], _∷_}
+use mathlib.Core.List.{[], _∷_}
 use mathlib.Core.Path.{ap}
 use borrow.Author.Needs.{needs}
 use Rattle.gateway.proofs.save.put_agreed.Statement.{statement}

@@ -1,5 +1,5 @@
 -- `save::put_connection`: the six groups of fields fill the bytes.
-use mathlib.Core.Path.{_≡_, refl}
+use mathlib.Core.Path.{refl}
 use native.Mathlib.Omega.{arith}
 use Rattle.gateway.proofs.Laying.{laid-none, laid-block, laid-whole}
 use Rattle.gateway.specs.Saved.{savedHandshake, headFields, sessionFields, agreedFields, keptFields, windowFields, sendingFields}

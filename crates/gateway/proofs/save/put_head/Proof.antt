@@ -1,11 +1,10 @@
 -- `save::put_head`: the mark, and the number of the state.
-use mathlib.Core.Path.{_≡_, refl}
+use mathlib.Core.Path.{refl}
 use native.Mathlib.Omega.{arith}
-use lib.ListN.{length}
 use Rattle.gateway.proofs.Laying.{laid-none, laid-more}
 use Rattle.digest.specs.Bytes.{bytes4}
 use Rattle.gateway.specs.Saved.{mark, stateNumber}
-use mathlib.Core.List.{List, [], _∷_}
+use mathlib.Core.List.{[], _∷_}
 use mathlib.Core.Path.{ap}
 use borrow.Author.Needs.{needs}
 use Rattle.gateway.proofs.save.put_head.Statement.{statement}

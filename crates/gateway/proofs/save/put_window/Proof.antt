@@ -1,7 +1,6 @@
 -- `save::put_window`: two fields.
-use mathlib.Core.Path.{_≡_, refl}
+use mathlib.Core.Path.{refl}
 use native.Mathlib.Omega.{arith}
-use lib.ListN.{length}
 use Rattle.gateway.proofs.Laying.{laid-none, laid-more, length-eight}
 use Rattle.digest.specs.Bytes.{bytes2, bytes8}
 use borrow.Author.Needs.{needs}
