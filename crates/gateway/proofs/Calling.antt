@@ -22,8 +22,8 @@ use Rattle.connection.specs.declared.calls.Connection.{Connection}
 use Rattle.connection.specs.declared.calls.Called.{Called}
 use Rattle.connection.specs.declared.refusal.Refusal.the-variants.{Argument}
 use Rattle.connection.proofs.Sending.{no-level, no-level-output}
-use Rattle.gateway.specs.Saved.{isSaved, connectionIn}
-use Rattle.gateway.specs.Calls.{resultOf, notTaken, refusalIn, leftIn, calledResult, calledState, sense, lentFor}
+use Rattle.gateway.specs.Saved.{isSaved, connectionIn, loaded}
+use Rattle.gateway.specs.Calls.{resultOf, refusalIn, leftIn, leftLoaded, calledResult, calledState, calledLoads, sense, lentFor}
 
 -- a test and another
 pub both-true : (t x : Bool) → pick t x false ≡ true → (t ≡ true) × (x ≡ true)
@@ -61,12 +61,15 @@ lent-sizes b counts places h =
 -- close and start again
 pub called : (call : Connection → Called) (b : List ℕ) (t : Bool) (k : Called) (r : ℕ) (e : List ℕ) → t ≡ isSaved b → t ≡ true
     → k ≡ call (connectionIn b) → r ≡ resultOf (refusalIn (k .outcome)) 0 0 → e ≡ leftIn b (k .connection) (k .outcome)
-    → (r ≡ calledResult call b) × (e ≡ calledState call b)
-called call b t k r e s h is er ee =
-    let yes : isSaved b ≡ true = sym s ∙ h in (
-      pick-yes ℕ r (resultOf (refusalIn (call (connectionIn b) .outcome)) 0 0) notTaken (isSaved b) yes (er ∙ ap (λ x. resultOf (refusalIn (x .outcome)) 0 0) is),
-      pick-yes (List ℕ) e (leftIn b (call (connectionIn b) .connection) (call (connectionIn b) .outcome)) b (isSaved b) yes (ee ∙ ap (λ x. leftIn b (x .connection) (x .outcome)) is),
-    )
+    → loaded e ≡ leftLoaded b (k .connection) (k .outcome)
+    → (r ≡ calledResult call b) × ((e ≡ calledState call b) × (loaded e ≡ calledLoads call b))
+called call b t k r e s h is er ee el = (
+  test-yes _ s h (er ∙ ap (λ x. resultOf (refusalIn (x .outcome)) 0 0) is),
+  (
+    test-yes _ s h (ee ∙ ap (λ x. leftIn b (x .connection) (x .outcome)) is),
+    test-yes _ s h (el ∙ ap (λ x. leftLoaded b (x .connection) (x .outcome)) is),
+  ),
+)
 
 -- clear or protected
 pub sense-in : {A : Type 0} (p : ℕ) (f : Bool → A) (other : A) → p ≤ 1 → f (eqb p 1) ≡ sense p f other

@@ -1,5 +1,6 @@
--- Two outcomes that meet the contract of one exported call are equal: each clause is an equation with a definition of what was lent. One
--- theorem for each call: its answer, and each lent buffer that it may write.
+-- Two outcomes that meet the contract of one exported call are equal: each clause is an equation with a definition of
+-- what was lent. One theorem for each call: its answer, and each lent buffer that it may write. (The clause `loads` says
+-- no more: equal bytes load alike.)
 use mathlib.Core.Path.{_≡_, sym, _∙_}
 use mathlib.Core.List.{List}
 use Prim.Native.Nat.{ℕ}

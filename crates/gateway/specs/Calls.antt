@@ -20,7 +20,7 @@ use Rattle.connection.specs.declared.receive.Taken.{Taken}
 use Rattle.connection.specs.declared.receive.Taken.the-variants as T
 use Rattle.connection.specs.declared.receive.Received.{Received}
 use Rattle.connection.specs.declared.send.Sent.{Sent}
-use Rattle.gateway.specs.Saved.{savedOf, isSaved, connectionIn}
+use Rattle.gateway.specs.Saved.{savedOf, isSaved, connectionIn, Loaded, Is, loaded}
 use Rattle.gateway.specs.Report.{reportOf}
 use Rattle.gateway.specs.Counts.{tallyBytes, tallyIn}
 
@@ -53,6 +53,11 @@ abbrev pub leftIn : List ℕ → Connection → Outcome → List ℕ
 leftIn state c Done = savedOf c
 leftIn state c (Refused refusal) = state
 
+-- what they load as then: the connection that the call leaves; what they were where it is refused
+abbrev pub leftLoaded : List ℕ → Connection → Outcome → Loaded
+leftLoaded state c Done = Is c
+leftLoaded state c (Refused refusal) = loaded state
+
 -- fresh: in 457 bytes, whatever they hold
 unfoldable pub freshResult : List ℕ → List ℕ → ℕ → ℕ
 freshResult id secret room = pick (eqb room 457) (resultOf (refusalIn (freshOf id secret .outcome)) 0 0) notTaken
@@ -60,6 +65,12 @@ freshResult id secret room = pick (eqb room 457) (resultOf (refusalIn (freshOf i
 unfoldable pub freshState : List ℕ → List ℕ → List ℕ → List ℕ
 freshState id secret state =
     pick (eqb (length state) 457) (leftIn state (freshOf id secret .connection) (freshOf id secret .outcome)) state
+
+unfoldable pub freshLoads : List ℕ → List ℕ → List ℕ → Loaded
+freshLoads id secret state =
+    pick (eqb (length state) 457)
+    (leftLoaded state (freshOf id secret .connection) (freshOf id secret .outcome))
+    (loaded state)
 
 -- close and start again, each as what it does with a connection
 abbrev pub calledResult : (Connection → Called) → List ℕ → ℕ
@@ -71,17 +82,29 @@ calledState call state =
     (leftIn state (call (connectionIn state) .connection) (call (connectionIn state) .outcome))
     state
 
+abbrev pub calledLoads : (Connection → Called) → List ℕ → Loaded
+calledLoads call state =
+    pick (isSaved state)
+    (leftLoaded state (call (connectionIn state) .connection) (call (connectionIn state) .outcome))
+    (loaded state)
+
 unfoldable pub closeResult : List ℕ → ℕ
 closeResult state = calledResult closedOf state
 
 unfoldable pub closeState : List ℕ → List ℕ
 closeState state = calledState closedOf state
 
+unfoldable pub closeLoads : List ℕ → Loaded
+closeLoads state = calledLoads closedOf state
+
 unfoldable pub startResult : List ℕ → ℕ
 startResult state = calledResult startedOf state
 
 unfoldable pub startState : List ℕ → List ℕ
 startState state = calledState startedOf state
+
+unfoldable pub startLoads : List ℕ → Loaded
+startLoads state = calledLoads startedOf state
 
 -- the state's number, as the count
 unfoldable pub stateResult : List ℕ → ℕ
@@ -94,11 +117,18 @@ sentResult sent = resultOf (refusalIn (sent .outcome)) (sent .written) 0
 abbrev pub sentState : List ℕ → Sent → List ℕ
 sentState state sent = leftIn state (sent .connection) (sent .outcome)
 
+abbrev pub sentLoads : List ℕ → Sent → Loaded
+sentLoads state sent = leftLoaded state (sent .connection) (sent .outcome)
+
 unfoldable pub dataResult : List ℕ → List ℕ → ℕ → ℕ
 dataResult state bytes room = pick (isSaved state) (sentResult (dataSent (connectionIn state) bytes room)) notTaken
 
 unfoldable pub dataState : List ℕ → List ℕ → ℕ → List ℕ
 dataState state bytes room = pick (isSaved state) (sentState state (dataSent (connectionIn state) bytes room)) state
+
+unfoldable pub dataLoads : List ℕ → List ℕ → ℕ → Loaded
+dataLoads state bytes room =
+    pick (isSaved state) (sentLoads state (dataSent (connectionIn state) bytes room)) (loaded state)
 
 unfoldable pub dataOut : List ℕ → List ℕ → List ℕ → List ℕ
 dataOut state bytes out = pick (isSaved state) (dataOutput (connectionIn state) bytes out) out
@@ -122,6 +152,14 @@ alertState state protected level description answered room =
     (λ sealed. sentState state (alertSent (connectionIn state) sealed level description answered room))
     state)
     state
+
+unfoldable pub alertLoads : List ℕ → ℕ → ℕ → ℕ → List ℕ → ℕ → Loaded
+alertLoads state protected level description answered room =
+    pick (isSaved state)
+    (sense protected
+    (λ sealed. sentLoads state (alertSent (connectionIn state) sealed level description answered room))
+    (loaded state))
+    (loaded state)
 
 unfoldable pub alertOut : List ℕ → ℕ → ℕ → ℕ → List ℕ → List ℕ → List ℕ
 alertOut state protected level description answered out =
@@ -158,6 +196,12 @@ receiveState state tally answers d random room =
     pick (lentFor state (length tally) (length answers))
     (whereTaken (got state d random room .taken) (savedOf (got state d random room .connection)) state)
     state
+
+unfoldable pub receiveLoads : List ℕ → List ℕ → List ℕ → List ℕ → List ℕ → ℕ → Loaded
+receiveLoads state tally answers d random room =
+    pick (lentFor state (length tally) (length answers))
+    (whereTaken (got state d random room .taken) (Is (got state d random room .connection)) (loaded state))
+    (loaded state)
 
 -- the tally "brought up to date where it stands", with the answers
 unfoldable pub receiveTally : List ℕ → List ℕ → List ℕ → List ℕ → List ℕ → ℕ → List ℕ

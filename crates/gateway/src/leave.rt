@@ -3,10 +3,10 @@
 ghost use mathlib.Core.Path.{_≡_};
 ghost use lib.ListN.{length};
 ghost use Rattle.connection.specs.Tally.{countedOf};
-ghost use Rattle.gateway.specs.Saved.{savedOf};
+ghost use Rattle.gateway.specs.Saved.{savedOf, loaded, Is};
 ghost use Rattle.gateway.specs.Report.{reportOf};
 ghost use Rattle.gateway.specs.Counts.{tallyBytes, tallyIn};
-ghost use Rattle.gateway.specs.Calls.{resultOf, refusalIn, leftIn, sentResult, sentState};
+ghost use Rattle.gateway.specs.Calls.{resultOf, refusalIn, leftIn, leftLoaded, sentResult, sentState, sentLoads};
 ghost use Rattle.gateway.specs.Calls.{takenResult, whereTaken};
 use crate::counts::put_tally;
 use crate::counts::tally_in;
@@ -24,6 +24,7 @@ pub fn leave_called(called: Called, state: &mut [u8]) -> u64
     requires { ⌜ length (now state) ≡ 457 ⌝ }
     ensures { λ r. ⌜ r ≡ resultOf (refusalIn (called .outcome)) 0 0 ⌝ }
     ensures { λ _. ⌜ now (state .exit) ≡ leftIn (now (state .entry)) (called .connection) (called .outcome) ⌝ }
+    ensures { λ _. ⌜ loaded (now (state .exit)) ≡ leftLoaded (now (state .entry)) (called .connection) (called .outcome) ⌝ }
 {
     let outcome = called.outcome;
     match outcome {
@@ -39,6 +40,7 @@ pub fn leave_sent(sent: Sent, state: &mut [u8]) -> u64
     requires { ⌜ length (now state) ≡ 457 ⌝ }
     ensures { λ r. ⌜ r ≡ sentResult sent ⌝ }
     ensures { λ _. ⌜ now (state .exit) ≡ sentState (now (state .entry)) sent ⌝ }
+    ensures { λ _. ⌜ loaded (now (state .exit)) ≡ sentLoads (now (state .entry)) sent ⌝ }
 {
     let outcome = sent.outcome;
     match outcome {
@@ -64,6 +66,8 @@ pub fn leave_received(
         (tallyBytes (countedOf (tallyIn (now (tally .entry))) (received .answers))) (now (tally .entry)) ⌝ }
     ensures { λ _. ⌜ now (answers .exit) ≡ whereTaken (received .taken) (reportOf (received .answers))
         (now (answers .entry)) ⌝ }
+    ensures { λ _. ⌜ loaded (now (state .exit)) ≡ whereTaken (received .taken) (Is (received .connection))
+        (loaded (now (state .entry))) ⌝ }
 {
     let taken = received.taken;
     match taken {

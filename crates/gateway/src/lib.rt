@@ -4,7 +4,8 @@
 ghost use mathlib.Core.Path.{_≡_};
 ghost use lib.ListN.{length};
 ghost use Rattle.gateway.specs.Calls.{freshResult, freshState, closeResult, closeState, startResult, startState};
-ghost use Rattle.gateway.specs.Calls.{stateResult};
+ghost use Rattle.gateway.specs.Calls.{stateResult, freshLoads, closeLoads, startLoads, dataLoads, alertLoads, receiveLoads};
+ghost use Rattle.gateway.specs.Saved.{loaded};
 ghost use Rattle.gateway.specs.Calls.{dataResult, dataState, dataOut, alertResult, alertState, alertOut};
 ghost use Rattle.gateway.specs.Calls.{receiveResult, receiveState, receiveTally, receiveAnswers, receiveOut};
 
@@ -33,6 +34,8 @@ use result::result_of;
 pub extern "C" fn gateway_fresh(id: &[u8], secret: &[u8], state: &mut [u8]) -> u64
     ensures exact { λ r. ⌜ r ≡ freshResult (now (id .entry)) (now (secret .entry)) (length (now (state .entry))) ⌝ }
     ensures bytes { λ _. ⌜ now (state .exit) ≡ freshState (now (id .entry)) (now (secret .entry))
+        (now (state .entry)) ⌝ }
+    ensures loads { λ _. ⌜ loaded (now (state .exit)) ≡ freshLoads (now (id .entry)) (now (secret .entry))
         (now (state .entry)) ⌝ }
 {
     if state.len() != 457 {
@@ -63,6 +66,8 @@ pub extern "C" fn gateway_receive(
         (now (datagram .entry)) (now (random .entry)) (now (out .entry)) ⌝ }
     ensures answered { λ _. ⌜ now (answers .exit) ≡ receiveAnswers (now (state .entry)) (now (tally .entry))
         (now (answers .entry)) (now (datagram .entry)) (now (random .entry)) (length (now (out .entry))) ⌝ }
+    ensures loads { λ _. ⌜ loaded (now (state .exit)) ≡ receiveLoads (now (state .entry)) (now (tally .entry))
+        (now (answers .entry)) (now (datagram .entry)) (now (random .entry)) (length (now (out .entry))) ⌝ }
 {
     if lent_for(state, tally.len(), answers.len()) {
         let received = receive(connection_in(state), datagram, random, out);
@@ -78,6 +83,8 @@ pub extern "C" fn gateway_send_data(state: &mut [u8], data: &[u8], out: &mut [u8
     ensures connection { λ _. ⌜ now (state .exit) ≡ dataState (now (state .entry)) (now («data» .entry))
         (length (now (out .entry))) ⌝ }
     ensures bytes { λ _. ⌜ now (out .exit) ≡ dataOut (now (state .entry)) (now («data» .entry)) (now (out .entry)) ⌝ }
+    ensures loads { λ _. ⌜ loaded (now (state .exit)) ≡ dataLoads (now (state .entry)) (now («data» .entry))
+        (length (now (out .entry))) ⌝ }
 {
     if is_saved(state) {
         let sent = send::send_data(connection_in(state), data, out);
@@ -103,6 +110,8 @@ pub extern "C" fn gateway_send_alert(
         (now (answered .entry)) (length (now (out .entry))) ⌝ }
     ensures bytes { λ _. ⌜ now (out .exit) ≡ alertOut (now (state .entry)) protected level description
         (now (answered .entry)) (now (out .entry)) ⌝ }
+    ensures loads { λ _. ⌜ loaded (now (state .exit)) ≡ alertLoads (now (state .entry)) protected level description
+        (now (answered .entry)) (length (now (out .entry))) ⌝ }
 {
     if 1 < protected {
         return not_taken();
@@ -132,6 +141,7 @@ pub extern "C" fn gateway_send_alert(
 pub extern "C" fn gateway_close(state: &mut [u8]) -> u64
     ensures exact { λ r. ⌜ r ≡ closeResult (now (state .entry)) ⌝ }
     ensures bytes { λ _. ⌜ now (state .exit) ≡ closeState (now (state .entry)) ⌝ }
+    ensures loads { λ _. ⌜ loaded (now (state .exit)) ≡ closeLoads (now (state .entry)) ⌝ }
 {
     if is_saved(state) {
         return leave_called(calls::close(connection_in(state)), state);
@@ -144,6 +154,7 @@ pub extern "C" fn gateway_close(state: &mut [u8]) -> u64
 pub extern "C" fn gateway_start(state: &mut [u8]) -> u64
     ensures exact { λ r. ⌜ r ≡ startResult (now (state .entry)) ⌝ }
     ensures bytes { λ _. ⌜ now (state .exit) ≡ startState (now (state .entry)) ⌝ }
+    ensures loads { λ _. ⌜ loaded (now (state .exit)) ≡ startLoads (now (state .entry)) ⌝ }
 {
     if is_saved(state) {
         return leave_called(calls::start(connection_in(state)), state);

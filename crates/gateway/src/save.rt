@@ -1,9 +1,11 @@
 // Saving: a connection laid into its bytes.
 ghost use mathlib.Core.Path.{_≡_};
+ghost use Prim.Native.Nat.{_<_};
 ghost use lib.ListN.{length};
 ghost use Rattle.digest.specs.Bytes.{laidOver};
 ghost use Rattle.gateway.specs.Fields.{joined};
-ghost use Rattle.gateway.specs.Saved.{savedOf, stateNumber, headFields, sessionFields, agreedFields};
+ghost use Rattle.gateway.specs.Saved.{savedOf, loaded, Is};
+ghost use Rattle.gateway.specs.Saved.{stateNumber, headFields, sessionFields, agreedFields};
 ghost use Rattle.gateway.specs.Saved.{keptFields, windowFields, sendingFields};
 use crate::bytes::eight;
 use crate::bytes::four;
@@ -24,6 +26,7 @@ const MARK: u32 = 0x57544701;
 pub fn put_connection(d: &mut [u8], c: Connection)
     requires { ⌜ length (now d) ≡ 457 ⌝ }
     ensures { λ _. ⌜ now (d .exit) ≡ savedOf c ⌝ }
+    ensures { λ _. ⌜ loaded (now (d .exit)) ≡ Is c ⌝ }
 {
     let h = c.handshake;
     let state = h.state;
@@ -63,6 +66,7 @@ fn put_session(d: &mut [u8], session: Session)
     requires { ⌜ length (now d) ≡ 457 ⌝ }
     ensures { λ _. ⌜ now (d .exit) ≡ laidOver (now (d .entry)) 5 (joined (sessionFields session)) ⌝ }
     ensures { λ _. ⌜ length (joined (sessionFields session)) ≡ 28 ⌝ }
+    ensures { λ _. ⌜ (length (session .id) ≡ 8) × (length (session .secret) ≡ 20) ⌝ }
 {
     let id = session.id;
     put(d, 5, &id);
@@ -74,6 +78,7 @@ fn put_agreed(d: &mut [u8], agreed: Agreed)
     requires { ⌜ length (now d) ≡ 457 ⌝ }
     ensures { λ _. ⌜ now (d .exit) ≡ laidOver (now (d .entry)) 33 (joined (agreedFields agreed)) ⌝ }
     ensures { λ _. ⌜ length (joined (agreedFields agreed)) ≡ 46 ⌝ }
+    ensures { λ _. ⌜ (length (agreed .server) ≡ 16) × ((length (agreed .client) ≡ 16) × (length (agreed .expected) ≡ 12)) ⌝ }
 {
     let server = agreed.server;
     put(d, 33, &server);
@@ -92,6 +97,8 @@ fn put_kept(d: &mut [u8], kept: Kept)
     requires { ⌜ length (now d) ≡ 457 ⌝ }
     ensures { λ _. ⌜ now (d .exit) ≡ laidOver (now (d .entry)) 79 (joined (keptFields kept)) ⌝ }
     ensures { λ _. ⌜ length (joined (keptFields kept)) ≡ 356 ⌝ }
+    ensures { λ _. ⌜ (length (kept .hello) ≡ 256) × ((kept .heard < 18446744073709551616) ×
+        ((length (kept .reply) ≡ 84) × (kept .size < 18446744073709551616))) ⌝ }
 {
     let hello = kept.hello;
     put(d, 79, &hello);
@@ -107,6 +114,7 @@ fn put_window(d: &mut [u8], window: Window)
     requires { ⌜ length (now d) ≡ 457 ⌝ }
     ensures { λ _. ⌜ now (d .exit) ≡ laidOver (now (d .entry)) 435 (joined (windowFields window)) ⌝ }
     ensures { λ _. ⌜ length (joined (windowFields window)) ≡ 10 ⌝ }
+    ensures { λ _. ⌜ (window .highest < 65536) × (window .marks < 18446744073709551616) ⌝ }
 {
     let highest = two(window.highest);
     put(d, 435, &highest);
@@ -118,6 +126,7 @@ fn put_sending(d: &mut [u8], sending: Sending)
     requires { ⌜ length (now d) ≡ 457 ⌝ }
     ensures { λ _. ⌜ now (d .exit) ≡ laidOver (now (d .entry)) 445 (joined (sendingFields sending)) ⌝ }
     ensures { λ _. ⌜ length (joined (sendingFields sending)) ≡ 12 ⌝ }
+    ensures { λ _. ⌜ (sending .protected < 4294967296) × ((sending .clear < 4294967296) × (sending .last < 4294967296)) ⌝ }
 {
     let protected = four(sending.protected);
     put(d, 445, &protected);

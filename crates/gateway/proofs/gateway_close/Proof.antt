@@ -1,7 +1,7 @@
 -- `gateway_close`: the bytes, then the call.
 use mathlib.Core.Path.{refl, sym, _∙_, ap}
 use Rattle.connection.specs.Calls.{closedOf}
-use Rattle.gateway.specs.Calls.{closeResult, closeState}
+use Rattle.gateway.specs.Calls.{closeResult, closeState, closeLoads}
 use Rattle.gateway.proofs.Calling.{saved-size, called, test-no}
 use borrow.Author.Needs.{needs}
 use Rattle.gateway.proofs.gateway_close.Statement.{statement}
@@ -23,10 +23,10 @@ same-length : tie.Need-same-length
 same-length c = search needs
 
 returns : tie.Need-returns
-unfolding closeResult closeState
+unfolding closeResult closeState closeLoads
 returns c =
     called closedOf (c .before .before .before .before .before .before .before .before .before .before .before .args .state .now) (c .before .before .before .before .before .before .before .before .is-saved .result) (c .before .before .before .before .close .result) (c .before .before .leave-called .result) (c .before .before .leave-called .last .1 .0) (c .before .before .before .before .before .before .before .before .is-saved .ensures) (c .before .before .before .before .before .before .before .if1 .taken)
-    (c .before .before .before .before .close .ensures ∙ ap closedOf (c .before .before .before .before .before .connection-in .ensures)) (c .before .before .leave-called .ensures .0) (c .before .before .leave-called .ensures .1)
+    (c .before .before .before .before .close .ensures ∙ ap closedOf (c .before .before .before .before .before .connection-in .ensures)) (c .before .before .leave-called .ensures .0) (c .before .before .leave-called .ensures .1 .0) (c .before .before .leave-called .ensures .1 .1)
 
 not-taken-requires : tie.Need-not-taken-requires
 not-taken-requires c κs = search needs
@@ -35,8 +35,8 @@ same-length-2 : tie.Need-same-length-2
 same-length-2 c = search needs
 
 returns-2 : tie.Need-returns-2
-unfolding closeResult closeState
-returns-2 c = (test-no _ (c .before .before .is-saved .ensures) (c .before .if1 .left) (c .not-taken .ensures), test-no _ (c .before .before .is-saved .ensures) (c .before .if1 .left) refl)
+unfolding closeResult closeState closeLoads
+returns-2 c = (test-no _ (c .before .before .is-saved .ensures) (c .before .if1 .left) (c .not-taken .ensures), (test-no _ (c .before .before .is-saved .ensures) (c .before .if1 .left) refl, test-no _ (c .before .before .is-saved .ensures) (c .before .if1 .left) refl))
 
 pub gateway-close-spec : {M : Type 1} → statement M
 gateway-close-spec =

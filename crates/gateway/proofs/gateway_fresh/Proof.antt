@@ -1,7 +1,8 @@
 -- `gateway_fresh`: the room, then the call.
 use mathlib.Core.Path.{_≡_, refl, _∙_, ap}
 use Rattle.digest.proofs.Picks.{picks}
-use Rattle.gateway.specs.Calls.{freshResult, freshState, resultOf, refusalIn, leftIn}
+use Rattle.gateway.specs.Saved.{loaded}
+use Rattle.gateway.specs.Calls.{freshResult, freshState, freshLoads, resultOf, refusalIn, leftIn, leftLoaded}
 use borrow.Author.Needs.{needs}
 use Rattle.gateway.proofs.gateway_fresh.Statement.{statement}
 use Rattle.gateway.proofs.gateway_fresh.Tie as tie
@@ -10,8 +11,8 @@ not-taken-requires : tie.Need-not-taken-requires
 not-taken-requires c κs = search needs
 
 returns : tie.Need-returns
-unfolding freshResult freshState
-returns c = let same : c .before .before .before .before .before .args .state .now ≡ c .before .before .before .before .before .args .state .now = refl in let no = c .not-taken .ensures in (search picks, search picks)
+unfolding freshResult freshState freshLoads
+returns c = let same : c .before .before .before .before .before .args .state .now ≡ c .before .before .before .before .before .args .state .now = refl in let no = c .not-taken .ensures in let still : loaded (c .before .before .before .before .before .args .state .now) ≡ loaded (c .before .before .before .before .before .args .state .now) = refl in (search picks, (search picks, search picks))
 
 fresh-requires : tie.Need-fresh-requires
 fresh-requires c κs = search needs
@@ -23,11 +24,12 @@ same-length : tie.Need-same-length
 same-length c = search needs
 
 returns-2 : tie.Need-returns-2
-unfolding freshResult freshState
+unfolding freshResult freshState freshLoads
 returns-2 c =
     let result = c .before .before .leave-called .ensures .0 ∙ ap (λ k. resultOf (refusalIn (k .outcome)) 0 0) (c .before .before .before .before .fresh .ensures) in
-    let left = c .before .before .leave-called .ensures .1 ∙ ap (λ k. leftIn (c .before .before .before .before .before .before .before .before .before .args .state .now) (k .connection) (k .outcome)) (c .before .before .before .before .fresh .ensures) in
-    (search picks, search picks)
+    let left = c .before .before .leave-called .ensures .1 .0 ∙ ap (λ k. leftIn (c .before .before .before .before .before .before .before .before .before .args .state .now) (k .connection) (k .outcome)) (c .before .before .before .before .fresh .ensures) in
+    let loads = c .before .before .leave-called .ensures .1 .1 ∙ ap (λ k. leftLoaded (c .before .before .before .before .before .before .before .before .before .args .state .now) (k .connection) (k .outcome)) (c .before .before .before .before .fresh .ensures) in
+    (search picks, (search picks, search picks))
 
 pub gateway-fresh-spec : {M : Type 1} → statement M
 gateway-fresh-spec =

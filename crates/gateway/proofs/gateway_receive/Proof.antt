@@ -3,10 +3,10 @@ use mathlib.Core.Path.{refl, sym, _∙_, ap}
 use lib.ListN.{length}
 use Rattle.connection.specs.Receive.{receivedOf, outputOf}
 use Rattle.connection.specs.Tally.{countedOf}
-use Rattle.gateway.specs.Saved.{savedOf}
+use Rattle.gateway.specs.Saved.{savedOf, loaded, Is}
 use Rattle.gateway.specs.Report.{reportOf}
 use Rattle.gateway.specs.Counts.{tallyBytes, tallyIn}
-use Rattle.gateway.specs.Calls.{receiveResult, receiveState, receiveTally, receiveOut, receiveAnswers, takenResult, whereTaken}
+use Rattle.gateway.specs.Calls.{receiveResult, receiveState, receiveTally, receiveOut, receiveAnswers, receiveLoads, takenResult, whereTaken}
 use Rattle.gateway.proofs.Calling.{lent-sizes, test-yes, test-no}
 use borrow.Author.Needs.{needs}
 use Rattle.gateway.proofs.gateway_receive.Statement.{statement}
@@ -38,7 +38,7 @@ same-length-4 : tie.Need-same-length-4
 same-length-4 c = search needs
 
 returns : tie.Need-returns
-unfolding receiveResult receiveState receiveTally receiveOut receiveAnswers
+unfolding receiveResult receiveState receiveTally receiveOut receiveAnswers receiveLoads
 returns c =
     let is = c .before .before .before .before .before .before .before .before .before .before .before .before .before .before .before .before .before .lent-for .ensures in
     let yes = c .before .before .before .before .before .before .before .before .before .before .before .before .before .before .before .before .if1 .taken in
@@ -53,8 +53,9 @@ returns c =
     let left = given .1 .0 ∙ ap (λ g. whereTaken (g .taken) (savedOf (g .connection)) b) got in
     let counted = given .1 .1 .0 ∙ ap (λ g. whereTaken (g .taken) (tallyBytes (countedOf (tallyIn t) (g .answers))) t) got in
     let written = c .before .before .before .before .before .before .before .before .before .before .before .before .receive .ensures .1 ∙ ap (λ x. outputOf x d random out) (c .before .before .before .before .before .before .before .before .before .before .before .before .before .before .connection-in .ensures) in
-    let answered = given .1 .1 .1 ∙ ap (λ g. whereTaken (g .taken) (reportOf (g .answers)) (c .before .before .before .before .before .before .before .before .before .before .before .before .before .before .before .before .before .before .before .before .before .before .before .before .before .args .answers .now)) got in
-    (test-yes _ is yes result, (test-yes _ is yes left, (test-yes _ is yes counted, (test-yes _ is yes written, test-yes _ is yes answered))))
+    let answered = given .1 .1 .1 .0 ∙ ap (λ g. whereTaken (g .taken) (reportOf (g .answers)) (c .before .before .before .before .before .before .before .before .before .before .before .before .before .before .before .before .before .before .before .before .before .before .before .before .before .args .answers .now)) got in
+    let loads = given .1 .1 .1 .1 ∙ ap (λ g. whereTaken (g .taken) (Is (g .connection)) (loaded b)) got in
+    (test-yes _ is yes result, (test-yes _ is yes left, (test-yes _ is yes counted, (test-yes _ is yes written, (test-yes _ is yes answered, test-yes _ is yes loads)))))
 
 not-taken-requires : tie.Need-not-taken-requires
 not-taken-requires c κs = search needs
@@ -63,9 +64,9 @@ same-length-5 : tie.Need-same-length-5
 same-length-5 c = search needs
 
 returns-2 : tie.Need-returns-2
-unfolding receiveResult receiveState receiveTally receiveOut receiveAnswers
+unfolding receiveResult receiveState receiveTally receiveOut receiveAnswers receiveLoads
 returns-2 c =
-    (test-no _ (c .before .before .lent-for .ensures) (c .before .if1 .left) (c .not-taken .ensures), (test-no _ (c .before .before .lent-for .ensures) (c .before .if1 .left) refl, (test-no _ (c .before .before .lent-for .ensures) (c .before .if1 .left) refl, (test-no _ (c .before .before .lent-for .ensures) (c .before .if1 .left) refl, test-no _ (c .before .before .lent-for .ensures) (c .before .if1 .left) refl))))
+    (test-no _ (c .before .before .lent-for .ensures) (c .before .if1 .left) (c .not-taken .ensures), (test-no _ (c .before .before .lent-for .ensures) (c .before .if1 .left) refl, (test-no _ (c .before .before .lent-for .ensures) (c .before .if1 .left) refl, (test-no _ (c .before .before .lent-for .ensures) (c .before .if1 .left) refl, (test-no _ (c .before .before .lent-for .ensures) (c .before .if1 .left) refl, test-no _ (c .before .before .lent-for .ensures) (c .before .if1 .left) refl)))))
 
 pub gateway-receive-spec : {M : Type 1} → statement M
 gateway-receive-spec =

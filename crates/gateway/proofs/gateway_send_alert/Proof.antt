@@ -7,8 +7,8 @@ use lib.ListN.{length}
 use lib.Dec.{eqb}
 use Rattle.connection.specs.Send.{alertSent, alertOutput, unsent}
 use Rattle.connection.specs.declared.refusal.Refusal.the-variants.{Argument}
-use Rattle.gateway.specs.Saved.{isSaved, connectionIn}
-use Rattle.gateway.specs.Calls.{alertResult, alertState, alertOut, sentResult, sentState, notTaken}
+use Rattle.gateway.specs.Saved.{isSaved, connectionIn, Loaded, loaded}
+use Rattle.gateway.specs.Calls.{alertResult, alertState, alertOut, sentResult, sentState, sentLoads, notTaken, alertLoads}
 use Rattle.gateway.proofs.Calling.{saved-size, test-yes, test-no, either, sense-in, sense-out, sense-same, level-above, level-above-output, description-above, description-above-output}
 use borrow.Author.Needs.{needs}
 use Rattle.gateway.proofs.gateway_send_alert.Statement.{statement}
@@ -18,7 +18,7 @@ not-taken-requires : tie.Need-not-taken-requires
 not-taken-requires c κs = search needs
 
 returns : tie.Need-returns
-unfolding alertResult alertState alertOut
+unfolding alertResult alertState alertOut alertLoads
 returns c =
     let state = c .before .before .before .before .before .args .state .now in
     let p = c .before .before .before .before .before .args .protected in
@@ -26,14 +26,19 @@ returns c =
     let description = c .before .before .before .before .before .args .description in
     let answered = c .before .before .before .before .before .args .answered .now in
     let out = c .before .before .before .before .before .args .out .now in
+    let result : Bool → ℕ = λ b. sentResult (alertSent (connectionIn state) b level description answered (length out)) in
+    let left : Bool → List ℕ = λ b. sentState state (alertSent (connectionIn state) b level description answered (length out)) in
+    let loads : Bool → Loaded = λ b. sentLoads state (alertSent (connectionIn state) b level description answered (length out)) in
+    let written : Bool → List ℕ = λ b. alertOutput (connectionIn state) b level description answered out in
     let above = c .before .if1 .taken in
-    (either (isSaved state) (c .not-taken .ensures ∙ sense-out ℕ p (λ b. sentResult (alertSent (connectionIn state) b level description answered (length out))) notTaken above) (c .not-taken .ensures), (either (isSaved state) (sense-out (List ℕ) p (λ b. sentState state (alertSent (connectionIn state) b level description answered (length out))) state above) refl, either (isSaved state) (sense-out (List ℕ) p (λ b. alertOutput (connectionIn state) b level description answered out) out above) refl))
+    let no = c .not-taken .ensures in
+    (either (isSaved state) (no ∙ sense-out ℕ p result notTaken above) no, (either (isSaved state) (sense-out (List ℕ) p left state above) refl, (either (isSaved state) (sense-out (List ℕ) p written out above) refl, either (isSaved state) (sense-out Loaded p loads (loaded state) above) refl)))
 
 not-taken-requires-2 : tie.Need-not-taken-requires-2
 not-taken-requires-2 c κs = search needs
 
 returns-2 : tie.Need-returns-2
-unfolding alertResult alertState alertOut
+unfolding alertResult alertState alertOut alertLoads
 returns-2 c =
     let state = c .before .before .before .before .before .before .args .state .now in
     let p = c .before .before .before .before .before .before .args .protected in
@@ -41,16 +46,21 @@ returns-2 c =
     let description = c .before .before .before .before .before .before .args .description in
     let answered = c .before .before .before .before .before .before .args .answered .now in
     let out = c .before .before .before .before .before .before .args .out .now in
+    let result : Bool → ℕ = λ b. sentResult (alertSent (connectionIn state) b level description answered (length out)) in
+    let left : Bool → List ℕ = λ b. sentState state (alertSent (connectionIn state) b level description answered (length out)) in
+    let loads : Bool → Loaded = λ b. sentLoads state (alertSent (connectionIn state) b level description answered (length out)) in
+    let written : Bool → List ℕ = λ b. alertOutput (connectionIn state) b level description answered out in
     let above = c .before .if2 .taken in
+    let no = c .not-taken2 .ensures in
     let sent : (b : Bool) → unsent (connectionIn state) Argument ≡ alertSent (connectionIn state) b level description answered (length out)
     = λ b. level-above (connectionIn state) b level description answered (length out) above in
-    (either (isSaved state) (c .not-taken2 .ensures ∙ sense-same ℕ p (λ b. sentResult (alertSent (connectionIn state) b level description answered (length out))) notTaken (λ b. ap sentResult (sent b))) (c .not-taken2 .ensures), (either (isSaved state) (sense-same (List ℕ) p (λ b. sentState state (alertSent (connectionIn state) b level description answered (length out))) state (λ b. ap (sentState state) (sent b))) refl, either (isSaved state) (sense-same (List ℕ) p (λ b. alertOutput (connectionIn state) b level description answered out) out (λ b. level-above-output (connectionIn state) b level description answered out above)) refl))
+    (either (isSaved state) (no ∙ sense-same ℕ p result notTaken (λ b. ap sentResult (sent b))) no, (either (isSaved state) (sense-same (List ℕ) p left state (λ b. ap (sentState state) (sent b))) refl, (either (isSaved state) (sense-same (List ℕ) p written out (λ b. level-above-output (connectionIn state) b level description answered out above)) refl, either (isSaved state) (sense-same Loaded p loads (loaded state) (λ b. ap (sentLoads state) (sent b))) refl)))
 
 not-taken-requires-3 : tie.Need-not-taken-requires-3
 not-taken-requires-3 c κs = search needs
 
 returns-3 : tie.Need-returns-3
-unfolding alertResult alertState alertOut
+unfolding alertResult alertState alertOut alertLoads
 returns-3 c =
     let state = c .before .before .before .before .before .before .before .args .state .now in
     let p = c .before .before .before .before .before .before .before .args .protected in
@@ -58,10 +68,15 @@ returns-3 c =
     let description = c .before .before .before .before .before .before .before .args .description in
     let answered = c .before .before .before .before .before .before .before .args .answered .now in
     let out = c .before .before .before .before .before .before .before .args .out .now in
+    let result : Bool → ℕ = λ b. sentResult (alertSent (connectionIn state) b level description answered (length out)) in
+    let left : Bool → List ℕ = λ b. sentState state (alertSent (connectionIn state) b level description answered (length out)) in
+    let loads : Bool → Loaded = λ b. sentLoads state (alertSent (connectionIn state) b level description answered (length out)) in
+    let written : Bool → List ℕ = λ b. alertOutput (connectionIn state) b level description answered out in
     let above = c .before .if3 .taken in
+    let no = c .not-taken3 .ensures in
     let sent : (b : Bool) → unsent (connectionIn state) Argument ≡ alertSent (connectionIn state) b level description answered (length out)
     = λ b. description-above (connectionIn state) b level description answered (length out) above in
-    (either (isSaved state) (c .not-taken3 .ensures ∙ sense-same ℕ p (λ b. sentResult (alertSent (connectionIn state) b level description answered (length out))) notTaken (λ b. ap sentResult (sent b))) (c .not-taken3 .ensures), (either (isSaved state) (sense-same (List ℕ) p (λ b. sentState state (alertSent (connectionIn state) b level description answered (length out))) state (λ b. ap (sentState state) (sent b))) refl, either (isSaved state) (sense-same (List ℕ) p (λ b. alertOutput (connectionIn state) b level description answered out) out (λ b. description-above-output (connectionIn state) b level description answered out above)) refl))
+    (either (isSaved state) (no ∙ sense-same ℕ p result notTaken (λ b. ap sentResult (sent b))) no, (either (isSaved state) (sense-same (List ℕ) p left state (λ b. ap (sentState state) (sent b))) refl, (either (isSaved state) (sense-same (List ℕ) p written out (λ b. description-above-output (connectionIn state) b level description answered out above)) refl, either (isSaved state) (sense-same Loaded p loads (loaded state) (λ b. ap (sentLoads state) (sent b))) refl)))
 
 is-saved-requires : tie.Need-is-saved-requires
 is-saved-requires c κs = search needs
@@ -88,19 +103,25 @@ same-length-2 : tie.Need-same-length-2
 same-length-2 c = search needs
 
 returns-4 : tie.Need-returns-4
-unfolding alertResult alertState alertOut
+unfolding alertResult alertState alertOut alertLoads
 returns-4 c =
-    let is = c .before .before .before .before .before .before .before .before .before .before .before .is-saved .ensures in
-    let yes = c .before .before .before .before .before .before .before .before .before .before .if4 .taken in
     let state = c .before .before .before .before .before .before .before .before .before .before .before .before .before .before .before .before .before .before .before .args .state .now in
     let p = c .before .before .before .before .before .before .before .before .before .before .before .before .before .before .before .before .before .before .before .args .protected in
     let level = c .before .before .before .before .before .before .before .before .before .before .before .before .before .before .before .before .before .before .before .args .level in
     let description = c .before .before .before .before .before .before .before .before .before .before .before .before .before .before .before .before .before .before .before .args .description in
     let answered = c .before .before .before .before .before .before .before .before .before .before .before .before .before .before .before .before .before .before .before .args .answered .now in
     let out = c .before .before .before .before .before .before .before .before .before .before .before .before .before .before .before .before .before .before .before .args .out .now in
+    let result : Bool → ℕ = λ b. sentResult (alertSent (connectionIn state) b level description answered (length out)) in
+    let left : Bool → List ℕ = λ b. sentState state (alertSent (connectionIn state) b level description answered (length out)) in
+    let loads : Bool → Loaded = λ b. sentLoads state (alertSent (connectionIn state) b level description answered (length out)) in
+    let written : Bool → List ℕ = λ b. alertOutput (connectionIn state) b level description answered out in
+    let is = c .before .before .before .before .before .before .before .before .before .before .before .is-saved .ensures in
+    let yes = c .before .before .before .before .before .before .before .before .before .before .if4 .taken in
+    let low = c .before .before .before .before .before .before .before .before .before .before .before .before .before .before .before .if1 .left in
+    let given = c .before .before .leave-sent .ensures in
     let sent = c .before .before .before .before .before .before .send-alert .ensures .0 ∙ ap (λ x. alertSent x (eqb p 1) level description answered (length out)) (c .before .before .before .before .before .before .before .before .connection-in .ensures) in
-    let written = c .before .before .before .before .before .before .send-alert .ensures .1 ∙ ap (λ x. alertOutput x (eqb p 1) level description answered out) (c .before .before .before .before .before .before .before .before .connection-in .ensures) in
-    (test-yes _ is yes (c .before .before .leave-sent .ensures .0 ∙ ap sentResult sent ∙ sense-in p (λ b. sentResult (alertSent (connectionIn state) b level description answered (length out))) notTaken (c .before .before .before .before .before .before .before .before .before .before .before .before .before .before .before .if1 .left)), (test-yes _ is yes (c .before .before .leave-sent .ensures .1 ∙ ap (sentState state) sent ∙ sense-in p (λ b. sentState state (alertSent (connectionIn state) b level description answered (length out))) state (c .before .before .before .before .before .before .before .before .before .before .before .before .before .before .before .if1 .left)), test-yes _ is yes (written ∙ sense-in p (λ b. alertOutput (connectionIn state) b level description answered out) out (c .before .before .before .before .before .before .before .before .before .before .before .before .before .before .before .if1 .left))))
+    let put = c .before .before .before .before .before .before .send-alert .ensures .1 ∙ ap (λ x. alertOutput x (eqb p 1) level description answered out) (c .before .before .before .before .before .before .before .before .connection-in .ensures) in
+    (test-yes _ is yes (given .0 ∙ ap sentResult sent ∙ sense-in p result notTaken low), (test-yes _ is yes (given .1 .0 ∙ ap (sentState state) sent ∙ sense-in p left state low), (test-yes _ is yes (put ∙ sense-in p written out low), test-yes _ is yes (given .1 .1 ∙ ap (sentLoads state) sent ∙ sense-in p loads (loaded state) low))))
 
 not-taken-requires-4 : tie.Need-not-taken-requires-4
 not-taken-requires-4 c κs = search needs
@@ -109,8 +130,9 @@ same-length-3 : tie.Need-same-length-3
 same-length-3 c = search needs
 
 returns-5 : tie.Need-returns-5
-unfolding alertResult alertState alertOut
-returns-5 c = (test-no _ (c .before .before .is-saved .ensures) (c .before .if4 .left) (c .not-taken4 .ensures), (test-no _ (c .before .before .is-saved .ensures) (c .before .if4 .left) refl, test-no _ (c .before .before .is-saved .ensures) (c .before .if4 .left) refl))
+unfolding alertResult alertState alertOut alertLoads
+returns-5 c =
+    (test-no _ (c .before .before .is-saved .ensures) (c .before .if4 .left) (c .not-taken4 .ensures), (test-no _ (c .before .before .is-saved .ensures) (c .before .if4 .left) refl, (test-no _ (c .before .before .is-saved .ensures) (c .before .if4 .left) refl, test-no _ (c .before .before .is-saved .ensures) (c .before .if4 .left) refl)))
 
 pub gateway-send-alert-spec : {M : Type 1} → statement M
 gateway-send-alert-spec =

@@ -1,7 +1,7 @@
 -- `gateway_start`: the bytes, then the call.
 use mathlib.Core.Path.{refl, sym, _∙_, ap}
 use Rattle.connection.specs.Calls.{startedOf}
-use Rattle.gateway.specs.Calls.{startResult, startState}
+use Rattle.gateway.specs.Calls.{startResult, startState, startLoads}
 use Rattle.gateway.proofs.Calling.{saved-size, called, test-no}
 use borrow.Author.Needs.{needs}
 use Rattle.gateway.proofs.gateway_start.Statement.{statement}
@@ -23,10 +23,10 @@ same-length : tie.Need-same-length
 same-length c = search needs
 
 returns : tie.Need-returns
-unfolding startResult startState
+unfolding startResult startState startLoads
 returns c =
     called startedOf (c .before .before .before .before .before .before .before .before .before .before .before .args .state .now) (c .before .before .before .before .before .before .before .before .is-saved .result) (c .before .before .before .before .start .result) (c .before .before .leave-called .result) (c .before .before .leave-called .last .1 .0) (c .before .before .before .before .before .before .before .before .is-saved .ensures) (c .before .before .before .before .before .before .before .if1 .taken)
-    (c .before .before .before .before .start .ensures ∙ ap startedOf (c .before .before .before .before .before .connection-in .ensures)) (c .before .before .leave-called .ensures .0) (c .before .before .leave-called .ensures .1)
+    (c .before .before .before .before .start .ensures ∙ ap startedOf (c .before .before .before .before .before .connection-in .ensures)) (c .before .before .leave-called .ensures .0) (c .before .before .leave-called .ensures .1 .0) (c .before .before .leave-called .ensures .1 .1)
 
 not-taken-requires : tie.Need-not-taken-requires
 not-taken-requires c κs = search needs
@@ -35,8 +35,8 @@ same-length-2 : tie.Need-same-length-2
 same-length-2 c = search needs
 
 returns-2 : tie.Need-returns-2
-unfolding startResult startState
-returns-2 c = (test-no _ (c .before .before .is-saved .ensures) (c .before .if1 .left) (c .not-taken .ensures), test-no _ (c .before .before .is-saved .ensures) (c .before .if1 .left) refl)
+unfolding startResult startState startLoads
+returns-2 c = (test-no _ (c .before .before .is-saved .ensures) (c .before .if1 .left) (c .not-taken .ensures), (test-no _ (c .before .before .is-saved .ensures) (c .before .if1 .left) refl, test-no _ (c .before .before .is-saved .ensures) (c .before .if1 .left) refl))
 
 pub gateway-start-spec : {M : Type 1} → statement M
 gateway-start-spec =

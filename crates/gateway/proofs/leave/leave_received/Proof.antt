@@ -47,10 +47,10 @@ result-of-requires-3 : tie.Need-result-of-requires-3
 result-of-requires-3 c κs = search needs
 
 returns : tie.Need-returns
-returns c = rw (c .before .before .before .taken .given .1) (c .result-of .ensures ∙ ap (λ x. resultOf x 0 0) (c .before .number .ensures), (refl, (refl, refl)))
+returns c = rw (c .before .before .before .taken .given .1) (c .result-of .ensures ∙ ap (λ x. resultOf x 0 0) (c .before .number .ensures), (refl, (refl, (refl, refl))))
 
 returns-2 : tie.Need-returns-2
-returns-2 c = rw (c .before .before .before .taken2 .given .1) (c .result-of2 .ensures ∙ ap (λ x. resultOf x 0 (c .before .before .before .taken2 .given .0 .1 .0)) (c .before .number2 .ensures), (refl, (refl, refl)))
+returns-2 c = rw (c .before .before .before .taken2 .given .1) (c .result-of2 .ensures ∙ ap (λ x. resultOf x 0 (c .before .before .before .taken2 .given .0 .1 .0)) (c .before .number2 .ensures), (refl, (refl, (refl, refl))))
 
 same-length : tie.Need-same-length
 same-length c = search needs
@@ -64,7 +64,7 @@ same-length-3 c = search needs
 returns-3 : tie.Need-returns-3
 returns-3 c =
     let counted = c .before .before .before .before .before .before .before .put-tally .ensures ∙ ap tallyBytes (c .before .before .before .before .before .before .before .before .with-answers .ensures ∙ ap (λ t. countedOf t (c .before .before .before .before .before .before .before .before .before .before .before .before .before .before .before .before .before .before .before .before .before .before .before .args .received .answers)) (c .before .before .before .before .before .before .before .before .before .before .before .tally-in .ensures)) in
-    rw (c .before .before .before .before .before .before .before .before .before .before .before .before .before .before .before .before .before .before .taken3 .given .1) (c .result-of3 .ensures, (c .before .before .before .before .before .before .before .before .before .before .before .before .before .before .before .put-connection .ensures, (counted, c .before .before .before .put-answers .ensures)))
+    rw (c .before .before .before .before .before .before .before .before .before .before .before .before .before .before .before .before .before .before .taken3 .given .1) (c .result-of3 .ensures, (c .before .before .before .before .before .before .before .before .before .before .before .before .before .before .before .put-connection .ensures .0, (counted, (c .before .before .before .put-answers .ensures, c .before .before .before .before .before .before .before .before .before .before .before .before .before .before .before .put-connection .ensures .1))))
 
 pub leave-received-spec : {M : Type 1} → statement M
 leave-received-spec =

@@ -24,7 +24,7 @@ result-of-requires-2 : tie.Need-result-of-requires-2
 result-of-requires-2 c κs = search needs
 
 returns : tie.Need-returns
-returns c = rw (c .before .before .before .outcome .given .1) (c .result-of .ensures ∙ ap (λ x. resultOf x (c .before .before .before .before .before .before .args .sent .written) 0) (c .before .number .ensures), refl)
+returns c = rw (c .before .before .before .outcome .given .1) (c .result-of .ensures ∙ ap (λ x. resultOf x (c .before .before .before .before .before .before .args .sent .written) 0) (c .before .number .ensures), (refl, refl))
 
 same-length : tie.Need-same-length
 same-length c = search needs

@@ -58,7 +58,7 @@ returns c =
     let three = laid-more 65 1 (c .before .before .before .before .before .before .before .before .before .before .before .before .before .before .before .before .number .result ∷ []) (numberOf (agreed .mac) ∷ []) (c .before .before .before .before .before .before .before .before .before .before .before .before .before .put3 .last .0) two refl (ap (λ x. x ∷ []) (c .before .before .before .before .before .before .before .before .before .before .before .before .before .before .before .before .number .ensures)) refl (omega (arith, c .before .before .before .before .before .before .before .before .before .before .before .before .before .before .before .before .before .before .before .before .before .before .before .before .before .before .before .before .before .before .pre)) (c .before .before .before .before .before .before .before .before .before .before .before .before .before .put3 .ensures) in
     let four = laid-more 66 1 (agreed .refresh ∷ []) (agreed .refresh ∷ []) (c .before .before .before .before .before .before .before .before .put4 .last .0) three refl refl refl (omega (arith, c .before .before .before .before .before .before .before .before .before .before .before .before .before .before .before .before .before .before .before .before .before .before .before .before .before .before .before .before .before .before .pre)) (c .before .before .before .before .before .before .before .before .put4 .ensures) in
     let five = laid-more 67 12 (agreed .expected) (agreed .expected) (c .before .before .put5 .last .0) four refl refl l-expected (omega (arith, c .before .before .before .before .before .before .before .before .before .before .before .before .before .before .before .before .before .before .before .before .before .before .before .before .before .before .before .before .before .before .pre)) (c .before .before .put5 .ensures) in
-    (five .bytes, five .count)
+    (five .bytes, (five .count, (l-server, (l-client, l-expected))))
 
 pub put-agreed-spec : {M : Type 1} → statement M
 put-agreed-spec =

@@ -1,5 +1,6 @@
 -- `save::put_kept`: four fields.
 use mathlib.Core.Path.{_≡_, refl}
+use Prim.Native.Nat.{_<_}
 use native.Mathlib.Omega.{arith}
 use lib.ListN.{length}
 use Rattle.gateway.proofs.Laying.{laid-none, laid-more, length-eight}
@@ -51,7 +52,9 @@ returns c =
     let two = laid-more 335 8 (c .before .before .before .before .before .before .before .before .before .before .before .before .before .before .before .before .before .eight .result) (bytes8 (kept .heard)) (c .before .before .before .before .before .before .before .before .before .before .before .before .before .before .put2 .last .0) one refl (c .before .before .before .before .before .before .before .before .before .before .before .before .before .before .before .before .before .eight .ensures) (length-eight (kept .heard)) (omega (arith, c .before .before .before .before .before .before .before .before .before .before .before .before .before .before .before .before .before .before .before .before .before .before .before .before .before .pre)) (c .before .before .before .before .before .before .before .before .before .before .before .before .before .before .put2 .ensures) in
     let three = laid-more 343 84 (kept .reply) (kept .reply) (c .before .before .before .before .before .before .before .before .put3 .last .0) two refl refl l-reply (omega (arith, c .before .before .before .before .before .before .before .before .before .before .before .before .before .before .before .before .before .before .before .before .before .before .before .before .before .pre)) (c .before .before .before .before .before .before .before .before .put3 .ensures) in
     let four = laid-more 427 8 (c .before .before .before .before .before .eight2 .result) (bytes8 (kept .size)) (c .before .before .put4 .last .0) three refl (c .before .before .before .before .before .eight2 .ensures) (length-eight (kept .size)) (omega (arith, c .before .before .before .before .before .before .before .before .before .before .before .before .before .before .before .before .before .before .before .before .before .before .before .before .before .pre)) (c .before .before .put4 .ensures) in
-    (four .bytes, four .count)
+    let n-heard : kept .heard < 18446744073709551616 = search (needs, c .before .before .before .before .before .before .before .before .before .before .before .before .before .before .before .before .before .before .before .before .before .before .before .before .before .good .1 .0) in
+    let n-size : kept .size < 18446744073709551616 = search (needs, c .before .before .before .before .before .before .before .before .before .before .before .before .before .before .before .before .before .before .before .before .before .before .before .before .before .good .1 .0) in
+    (four .bytes, (four .count, (l-hello, (n-heard, (l-reply, n-size)))))
 
 pub put-kept-spec : {M : Type 1} → statement M
 put-kept-spec =

@@ -1,5 +1,6 @@
 -- `save::put_sending`: three fields.
 use mathlib.Core.Path.{refl}
+use Prim.Native.Nat.{_<_}
 use native.Mathlib.Omega.{arith}
 use Rattle.gateway.proofs.Laying.{laid-none, laid-more}
 use Rattle.digest.specs.Bytes.{bytes4}
@@ -44,7 +45,10 @@ returns c =
     let one = laid-more 445 4 (c .before .before .before .before .before .before .before .before .before .before .before .before .before .before .before .before .before .four .result) (bytes4 (sending .protected)) (c .before .before .before .before .before .before .before .before .before .before .before .before .before .before .put .last .0) (laid-none d 445 (omega (arith, c .before .before .before .before .before .before .before .before .before .before .before .before .before .before .before .before .before .before .before .pre))) refl (c .before .before .before .before .before .before .before .before .before .before .before .before .before .before .before .before .before .four .ensures) refl (omega (arith, c .before .before .before .before .before .before .before .before .before .before .before .before .before .before .before .before .before .before .before .pre)) (c .before .before .before .before .before .before .before .before .before .before .before .before .before .before .put .ensures) in
     let two = laid-more 449 4 (c .before .before .before .before .before .before .before .before .before .before .before .four2 .result) (bytes4 (sending .clear)) (c .before .before .before .before .before .before .before .before .put2 .last .0) one refl (c .before .before .before .before .before .before .before .before .before .before .before .four2 .ensures) refl (omega (arith, c .before .before .before .before .before .before .before .before .before .before .before .before .before .before .before .before .before .before .before .pre)) (c .before .before .before .before .before .before .before .before .put2 .ensures) in
     let three = laid-more 453 4 (c .before .before .before .before .before .four3 .result) (bytes4 (sending .last)) (c .before .before .put3 .last .0) two refl (c .before .before .before .before .before .four3 .ensures) refl (omega (arith, c .before .before .before .before .before .before .before .before .before .before .before .before .before .before .before .before .before .before .before .pre)) (c .before .before .put3 .ensures) in
-    (three .bytes, three .count)
+    let n-protected : sending .protected < 4294967296 = search (needs, c .before .before .before .before .before .before .before .before .before .before .before .before .before .before .before .before .before .before .before .good .1 .0) in
+    let n-clear : sending .clear < 4294967296 = search (needs, c .before .before .before .before .before .before .before .before .before .before .before .before .before .before .before .before .before .before .before .good .1 .0) in
+    let n-last : sending .last < 4294967296 = search (needs, c .before .before .before .before .before .before .before .before .before .before .before .before .before .before .before .before .before .before .before .good .1 .0) in
+    (three .bytes, (three .count, (n-protected, (n-clear, n-last))))
 
 pub put-sending-spec : {M : Type 1} → statement M
 put-sending-spec =

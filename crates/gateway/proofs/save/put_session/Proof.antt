@@ -30,7 +30,7 @@ returns c =
     let l-secret : length (session .secret) ≡ 20 = search (needs, c .before .before .before .before .before .before .before .before .before .before .before .before .before .good .1 .0) in
     let one = laid-more 5 8 (session .id) (session .id) (c .before .before .before .before .before .before .before .before .put .last .0) (laid-none d 5 (omega (arith, c .before .before .before .before .before .before .before .before .before .before .before .before .before .pre))) refl refl l-id (omega (arith, c .before .before .before .before .before .before .before .before .before .before .before .before .before .pre)) (c .before .before .before .before .before .before .before .before .put .ensures) in
     let two = laid-more 13 20 (session .secret) (session .secret) (c .before .before .put2 .last .0) one refl refl l-secret (omega (arith, c .before .before .before .before .before .before .before .before .before .before .before .before .before .pre)) (c .before .before .put2 .ensures) in
-    (two .bytes, two .count)
+    (two .bytes, (two .count, (l-id, l-secret)))
 
 pub put-session-spec : {M : Type 1} → statement M
 put-session-spec =

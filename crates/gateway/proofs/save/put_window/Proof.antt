@@ -1,5 +1,6 @@
 -- `save::put_window`: two fields.
 use mathlib.Core.Path.{refl}
+use Prim.Native.Nat.{_<_}
 use native.Mathlib.Omega.{arith}
 use Rattle.gateway.proofs.Laying.{laid-none, laid-more, length-eight}
 use Rattle.digest.specs.Bytes.{bytes2, bytes8}
@@ -34,7 +35,9 @@ returns c =
     let window = c .before .before .before .before .before .before .before .before .before .before .before .before .before .args .window in
     let one = laid-more 435 2 (c .before .before .before .before .before .before .before .before .before .before .before .two .result) (bytes2 (window .highest)) (c .before .before .before .before .before .before .before .before .put .last .0) (laid-none d 435 (omega (arith, c .before .before .before .before .before .before .before .before .before .before .before .before .before .pre))) refl (c .before .before .before .before .before .before .before .before .before .before .before .two .ensures) refl (omega (arith, c .before .before .before .before .before .before .before .before .before .before .before .before .before .pre)) (c .before .before .before .before .before .before .before .before .put .ensures) in
     let both = laid-more 437 8 (c .before .before .before .before .before .eight .result) (bytes8 (window .marks)) (c .before .before .put2 .last .0) one refl (c .before .before .before .before .before .eight .ensures) (length-eight (window .marks)) (omega (arith, c .before .before .before .before .before .before .before .before .before .before .before .before .before .pre)) (c .before .before .put2 .ensures) in
-    (both .bytes, both .count)
+    let n-highest : window .highest < 65536 = search (needs, c .before .before .before .before .before .before .before .before .before .before .before .before .before .good .1 .0) in
+    let n-marks : window .marks < 18446744073709551616 = search (needs, c .before .before .before .before .before .before .before .before .before .before .before .before .before .good .1 .0) in
+    (both .bytes, (both .count, (n-highest, n-marks)))
 
 pub put-window-spec : {M : Type 1} → statement M
 put-window-spec =
