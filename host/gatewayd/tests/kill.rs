@@ -11,8 +11,8 @@ use std::sync::atomic::{AtomicBool, AtomicUsize, Ordering};
 use std::thread;
 use std::time::{Duration, Instant};
 
-const SHIPS: usize = 6;
-const REPORTS: u16 = 120;
+const SHIPS: usize = 5;
+const REPORTS: u16 = 100;
 const SEED: u64 = 8;
 
 #[test]

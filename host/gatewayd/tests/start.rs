@@ -5,10 +5,26 @@ mod common;
 use common::{signal, Gatewayd, Place};
 use std::fs;
 use std::os::unix::fs::PermissionsExt;
-use std::process::{Command, Output};
+use std::process::{Command, Output, Stdio};
+use std::thread;
+use std::time::Duration;
 
+/// Runs it to its end; a gateway that should have refused to start and did not is killed.
 fn run(words: &[&str]) -> Output {
-    Command::new(env!("CARGO_BIN_EXE_gatewayd")).args(words).output().unwrap()
+    let mut child = Command::new(env!("CARGO_BIN_EXE_gatewayd"))
+        .args(words)
+        .stdout(Stdio::piped())
+        .stderr(Stdio::piped())
+        .spawn()
+        .unwrap();
+    for _ in 0..1000 {
+        if child.try_wait().unwrap().is_some() {
+            return child.wait_with_output().unwrap();
+        }
+        thread::sleep(Duration::from_millis(5));
+    }
+    child.kill().unwrap();
+    panic!("{words:?}: it runs");
 }
 
 /// Exit status, and what is said: one line.

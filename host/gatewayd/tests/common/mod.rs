@@ -142,6 +142,14 @@ impl Gatewayd {
     }
 }
 
+/// A test that fails leaves no gateway behind.
+impl Drop for Gatewayd {
+    fn drop(&mut self) {
+        let _ = self.child.kill();
+        let _ = self.child.wait();
+    }
+}
+
 pub fn signal(child: &Child, name: &str) {
     let sent = Command::new("kill").arg(format!("-{name}")).arg(child.id().to_string()).status();
     assert!(sent.unwrap().success());
