@@ -11,6 +11,8 @@ use Rattle.record.specs.declared.header.Content.the-variants as C
 use Rattle.record.specs.declared.reader.Record.{Record}
 use Rattle.record.specs.declared.window.Window.{Window}
 use native.Mathlib.Omega.{arith}
+use Rattle.connection.specs.Reply.{answeredWith}
+use Rattle.message.specs.declared.acceptance.Plan.{Plan}
 use Rattle.connection.specs.Handshake.{withState, withWindow, barred, reopened}
 use Rattle.connection.specs.Judge.{judgedRecord, fragmentOf}
 use Rattle.connection.specs.Calls.{closedOf, startedOf, closedIn, startedIn}
@@ -51,12 +53,25 @@ module _ (h : Handshake) (random d : List ℕ) (r : Record) where
       → Leaves h random (fragmentOf d r) (r .protected) (r .number) then a
   by-protection then a p e x = subst (λ b. Leaves h random (fragmentOf d r) b (r .number) then a) (sym e) x
 
+  -- a new reply: Replied, the window left alone, the same session
+  replied : (plan : Plan) → answeredWith h random (fragmentOf d r) plan .state ≡ S.Replied
+  unfolding answeredWith
+  replied plan = refl
+
+  unmoved : (plan : Plan) → answeredWith h random (fragmentOf d r) plan .window ≡ h .window
+  unfolding answeredWith
+  unmoved plan = refl
+
+  same-session : (plan : Plan) → answeredWith h random (fragmentOf d r) plan .session ≡ h .session
+  unfolding answeredWith
+  same-session plan = refl
+
   pub leaves : {j : Judged} → Row h random d r j → Leaves h random (fragmentOf d r) (r .protected) (r .number) (j .handshake) (j .answer)
   leaves (row-ended e) = refl
   leaves (row-hello-while-open e) = refl
   leaves (row-not-allowed e o a) = refl
   leaves (row-not-first a i z) = refl
-  leaves (row-reply plan g e) = (plan, e, refl)
+  leaves (row-reply plan g e) = (plan, e, refl, replied plan, unmoved plan, same-session plan)
   leaves (row-hello-malformed fault g e) = malformed-clear (hello-clear (g .hello))
   leaves (row-unacceptable condition g e) = refl
   leaves (row-resent s i z e) = refl

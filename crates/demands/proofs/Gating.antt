@@ -47,7 +47,7 @@ use Rattle.demands.specs.Course.{Course, Ongoing, Due}
 use Rattle.demands.specs.HandedOut.{courseFrom, answerAt, HandedOut}
 use Rattle.demands.specs.Counts.{countIn, countOver, tallyAfter, upToStop, OnConnection, refusedAs, isForged, isOld, isRepeated, CountsRight}
 use Rattle.demands.specs.Places.{answerOf, RunsAreEvents, AnswersInPlace}
-use Rattle.demands.specs.Gateways.{AnswersByTable, Demand2, Demand2IsTable, FiveFail, HandsOut, Demand3, refusesCalls, byRecords, answersAlike, doesNothing, firstThen, firstLeaves, firstOnly, invented}
+use Rattle.demands.specs.Gateways.{AnswersByTable, Demand2, Demand2IsTable, Demand2Settles, FiveFail, HandsOut, OneEach, Demand3, refusesCalls, byRecords, answersAlike, doesNothing, firstThen, firstLeaves, firstOnly, invented}
 use Rattle.demands.specs.Example.{exampleId, exampleSecret, exampleRandom, exampleOut, exampleData}
 use Rattle.demands.proofs.Sealing.{true-false}
 use Rattle.demands.proofs.Tables.{row-is}
@@ -83,6 +83,10 @@ demand-2-table g rows c d random out rs e l f =
     (λ s. (answers : List Answer) × (written : ℕ) × (s .result ≡ received (T.Records (length rs)) (slotsOf answers) written) × Chain random d (c .handshake) rs answers (s .connection .handshake))
     same (answers-by-table c d random out rs e l f)
 
+pub demand-2-settles : Demand2Settles
+unfolding Demand2Settles Demand2
+demand-2-settles g rows c call = sym (call-is c (rows c call))
+
 ongoing-more : (es fs : List Event) → Ongoing es → Ongoing fs → Ongoing (es ++ fs)
 ongoing-more [] fs a b = b
 ongoing-more (took random d r ∷ es) fs a b = ongoing-more es fs a b
@@ -110,9 +114,24 @@ hands-out id secret es sound is-open calls go d random out before r behind e l f
     let q = handed-out id secret es sound is-open later (sound-more (eventsOf calls) (map (took random d) before) (run-sound calls) (records-sound random d e [] before (r ∷ behind) f)) (ongoing-more (eventsOf calls) (map (took random d) before) go (records-ongoing random d before)) random d r (e, record { before = before; behind = behind; framing = f }) in
     subst (λ a. ((isData a ≡ true) ↔ ((x : List ℕ) × Due (keysIn session past) (courseFrom session past later) d r x)) × ((x : List ℕ) → Due (keysIn session past) (courseFrom session past later) d r x → handedOf d a ≡ x)) (sym same) q
 
+chain-length : (random d : List ℕ) (h : Handshake) (rs : List Record) (answers : List Answer) (left : Handshake)
+    → Chain random d h rs answers left → length answers ≡ length rs
+chain-length random d h [] [] left chain-end = refl
+chain-length random d h (r ∷ rs) (a ∷ answers) left (chain-more {j = j} row more) =
+    ap (λ n. suc n) (chain-length random d (j .handshake) rs answers left more)
+
+pub one-each : OneEach stepOf
+unfolding OneEach AnswersByTable
+one-each c d random out rs e l f =
+    let t = answers-by-table c d random out rs e l f in (
+      t .0,
+      chain-length random d (c .handshake) rs (t .0) (stepOf c (receive d random out) .connection .handshake) (t .3),
+      ap answersIn (t .2),
+    )
+
 pub meets-3 : Demand3 stepOf
 unfolding Demand3
-meets-3 = (leaves-out, hands-out)
+meets-3 = (leaves-out, hands-out, one-each)
 
 -- ---- the worked handshake
 

@@ -26,6 +26,7 @@ use Rattle.message.specs.declared.alert.Description.{Description}
 use Rattle.message.specs.declared.acceptance.Plan.{Plan}
 use Rattle.message.specs.declared.acceptance.Heard.the-variants as H
 use Rattle.connection.specs.Calls.{sessionOf}
+use Rattle.digest.specs.declared.mac.Mac.{Mac}
 use Rattle.connection.specs.Handshake.{withState, withWindow, barred, reopened, nothingKept, noSession, nothingAgreed, keptHello, keptReply}
 use Rattle.connection.specs.Judge.{judgedRecord, fragmentOf}
 use Rattle.connection.specs.Reply.{answeredWith, replyTo, padTo}
@@ -58,6 +59,11 @@ use Rattle.demands.proofs.Refusing.{outcomeIn, laid-front}
 
 new-window : (a : Acceptance) (x w : Window) (n m : ℕ) → a ≡ A.New x n → a ≡ A.New w m → w ≡ x
 new-window a x w n m e f = cc
+
+-- what is blank stays so
+blank-again : (m : Mac) (n : ℕ) → nothingAgreed m n ≡ nothingAgreed (nothingAgreed m n .mac) (nothingAgreed m n .refresh)
+unfolding nothingAgreed
+blank-again m n = refl
 
 module _ (past : List ℕ) (s : ℕ) (w : Window) (n : ℕ) where
   by-tests : (b c : Bool) → pick b A.TooOld (pick c A.Repeated (A.New (windowOf 32 (s ∷ past)) (arrivedOf 32 (s ∷ past)))) ≡ A.New w n
@@ -122,7 +128,12 @@ module _ (session : Session) (past : List Happened) (h : Handshake) (k : KeptAs 
           last-is = ap (λ y. y .last) en ∙ k .last-is
               ∙ sym (ap (λ b. wordAt (checksumOf (pick b (lastHeard session random (fragmentOf d r) (heardOf (fragmentOf d r) (session .id))) (lastWritten session past))) 0) nr);
           window-is = ew;
-          barred-is = λ f. (st (sym bar ∙ f), es ∙ k .barred-is (sym bar ∙ f) .1, ek ∙ k .barred-is (sym bar ∙ f) .2);
+          barred-is = λ f. (
+            st (sym bar ∙ f),
+            es ∙ k .barred-is (sym bar ∙ f) .1,
+            ek ∙ k .barred-is (sym bar ∙ f) .2,
+            ea ∙ k .barred-is (sym bar ∙ f) .3 ∙ sym (ap (λ y. nothingAgreed (y .mac) (y .refresh)) ea),
+          );
         }
 
     -- the numbers accepted: the same where the record is clear or the answer marks nothing; one more where it marks
@@ -206,7 +217,7 @@ module _ (session : Session) (past : List Happened) (h : Handshake) (k : KeptAs 
           clear-is = k .clear-is;
           last-is = k .last-is;
           window-is = window-marked c w n (W.Barred x) refl refl;
-          barred-is = λ f. (refl, refl, refl);
+          barred-is = λ f. (refl, refl, refl, blank-again (h .agreed .mac) (h .agreed .refresh));
         }
 
     fresh-again : freshWindow ≡ windowOf 32 (acceptedIn (answered random d r W.Spec ∷ past))

@@ -32,6 +32,7 @@ abbrev pub Leaves : Handshake → List ℕ → List ℕ → Bool → ℕ → Han
 Leaves h random m protected s then Nothing = ⊥
 Leaves h random m protected s then (Reply size) =
     (plan : Plan) × (heardOf m (h .session .id) ≡ Accepted plan) × (then ≡ answeredWith h random m plan)
+    × (then .state ≡ S.Replied) × (then .window ≡ h .window) × (then .session ≡ h .session)
 Leaves h random m protected s then (Resent size) = then ≡ h
 Leaves h random m protected s then Spec = then ≡ withState (withWindow h freshWindow) S.Spec
 Leaves h random m protected s then Open = then ≡ withState (marked h s) S.Open

@@ -29,7 +29,7 @@ use Rattle.demands.specs.Refusals.{lentBy}
 use Rattle.demands.specs.Events.{Event, took, AllSound, eventsOf, connectionOf, after, history}
 use Rattle.demands.specs.Past.{isData, keysIn}
 use Rattle.demands.specs.Runs.{freshWith}
-use Rattle.demands.specs.LeftOut.{LeavesOut}
+use Rattle.demands.specs.LeftOut.{LeavesOut, answersIn}
 use Rattle.demands.specs.Course.{Ongoing, Due}
 use Rattle.demands.specs.HandedOut.{courseFrom}
 use Rattle.demands.specs.Places.{answerOf}
@@ -52,6 +52,10 @@ Demand2 g = (c : Connection) (call : Call) → CallRow c call (g c call)
 unfoldable pub Demand2IsTable : Type 0
 Demand2IsTable = (g : Gateway) → Demand2 g → AnswersByTable g
 
+-- a gateway that meets it gives what ours gives: two outcomes that the rows allow coincide
+unfoldable pub Demand2Settles : Type 0
+Demand2Settles = (g : Gateway) → Demand2 g → (c : Connection) (call : Call) → g c call ≡ stepOf c call
+
 -- Demand 3, the handing out: from an open connection, with its past, by the calls of the gateway itself
 unfoldable pub HandsOut : Gateway → Type 0
 HandsOut g =
@@ -67,8 +71,14 @@ HandsOut g =
     ((isData answer ≡ true) ↔ ((c : List ℕ) × Due (keysIn session past) course d r c))
     × ((c : List ℕ) → Due (keysIn session past) course d r c → handedOf d answer ≡ c)
 
+-- "once": one answer for each record, and nothing in the places behind them
+unfoldable pub OneEach : Gateway → Type 0
+OneEach g =
+    (c : Connection) (d random out : List ℕ) (rs : List Record) → length random ≡ 16 → 128 ≤ length out → framingOf d ≡ framed rs
+    → (answers : List Answer) × (length answers ≡ length rs) × (answersIn (g c (receive d random out) .result) ≡ slotsOf answers)
+
 unfoldable pub Demand3 : Gateway → Type 0
-Demand3 g = LeavesOut g × HandsOut g
+Demand3 g = LeavesOut g × HandsOut g × OneEach g
 
 -- ---- the five wrong gateways
 

@@ -9,7 +9,7 @@ use Rattle.digest.specs.Bytes.{wordAt}
 use Rattle.record.specs.Checksum.{checksumOf}
 use Rattle.record.specs.History.{windowOf}
 use Rattle.demands.specs.Runs.{freshWith}
-use Rattle.connection.specs.Handshake.{noSession, nothingKept, keptHello, keptReply}
+use Rattle.connection.specs.Handshake.{noSession, nothingKept, nothingAgreed, keptHello, keptReply}
 use Rattle.connection.specs.Calls.{sessionOf}
 use Rattle.connection.specs.declared.handshake.Handshake.{Handshake}
 use Rattle.connection.specs.declared.handshake.Session.{Session}
@@ -33,7 +33,8 @@ pub record KeptAs (session : Session) (past : List Happened) (h : Handshake) : T
   -- the window holds exactly the numbers accepted since the last change cipher spec that was taken
   pub window-is : h .window ≡ windowOf 32 (acceptedIn past)
   -- "required to forget any session identifiers, keys, and secrets" (002 10.2.2)
-  pub barred-is : barredIn past ≡ true → (h .state ≡ Barred) × (h .session ≡ noSession) × (h .kept ≡ nothingKept)
+  pub barred-is : barredIn past ≡ true
+      → (h .state ≡ Barred) × (h .session ≡ noSession) × (h .kept ≡ nothingKept) × (h .agreed ≡ nothingAgreed (h .agreed .mac) (h .agreed .refresh))
 
 unfoldable pub KeptIsWhatHappened : Type 0
 KeptIsWhatHappened =

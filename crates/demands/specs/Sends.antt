@@ -39,6 +39,7 @@ pub record SealedRecord (k : Keys) (content : Content) (s : ℕ) (body bytes : L
   pub protection : r .protected ≡ true
   pub content-is : r .content ≡ content
   pub number-is : r .number ≡ s
+  pub short : r .head ≡ 3
   pub whole : r .used ≡ length bytes
   pub in-range : s ≤ 65535
   pub coded : take (r .size) (drop (r .head) bytes) ≡ fragmentBy (hmac (ourKey k s)) (sizeOf (k .mac)) s (r .byte) body
@@ -49,6 +50,7 @@ pub record ClearRecord (s : ℕ) (body bytes : List ℕ) : Type 0 where
   pub protection : r .protected ≡ false
   pub content-is : r .content ≡ C.Alert
   pub number-is : r .number ≡ s
+  pub short : r .head ≡ 3
   pub whole : r .used ≡ length bytes
   pub in-range : s ≤ 65535
   pub body-is : take (r .size) (drop (r .head) bytes) ≡ body
