@@ -21,3 +21,4 @@ pub mod Trapping
 pub mod Framings
 pub mod Instancing
 pub mod Replying
+pub mod Remembering

@@ -13,6 +13,7 @@ pub mod Finished
 pub mod LeftOut
 pub mod Course
 pub mod HandedOut
+pub mod InRuns
 pub mod Replies
 pub mod Barred
 pub mod Sends

@@ -54,7 +54,7 @@ pub record Worked (g : Gateway) (id secret m random out bytes : List ℕ) (plan 
   pub replied : g (connectionOf (freshWith id secret)) (receive (clearDatagram C.Handshake 0 m) random out)
       ≡ record {
         result = oneAnswer (W.Reply (length (replyTo (sessionOf id secret) random m plan)))
-        (length (replyTo (sessionOf id secret) random m plan));
+            (length (replyTo (sessionOf id secret) random m plan));
         output = laidOver out 0 (replyTo (sessionOf id secret) random m plan);
         connection = c₁;
       }
