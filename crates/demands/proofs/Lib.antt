@@ -22,3 +22,4 @@ pub mod Framings
 pub mod Instancing
 pub mod Replying
 pub mod Remembering
+pub mod Demanded

@@ -25,3 +25,4 @@ pub mod Gateways
 pub mod Traps
 pub mod Example
 pub mod Instances
+pub mod Demands
