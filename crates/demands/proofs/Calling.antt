@@ -130,9 +130,6 @@ module _ (c : Connection) (bytes out : List ℕ) where
   unfolding stepOf dataSent dataOutput
   step-data = refl
 
-  abbrev room : ℕ
-  room = 3 + length bytes + sizeOf (h .agreed .mac)
-
   data-by-room : GoodData bytes → h .state ≡ S.Open → h .sending .protected ≤ 65535 → (b : Bool) → ltb (length out) (3 + length bytes + sizeOf (h .agreed .mac)) ≡ b
       → CallRow c (send-data bytes out) (dataStep (pick b (O.Refused X.Room) O.Done))
   data-by-room g s n true e = data-6 g s n (ltb-true (length out) (3 + length bytes + sizeOf (h .agreed .mac)) e)
@@ -272,9 +269,6 @@ module _ (c : Connection) (sealed : Bool) (level description : ℕ) (answered ou
   abbrev alertBy : Graded → Sorted → Step
   alertBy g s = sentAs (alertSentAs c sealed answered (length out) g s) (alertOutputAs c sealed answered out g s)
 
-  abbrev theCall : Call
-  theCall = send-alert sealed level description answered out
-
   step-alert : stepOf c (send-alert sealed level description answered out) ≡ alertBy (levelOf level) (sortedOf description)
   unfolding stepOf alertSent alertOutput
   step-alert = refl
@@ -377,9 +371,6 @@ module _ (c : Connection) (sealed : Bool) (level description : ℕ) (answered ou
   alert-bad (inr (inr z)) = lent-long (levelOf level) (sortedOf description) refl refl z
 
 -- ---- close, and start again
-
-different : {P : Type 0} (s t : State) → s ≡ t → (s ≡ t → ⊥) → P
-different s t e n = absurd (n e)
 
 module _ (c : Connection) where
   apart : (s t : State) → c .handshake .state ≡ s → (s ≡ t → ⊥) → c .handshake .state ≢ t

@@ -64,25 +64,25 @@ use Rattle.demands.proofs.Leaving.{not-open, greets-not-open, seven}
 -- ---- new numbers, by the window and by the history
 
 module _ (numbers : List ℕ) (s : ℕ) where
-  abbrev judgedBy : Bool → Bool → Acceptance
+  abbrev pub judgedBy : Bool → Bool → Acceptance
   judgedBy old before =
       pick old A.TooOld (pick before A.Repeated (A.New (windowOf 32 (s ∷ numbers)) (arrivedOf 32 (s ∷ numbers))))
 
-  accept-is : acceptOf 32 (windowOf 32 numbers) s ≡ judgedBy (tooOld 32 (highestOf numbers) s) (accepted numbers s)
+  pub accept-is : acceptOf 32 (windowOf 32 numbers) s ≡ judgedBy (tooOld 32 (highestOf numbers) s) (accepted numbers s)
   unfolding judgedOf
   accept-is = meaning 32 (lit< tt) numbers s
 
-  new-tests : (o b : Bool) (w : Window) (n : ℕ) → judgedBy o b ≡ A.New w n → (o ≡ false) × (b ≡ false)
+  pub new-tests : (o b : Bool) (w : Window) (n : ℕ) → judgedBy o b ≡ A.New w n → (o ≡ false) × (b ≡ false)
   new-tests true b w n e = let z : _≡_ {A = ℕ} 0 1 = cc in absurd (omega arith)
   new-tests false true w n e = let z : _≡_ {A = ℕ} 0 1 = cc in absurd (omega arith)
   new-tests false false w n e = (refl, refl)
 
-  old-test : (o b : Bool) → judgedBy o b ≡ A.TooOld → o ≡ true
+  pub old-test : (o b : Bool) → judgedBy o b ≡ A.TooOld → o ≡ true
   old-test true b e = refl
   old-test false true e = let z : _≡_ {A = ℕ} 0 1 = cc in absurd (omega arith)
   old-test false false e = let z : _≡_ {A = ℕ} 0 1 = cc in absurd (omega arith)
 
-  repeated-test : (o b : Bool) → judgedBy o b ≡ A.Repeated → b ≡ true
+  pub repeated-test : (o b : Bool) → judgedBy o b ≡ A.Repeated → b ≡ true
   repeated-test true b e = let z : _≡_ {A = ℕ} 0 1 = cc in absurd (omega arith)
   repeated-test false true e = refl
   repeated-test false false e = let z : _≡_ {A = ℕ} 0 1 = cc in absurd (omega arith)

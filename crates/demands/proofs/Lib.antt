@@ -21,3 +21,5 @@ pub mod Trapping
 pub mod Instancing
 pub mod Exactly
 pub mod Replying
+pub mod Remembering
+pub mod Demanded

@@ -12,6 +12,7 @@ pub mod Finished
 pub mod LeftOut
 pub mod Course
 pub mod HandedOut
+pub mod InRuns
 pub mod Replies
 pub mod Barred
 pub mod Sends
@@ -24,3 +25,4 @@ pub mod Traps
 pub mod Example
 pub mod Instances
 pub mod Exactly
+pub mod Demands

@@ -1,0 +1,85 @@
+-- The three demands hold.
+use Rattle.demands.specs.Demands.{First, Second, Third, Demands}
+use Rattle.demands.proofs.Tables.{table-holds}
+use Rattle.demands.proofs.Changing.{record-changes-only, refused-record, close-changes-only, start-changes-only}
+use Rattle.demands.proofs.Calling.{calls-hold, fresh-holds}
+use Rattle.demands.proofs.Framings.{faults-exactly}
+use Rattle.demands.proofs.Refusing.{refused-call, nothing-written, data-changes-only, alert-changes-only, refused-by-the-list}
+use Rattle.demands.proofs.Keeping.{kept-is-what-happened}
+use Rattle.demands.proofs.Finishing.{only-after-finished}
+use Rattle.demands.proofs.Remembering.{protected-in-runs, checksum-in-runs, wrong-finished-in-runs, leaves-out-of-runs}
+use Rattle.demands.proofs.Replying.{replies-right}
+use Rattle.demands.proofs.Barring.{barred-only-by-fatal, barred-for-good}
+use Rattle.demands.proofs.Sendings.{data-sent-right, alert-sent-right}
+use Rattle.demands.proofs.Reading.{read-as-written}
+use Rattle.demands.proofs.Leaving.{leaves-out}
+use Rattle.demands.proofs.Handing.{handed-out, handed-once}
+use Rattle.demands.proofs.Trapping.{empty-then-data, twice-in-one, closed-between}
+use Rattle.demands.proofs.Counting.{counts-right}
+use Rattle.demands.proofs.Working.{it-works}
+use Rattle.demands.proofs.Instancing.{instances}
+use Rattle.demands.proofs.Placing.{runs-are-events, answers-in-place}
+use Rattle.demands.proofs.Gating.{meets-2, meets-3, demand-2-table, five-fail}
+
+pub first : First
+first =
+    record {
+      each-call = calls-hold;
+      fresh = fresh-holds;
+      each-fault = faults-exactly;
+      from-the-list = refused-by-the-list;
+      refused-call = refused-call;
+      refused-record = refused-record;
+      unwritten = nothing-written;
+    }
+
+pub second : Second
+second =
+    record {
+      table = table-holds;
+      written = read-as-written;
+      record-changes = record-changes-only;
+      data-changes = data-changes-only;
+      alert-changes = alert-changes-only;
+      close-changes = close-changes-only;
+      start-changes = start-changes-only;
+      kept = kept-is-what-happened;
+      protected-in-runs = protected-in-runs;
+      checksum-in-runs = checksum-in-runs;
+      wrong-finished-in-runs = wrong-finished-in-runs;
+      replies = replies-right;
+      data-sent = data-sent-right;
+      alert-sent = alert-sent-right;
+      only-after-finished = only-after-finished;
+      only-by-fatal = barred-only-by-fatal;
+      for-good = barred-for-good;
+    }
+
+pub third : Third
+third =
+    record {
+      left-out = leaves-out;
+      left-out-of-runs = leaves-out-of-runs;
+      handed-out = handed-out;
+      handed-once = handed-once;
+      empty-then-data = empty-then-data;
+      twice-in-one = twice-in-one;
+      closed-between = closed-between;
+    }
+
+pub demands : Demands
+demands =
+    record {
+      first = first;
+      second = second;
+      third = third;
+      counts = counts-right;
+      works = it-works;
+      instances = instances;
+      runs-are-events = runs-are-events;
+      answers-in-place = answers-in-place;
+      meets-2 = meets-2;
+      meets-3 = meets-3;
+      rows-are-table = demand-2-table;
+      five-fail = five-fail;
+    }

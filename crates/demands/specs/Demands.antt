@@ -1,0 +1,86 @@
+-- The three demands, each sentence with the statements that render it. `proofs/Demanded.antt` has all of them at once.
+use Rattle.demands.specs.Runs.{stepOf}
+use Rattle.demands.specs.Table.{TableHolds}
+use Rattle.demands.specs.Calls.{CallsHold, FreshHolds}
+use Rattle.demands.specs.Framing.{FaultsExactly}
+use Rattle.demands.specs.Refusals.{RefusedByTheList, RefusedCallChangesNothing, RefusedRecordChangesNothing, NothingWrittenWithoutReply}
+use Rattle.demands.specs.Changes.{RecordChangesOnly, DataChangesOnly, AlertChangesOnly, CloseChangesOnly, StartChangesOnly}
+use Rattle.demands.specs.Kept.{KeptIsWhatHappened}
+use Rattle.demands.specs.Finished.{OnlyAfterFinished}
+use Rattle.demands.specs.InRuns.{ProtectedInRuns, ChecksumInRuns, WrongFinishedInRuns, LeavesOutOfRuns}
+use Rattle.demands.specs.Replies.{RepliesRight}
+use Rattle.demands.specs.Barred.{BarredOnlyByFatal, BarredForGood}
+use Rattle.demands.specs.Sends.{DataSentRight, AlertSentRight}
+use Rattle.demands.specs.Written.{ReadAsWritten}
+use Rattle.demands.specs.LeftOut.{LeavesOut, talliedIn}
+use Rattle.demands.specs.HandedOut.{HandedOut, HandedOnce}
+use Rattle.demands.specs.Traps.{EmptyThenData, TwiceInOne, ClosedBetween}
+use Rattle.demands.specs.Counts.{CountsRight}
+use Rattle.demands.specs.Works.{Works}
+use Rattle.demands.specs.Places.{RunsAreEvents, AnswersInPlace}
+use Rattle.demands.specs.Gateways.{Demand2, Demand3, Demand2IsTable, FiveFail}
+use Rattle.demands.specs.Instances.{Instances}
+
+-- "The gateway takes every datagram, of any content, and every order of calls, and always comes back. Bad input is
+-- refused with a number from the list. A refused call writes nothing into the output we lend, and the connection is as
+-- before, except where the list names the change."
+pub record First : Type 0 where
+  pub each-call : CallsHold
+  pub fresh : FreshHolds
+  pub each-fault : FaultsExactly
+  pub from-the-list : RefusedByTheList
+  pub refused-call : RefusedCallChangesNothing stepOf
+  pub refused-record : RefusedRecordChangesNothing
+  pub unwritten : NothingWrittenWithoutReply
+
+-- "Records, alerts, hellos, key changes and Finished are read and written exactly as WAP-261 WTLS of 6 April 2001 defines
+-- them, within the stated profile."
+pub record Second : Type 0 where
+  pub table : TableHolds
+  pub written : ReadAsWritten
+  pub record-changes : RecordChangesOnly
+  pub data-changes : DataChangesOnly
+  pub alert-changes : AlertChangesOnly
+  pub close-changes : CloseChangesOnly
+  pub start-changes : StartChangesOnly
+  pub kept : KeptIsWhatHappened
+  pub protected-in-runs : ProtectedInRuns
+  pub checksum-in-runs : ChecksumInRuns
+  pub wrong-finished-in-runs : WrongFinishedInRuns
+  pub replies : RepliesRight
+  pub data-sent : DataSentRight
+  pub alert-sent : AlertSentRight
+  -- "Data is handed out only after the unit's Finished has been verified."
+  pub only-after-finished : OnlyAfterFinished
+  -- "A fatal alert accepted under its authentication code bars that connection's session from being resumed."
+  pub only-by-fatal : BarredOnlyByFatal
+  pub for-good : BarredForGood
+
+pub record Third : Type 0 where
+  -- "Leave out every datagram without a genuine record: the data handed out, its order and the connection are the same."
+  pub left-out : LeavesOut stepOf
+  pub left-out-of-runs : LeavesOutOfRuns
+  -- "Each genuine data record of at least one byte, whose number was not accepted before and is above the highest accepted
+  -- less 32, is handed out by that very call, once, as sent."
+  pub handed-out : HandedOut
+  pub handed-once : HandedOnce
+  pub empty-then-data : EmptyThenData stepOf
+  pub twice-in-one : TwiceInOne stepOf
+  pub closed-between : ClosedBetween stepOf
+
+pub record Demands : Type 0 where
+  pub first : First
+  pub second : Second
+  pub third : Third
+  -- 01, the tally: "Each count equals the number of such answers since the tally was fresh, up to that stop"
+  pub counts : CountsRight stepOf talliedIn
+  -- no premise is empty, and a run of calls is a run of events
+  pub works : Works stepOf
+  pub instances : Instances
+  pub runs-are-events : RunsAreEvents
+  pub answers-in-place : AnswersInPlace
+  -- demands 2 and 3 of any gateway; 01: "These must not pass"
+  pub meets-2 : Demand2 stepOf
+  pub meets-3 : Demand3 stepOf
+  pub rows-are-table : Demand2IsTable
+  pub five-fail : FiveFail

@@ -1,0 +1,86 @@
+-- Refusals that turn on what happened before, in a run from fresh, by its history alone: 9 by the keys of the last new
+-- reply, 10 and 11 by the numbers accepted since the last change cipher spec that was taken, 14 by the last record
+-- written, 17 by the very messages of the run. With `Table.TableHolds` and `Kept.KeptIsWhatHappened` behind it.
+use mathlib.Core.Path.{_≡_}
+use mathlib.Core.Logic.{_↔_, _≢_}
+use mathlib.Core.Bool.{Bool, true, false}
+use mathlib.Core.List.{List, []}
+use Prim.Native.Nat.{ℕ, _+_, _≤_, _<_}
+use Rattle.digest.specs.Bytes.{wordAt}
+use Rattle.record.specs.Checksum.{checksumOf}
+use Rattle.record.specs.History.{accepted}
+use Rattle.record.specs.declared.header.Content.the-variants as C
+use Rattle.record.specs.declared.reader.Record.{Record}
+use Rattle.message.specs.Alert.{alertOf}
+use Rattle.message.specs.Finished.{judgedOf}
+use Rattle.message.specs.declared.alert.Alert.{Alert}
+use Rattle.message.specs.declared.alert.Reading.the-variants as R
+use Rattle.message.specs.declared.finished.Verified.the-variants as F
+use Rattle.connection.specs.Calls.{sessionOf}
+use Rattle.connection.specs.Judge.{judgedRecord, fragmentOf}
+use Rattle.connection.specs.declared.state.State.the-variants.{Open}
+use Rattle.connection.specs.declared.refusal.Refusal.the-variants as X
+use Rattle.connection.specs.declared.answer.Answer.{Answer}
+use Rattle.connection.specs.declared.answer.Answer.the-variants.{Refused}
+use Rattle.connection.specs.declared.handshake.Handshake.{Handshake}
+use Rattle.connection.specs.declared.handshake.Session.{Session}
+use Rattle.demands.specs.Runs.{Call, stepOf, freshWith}
+use Rattle.demands.specs.Genuine.{Genuine, RecordOf}
+use Rattle.demands.specs.Table.{Guarded, Hears}
+use Rattle.demands.specs.Events.{Event, AllSound, Happened, connectionOf, after, history}
+use Rattle.demands.specs.Past.{keysIn, expectedIn, acceptedIn, lastWritten}
+use Rattle.demands.specs.LeftOut.{LeftOut, SameWithout}
+
+-- "a number at most n - 32 is too old", with n an accepted number
+pub record TooOldFor (numbers : List ℕ) (s : ℕ) : Type 0 where
+  pub n : ℕ
+  pub was-accepted : accepted numbers n ≡ true
+  pub far : s + 32 ≤ n
+
+-- "A number accepted before is repeated", unless it is too old
+pub record RepeatedIn (numbers : List ℕ) (s : ℕ) : Type 0 where
+  pub was-accepted : accepted numbers s ≡ true
+  pub recent : (n : ℕ) → accepted numbers n ≡ true → n < s + 32
+
+-- a protected record of an allowed kind, by its history
+pub record ProtectedExactly (session : Session) (past : List Happened) (d : List ℕ) (r : Record)
+    (answer : Answer) : Type 0 where
+  pub exactly-9 : (answer ≡ Refused X.Forged) ↔ ((c : List ℕ) → Genuine (keysIn session past) d r c → ⊥)
+  pub exactly-10 : (answer ≡ Refused X.TooOld)
+      ↔ (((c : List ℕ) × Genuine (keysIn session past) d r c) × TooOldFor (acceptedIn past) (r .number))
+  pub exactly-11 : (answer ≡ Refused X.Repeated)
+      ↔ (((c : List ℕ) × Genuine (keysIn session past) d r c) × RepeatedIn (acceptedIn past) (r .number))
+
+unfoldable pub ProtectedInRuns : Type 0
+ProtectedInRuns =
+    (id secret : List ℕ) (es : List Event) → AllSound es → (random d : List ℕ) (r : Record) → RecordOf d r
+    → Guarded (after (freshWith id secret) es) r
+    → ProtectedExactly (sessionOf id secret) (history (freshWith id secret) es []) d r
+    (judgedRecord (after (freshWith id secret) es) random d r .answer)
+
+-- 14: "A clear alert must carry the checksum of the last record that we sent, a resent reply not counted."
+unfoldable pub ChecksumInRuns : Type 0
+ChecksumInRuns =
+    (id secret : List ℕ) (es : List Event) → AllSound es → (random d : List ℕ) (r : Record) (a : Alert)
+    → Hears (after (freshWith id secret) es .state) → r .protected ≡ false → r .content ≡ C.Alert
+    → alertOf (fragmentOf d r) ≡ R.WellFormed a
+    → (judgedRecord (after (freshWith id secret) es) random d r .answer ≡ Refused X.Checksum)
+    ↔ (a .checksum ≢ wordAt (checksumOf (lastWritten (sessionOf id secret) (history (freshWith id secret) es []))) 0)
+
+-- 17: a genuine Finished that is answered so has other contents than the PRF over the messages of this run
+unfoldable pub WrongFinishedInRuns : Type 0
+WrongFinishedInRuns =
+    (id secret : List ℕ) (es : List Event) → AllSound es → (random d : List ℕ) (r : Record) → RecordOf d r
+    → judgedRecord (after (freshWith id secret) es) random d r .answer ≡ Refused X.WrongFinished
+    → (c : List ℕ) × Genuine (keysIn (sessionOf id secret) (history (freshWith id secret) es [])) d r c
+    × (r .content ≡ C.Handshake)
+    × (judgedOf c (expectedIn (sessionOf id secret) (history (freshWith id secret) es [])) ≡ F.Wrong)
+
+-- demand 3, first half, from an open place of a run: genuine under the keys of its last new reply
+unfoldable pub LeavesOutOfRuns : Type 0
+LeavesOutOfRuns =
+    (id secret : List ℕ) (es : List Event) → AllSound es → after (freshWith id secret) es .state ≡ Open
+    → (calls rest : List Call)
+    (out : LeftOut (keysIn (sessionOf id secret) (history (freshWith id secret) es [])) calls rest)
+    → SameWithout stepOf (keysIn (sessionOf id secret) (history (freshWith id secret) es []))
+    (connectionOf (after (freshWith id secret) es)) calls rest out
