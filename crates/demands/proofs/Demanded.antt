@@ -3,7 +3,7 @@ use Rattle.demands.specs.Demands.{First, Second, Third, Demands}
 use Rattle.demands.proofs.Tables.{table-holds}
 use Rattle.demands.proofs.Changing.{record-changes-only, refused-record, close-changes-only, start-changes-only}
 use Rattle.demands.proofs.Calling.{calls-hold, fresh-holds}
-use Rattle.demands.proofs.Framings.{faults-exactly}
+use Rattle.demands.proofs.Exactly.Answers.{given-exactly-when}
 use Rattle.demands.proofs.Refusing.{refused-call, nothing-written, data-changes-only, alert-changes-only, refused-by-the-list}
 use Rattle.demands.proofs.Keeping.{kept-is-what-happened}
 use Rattle.demands.proofs.Finishing.{only-after-finished}
@@ -19,14 +19,14 @@ use Rattle.demands.proofs.Counting.{counts-right}
 use Rattle.demands.proofs.Working.{it-works}
 use Rattle.demands.proofs.Instancing.{instances}
 use Rattle.demands.proofs.Placing.{runs-are-events, answers-in-place}
-use Rattle.demands.proofs.Gating.{meets-2, meets-3, demand-2-table, five-fail}
+use Rattle.demands.proofs.Gating.{meets-2, meets-3, demand-2-table, demand-2-settles, five-fail}
 
 pub first : First
 first =
     record {
       each-call = calls-hold;
       fresh = fresh-holds;
-      each-fault = faults-exactly;
+      exactly-when = given-exactly-when;
       from-the-list = refused-by-the-list;
       refused-call = refused-call;
       refused-record = refused-record;
@@ -81,5 +81,6 @@ demands =
       meets-2 = meets-2;
       meets-3 = meets-3;
       rows-are-table = demand-2-table;
+      rows-settle = demand-2-settles;
       five-fail = five-fail;
     }

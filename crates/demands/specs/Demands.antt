@@ -2,7 +2,7 @@
 use Rattle.demands.specs.Runs.{stepOf}
 use Rattle.demands.specs.Table.{TableHolds}
 use Rattle.demands.specs.Calls.{CallsHold, FreshHolds}
-use Rattle.demands.specs.Framing.{FaultsExactly}
+use Rattle.demands.specs.Exactly.All.{GivenExactlyWhen}
 use Rattle.demands.specs.Refusals.{RefusedByTheList, RefusedCallChangesNothing, RefusedRecordChangesNothing, NothingWrittenWithoutReply}
 use Rattle.demands.specs.Changes.{RecordChangesOnly, DataChangesOnly, AlertChangesOnly, CloseChangesOnly, StartChangesOnly}
 use Rattle.demands.specs.Kept.{KeptIsWhatHappened}
@@ -18,7 +18,7 @@ use Rattle.demands.specs.Traps.{EmptyThenData, TwiceInOne, ClosedBetween
 use Rattle.demands.specs.Counts.{CountsRight}
 use Rattle.demands.specs.Works.{Works}
 use Rattle.demands.specs.Places.{RunsAreEvents, AnswersInPlace}
-use Rattle.demands.specs.Gateways.{Demand2, Demand3, Demand2IsTable, FiveFail}
+use Rattle.demands.specs.Gateways.{Demand2, Demand3, Demand2IsTable, Demand2Settles, FiveFail}
 use Rattle.demands.specs.Instances.{Instances}
 
 -- "The gateway takes every datagram, of any content, and every order of calls, and always comes back. Bad input is
@@ -27,7 +27,7 @@ use Rattle.demands.specs.Instances.{Instances}
 pub record First : Type 0 where
   pub each-call : CallsHold
   pub fresh : FreshHolds
-  pub each-fault : FaultsExactly
+  pub exactly-when : GivenExactlyWhen stepOf
   pub from-the-list : RefusedByTheList
   pub refused-call : RefusedCallChangesNothing stepOf
   pub refused-record : RefusedRecordChangesNothing
@@ -83,4 +83,5 @@ pub record Demands : Type 0 where
   pub meets-2 : Demand2 stepOf
   pub meets-3 : Demand3 stepOf
   pub rows-are-table : Demand2IsTable
+  pub rows-settle : Demand2Settles
   pub five-fail : FiveFail
