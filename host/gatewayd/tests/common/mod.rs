@@ -105,19 +105,25 @@ pub struct Gatewayd {
 }
 
 impl Gatewayd {
-    pub fn start(place: &Place, listen: &str, more: &[&str]) -> Gatewayd {
+    fn command(place: &Place, listen: &str, more: &[&str]) -> Command {
         let log =
             fs::OpenOptions::new().create(true).append(true).open(place.path.join("log")).unwrap();
-        let mut child = Command::new(env!("CARGO_BIN_EXE_gatewayd"))
-            .args(["--listen", listen, "--sessions"])
-            .arg(place.sessions())
-            .arg("--state")
-            .arg(place.state())
-            .args(more)
-            .stdout(Stdio::piped())
-            .stderr(log)
-            .spawn()
-            .unwrap();
+        let mut command = Command::new(env!("CARGO_BIN_EXE_gatewayd"));
+        command.args(["--listen", listen, "--sessions"]).arg(place.sessions());
+        command.arg("--state").arg(place.state()).args(more).stdout(Stdio::piped()).stderr(log);
+        command
+    }
+
+    /// Killed so long after it was called, which may be before it listens.
+    pub fn start_and_kill(place: &Place, listen: &str, more: &[&str], after: Duration) {
+        let mut child = Gatewayd::command(place, listen, more).spawn().unwrap();
+        std::thread::sleep(after);
+        child.kill().unwrap();
+        child.wait().unwrap();
+    }
+
+    pub fn start(place: &Place, listen: &str, more: &[&str]) -> Gatewayd {
+        let mut child = Gatewayd::command(place, listen, more).spawn().unwrap();
         let mut out = BufReader::new(child.stdout.take().unwrap());
         let mut line = String::new();
         out.read_line(&mut line).unwrap();
