@@ -101,8 +101,8 @@ impl Store {
     pub fn write_anew(&mut self, time: Moment, ships: &[Ship]) -> io::Result<()> {
         self.list.sync().map_err(within("list"))?;
         let changes = ships.iter().map(|ship| change(ship, Vec::new())).collect();
-        let frame = Frame { time, place: self.list.place(), changes };
-        self.journal.write_anew(&frame).map_err(within("journal"))
+        let all = Frame { time, place: self.list.place(), changes };
+        self.journal.write_anew(&all).map_err(within("journal"))
     }
 }
 

@@ -98,7 +98,9 @@ fn state_and_port() {
     let lists = place.state().join("lists");
     let (sessions, state) = (other.sessions(), other.state());
     let words = [&sessions, &state, &lists].map(|path| path.to_str().unwrap());
-    let output = run(&["--sessions", words[0], "--state", words[1], "--lists", words[2]]);
+    let used = running.address.to_string();
+    let more = ["--lists", words[2], "--listen", &used];
+    let output = run(&[&["--sessions", words[0], "--state", words[1]], &more[..]].concat());
     let said = String::from_utf8(output.stderr).unwrap();
     assert!(output.status.code() == Some(4) && said.contains("another gateway runs"), "{said}");
 
