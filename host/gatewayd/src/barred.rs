@@ -24,11 +24,10 @@ impl Barred {
             Err(error) if error.kind() == io::ErrorKind::NotFound => Vec::new(),
             Err(error) => return Err(format!("{}: {error}", path.display())),
         };
-        let text = String::from_utf8_lossy(&bytes);
-        let mut identifiers = Vec::new();
         // A last line without its end was cut by a crash; the journal knows that session.
-        let whole = text.rfind('\n').map_or("", |end| &text[..end]);
-        for (index, line) in whole.lines().enumerate() {
+        let end = bytes.iter().rposition(|byte| *byte == b'\n').map_or(0, |last| last + 1);
+        let mut identifiers = Vec::new();
+        for (index, line) in String::from_utf8_lossy(&bytes[..end]).lines().enumerate() {
             let first = line.split('\t').next().unwrap_or("");
             let identifier = hex::read(first).ok().and_then(|bytes| bytes.try_into().ok());
             identifiers.push(identifier.ok_or_else(|| {
@@ -39,8 +38,8 @@ impl Barred {
                 )
             })?);
         }
-        if whole.len() + 1 < text.len() && !text.is_empty() {
-            drop_cut_line(&path, &text).map_err(|error| format!("{}: {error}", path.display()))?;
+        if end < bytes.len() {
+            cut(&path, end).map_err(|error| format!("{}: {error}", path.display()))?;
         }
         Ok(Barred { path, identifiers })
     }
@@ -66,7 +65,6 @@ impl Barred {
     }
 }
 
-fn drop_cut_line(path: &Path, text: &str) -> io::Result<()> {
-    let end = text.rfind('\n').map_or(0, |end| end + 1);
+fn cut(path: &Path, end: usize) -> io::Result<()> {
     OpenOptions::new().write(true).open(path)?.set_len(end as u64)
 }

@@ -11,7 +11,8 @@ use std::path::{Path, PathBuf};
 pub struct Journal {
     directory: PathBuf,
     file: File,
-    size: u64,
+    /// How much stands behind its first record, which holds every ship.
+    appended: u64,
 }
 
 /// What a journal file holds: its whole records, and how many bytes are behind them.
@@ -26,7 +27,7 @@ pub struct Contents {
 
 const NAME: &str = "journal";
 const NEW_NAME: &str = "journal.new";
-/// A journal of this size is written anew.
+/// A journal to which so much was appended is written anew.
 const LARGE: u64 = 8 << 20;
 
 /// The records up to the first that is cut or damaged. Nothing of ours left the house before its
@@ -38,16 +39,19 @@ pub fn read(bytes: &[u8]) -> Contents {
         frames.push(frame);
         left = &left[size..];
     }
-    let is_damaged = !left.is_empty() && frames.is_empty()
-        || (1..left.len()).any(|start| Frame::read(&left[start..]).is_some());
+    let is_damaged =
+        frames.is_empty() || (1..left.len()).any(|start| Frame::read(&left[start..]).is_some());
     Contents { frames, left_over: left.len(), is_damaged }
 }
 
-/// The journal in a directory; an empty one if there is none yet.
+/// The journal in a directory; no records if there is none yet. (A file without a record is damaged:
+/// a journal gets its name when its first record is on the disk.)
 pub fn load(directory: &Path) -> io::Result<Contents> {
     match fs::read(directory.join(NAME)) {
         Ok(bytes) => Ok(read(&bytes)),
-        Err(error) if error.kind() == io::ErrorKind::NotFound => Ok(read(&[])),
+        Err(error) if error.kind() == io::ErrorKind::NotFound => {
+            Ok(Contents { frames: Vec::new(), left_over: 0, is_damaged: false })
+        }
         Err(error) => Err(error),
     }
 }
@@ -68,7 +72,7 @@ impl Journal {
         file.sync_all()?;
         fs::rename(&new_path, directory.join(NAME))?;
         File::open(directory)?.sync_all()?;
-        Ok(Journal { directory: directory.to_path_buf(), file, size: bytes.len() as u64 })
+        Ok(Journal { directory: directory.to_path_buf(), file, appended: 0 })
     }
 
     /// Appends a record. When this is done, it is on the disk.
@@ -76,12 +80,12 @@ impl Journal {
         let bytes = frame.bytes();
         self.file.write_all(&bytes)?;
         self.file.sync_data()?;
-        self.size += bytes.len() as u64;
+        self.appended += bytes.len() as u64;
         Ok(())
     }
 
     pub fn is_large(&self) -> bool {
-        self.size >= LARGE
+        self.appended >= LARGE
     }
 
     pub fn write_anew(&mut self, frame: &Frame) -> io::Result<()> {

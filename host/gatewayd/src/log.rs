@@ -54,7 +54,7 @@ impl Log {
     /// A line that is never held back. An error on writing it is nothing that could be told.
     pub fn line(&mut self, line: &str) {
         let clear = if self.progress_at.is_some() { CLEAR_LINE } else { "" };
-        let _ = writeln!(io::stderr(), "{clear}{} {line}", Moment::now());
+        write_at_once(&format!("{clear}{} {line}\n", Moment::now()));
     }
 
     pub fn wants_progress(&self, now: Instant) -> bool {
@@ -67,17 +67,22 @@ impl Log {
         let Progress { datagrams, handed_out, forged, too_old, repeated } = counts;
         let taken = format!("datagrams {datagrams}, handed out {handed_out}");
         let refused = format!("forged {forged}, too old {too_old}, repeated {repeated}");
-        let _ = write!(io::stderr(), "{CLEAR_LINE}{taken}, {refused}");
+        write_at_once(&format!("{CLEAR_LINE}{taken}, {refused}"));
     }
 
     /// The end of the log: the progress line is done, and what was held back is summed up.
     pub fn end(&mut self) {
         let held_back: u64 = self.throttle.untold().map(|(_, count)| count).sum();
         if self.progress_at.take().is_some() {
-            let _ = writeln!(io::stderr());
+            write_at_once("\n");
         }
         if held_back > 0 {
             self.line(&format!("{held_back} more lines were held back"));
         }
     }
+}
+
+/// In one call, so that a line is whole whatever else is written there.
+fn write_at_once(text: &str) {
+    let _ = io::stderr().write_all(text.as_bytes());
 }

@@ -20,8 +20,9 @@ pub struct Store {
     journal: Journal,
     list: List,
     barred: Barred,
-    /// Held as long as the gateway runs: two of them on one directory would ruin it.
-    _lock: File,
+    /// Held as long as the gateway runs: two of them on one directory, of state or of lists, would
+    /// ruin it.
+    _locks: [File; 2],
 }
 
 /// A store that was opened, the ships as it knows them, and what the operator should hear.
@@ -38,7 +39,7 @@ impl Store {
         for directory in [state, lists] {
             make_directory(directory).map_err(|error| told(directory, error))?;
         }
-        let lock = lock(state)?;
+        let locks = [lock(&state.join("lock"))?, lock(&lists.join(".lock"))?];
         let contents = journal::load(state).map_err(|error| told(state, error))?;
         if contents.is_damaged {
             return Err(format!("{}: the journal is damaged, and not by a crash", state.display()));
@@ -70,7 +71,7 @@ impl Store {
             changes: ships.iter().map(|ship| change(ship, Vec::new())).collect(),
         };
         let journal = Journal::create(state, &frame).map_err(|error| told(state, error))?;
-        let store = Store { journal, list, barred, _lock: lock };
+        let store = Store { journal, list, barred, _locks: locks };
         Ok(Opened { store, ships, remarks })
     }
 
@@ -79,7 +80,7 @@ impl Store {
     pub fn save(&mut self, time: Moment, changes: Vec<Change>, ships: &[Ship]) -> io::Result<()> {
         let turned = time.day() != self.list.place().day;
         if turned {
-            self.list.turn_to(time.day())?;
+            self.list.turn_to(time.day()).map_err(within("list"))?;
         }
         let frame = Frame { time, place: self.list.place(), changes };
         self.journal.append(&frame).map_err(within("journal"))?;
@@ -98,9 +99,10 @@ impl Store {
     /// Every ship as it is, in one record. The list is brought to the disk before, since the records
     /// from which it could be completed go.
     pub fn write_anew(&mut self, time: Moment, ships: &[Ship]) -> io::Result<()> {
-        self.list.sync()?;
+        self.list.sync().map_err(within("list"))?;
         let changes = ships.iter().map(|ship| change(ship, Vec::new())).collect();
-        self.journal.write_anew(&Frame { time, place: self.list.place(), changes })
+        let all = Frame { time, place: self.list.place(), changes };
+        self.journal.write_anew(&all).map_err(within("journal"))
     }
 }
 
@@ -160,20 +162,29 @@ fn restore(
     Ok(())
 }
 
+/// Makes a directory and those above it; the names of new ones are on the disk then.
 fn make_directory(path: &Path) -> io::Result<()> {
-    DirBuilder::new().recursive(true).mode(0o700).create(path)
+    if path.is_dir() {
+        return Ok(());
+    }
+    let above = match path.parent() {
+        Some(above) if above != Path::new("") => above,
+        _ => Path::new("."),
+    };
+    make_directory(above)?;
+    DirBuilder::new().recursive(true).mode(0o700).create(path)?;
+    File::open(above)?.sync_all()
 }
 
-fn lock(directory: &Path) -> Result<File, String> {
-    let path = directory.join("lock");
-    let open = OpenOptions::new().write(true).create(true).truncate(false).mode(0o600).open(&path);
-    let file = open.map_err(|error| told(&path, error))?;
+fn lock(path: &Path) -> Result<File, String> {
+    let open = OpenOptions::new().write(true).create(true).truncate(false).mode(0o600).open(path);
+    let file = open.map_err(|error| told(path, error))?;
     match file.try_lock() {
         Ok(()) => Ok(file),
         Err(fs::TryLockError::WouldBlock) => {
             Err(format!("{}: another gateway runs on this directory", path.display()))
         }
-        Err(fs::TryLockError::Error(error)) => Err(told(&path, error)),
+        Err(fs::TryLockError::Error(error)) => Err(told(path, error)),
     }
 }
 

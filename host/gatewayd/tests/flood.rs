@@ -1,10 +1,12 @@
-//! A flood of garbage from many addresses neither stops a ship's reports nor grows the memory, the
-//! journal or the log.
+//! A flood from many addresses, of garbage or of hellos that name planted sessions, neither stops a
+//! ship's reports nor grows the memory, the journal or the log without bound.
 
 mod common;
 
-use common::{journal_size, text, Gatewayd, Place, Ship};
+use common::{identifier, journal_size, text, Gatewayd, Place, Ship};
+use peer::keys::Kind;
 use peer::rng::Rng;
+use peer::unit::{Hello, Unit};
 use std::fs;
 use std::net::{SocketAddr, UdpSocket};
 use std::sync::atomic::{AtomicBool, AtomicUsize, Ordering};
@@ -17,7 +19,18 @@ const AT_LEAST: Duration = Duration::from_secs(3);
 
 #[test]
 fn garbage_from_many_addresses() {
-    let place = Place::new("flood");
+    withstands("garbage", garbage, 100_000);
+}
+
+/// The hellos of ship 0 are refused 18, those of ship 1 are answered and saved: the journal grows
+/// until it is written anew.
+#[test]
+fn hellos_from_many_addresses() {
+    withstands("hellos", hello, 9 << 20);
+}
+
+fn withstands(name: &str, datagram: fn(&mut Rng) -> Vec<u8>, largest_journal: u64) {
+    let place = Place::new(&format!("flood-{name}"));
     place.plant(2);
     let gatewayd = Gatewayd::start(&place, "127.0.0.1:0", &[]);
     let address = gatewayd.address;
@@ -27,7 +40,7 @@ fn garbage_from_many_addresses() {
     let sent = AtomicUsize::new(0);
     let mut memory = (0, 0);
     thread::scope(|scope| {
-        scope.spawn(|| flood(address, &done, &sent));
+        scope.spawn(|| flood(address, datagram, &done, &sent));
         thread::sleep(Duration::from_millis(500));
         memory.0 = resident(gatewayd.child.id());
         let start = Instant::now();
@@ -54,36 +67,51 @@ fn garbage_from_many_addresses() {
     let expected: Vec<_> = (1..=REPORTS).map(|number| (number, text(0, number))).collect();
     assert_eq!(place.listed(0), expected);
     assert!(tallies.contains(&format!("{REPORTS}\t0\t")), "{tallies}");
-    assert!(sent > 10_000, "only {sent} datagrams of garbage");
+    assert!(sent > 10_000, "only {sent} datagrams");
     println!(
-        "{sent} datagrams of garbage; memory {} kB, then {} kB; log {log} bytes",
+        "{sent} datagrams ({name}); memory {} kB, then {} kB; journal {saved}, log {log} bytes",
         memory.0, memory.1
     );
     // 4,096 datagrams may wait, and no more.
     assert!(memory.1 < memory.0 + 8_000, "memory {memory:?} kB");
-    assert!(saved < 100_000, "journal of {saved} bytes");
+    assert!(saved < largest_journal, "journal of {saved} bytes");
     assert!(log < 10_000, "log of {log} bytes");
 }
 
 /// Random bytes, records that are none, hellos of unknown sessions, protected records.
-fn flood(address: SocketAddr, done: &AtomicBool, sent: &AtomicUsize) {
+fn garbage(rng: &mut Rng) -> Vec<u8> {
+    let size = rng.between(0, 400);
+    let mut datagram = rng.bytes(size);
+    if let Some(first) = datagram.first_mut() {
+        *first = rng.pick(&[0x43, 0x64, 0xc3, 0x41, *first]);
+    }
+    if let [0x43, _, _, kind, ..] = &mut datagram[..] {
+        *kind = 1;
+    }
+    if datagram.len() > 32 && rng.percent(50) {
+        datagram[23] = 8;
+    }
+    datagram
+}
+
+fn hello(rng: &mut Rng) -> Vec<u8> {
+    let id = identifier(rng.under(2));
+    let message = Hello::plain(&rng.bytes(16), &id, Kind::Sha80, 3).message();
+    Unit::new(&id, &[0; 20]).say_hello(&message)
+}
+
+fn flood(
+    address: SocketAddr,
+    datagram: fn(&mut Rng) -> Vec<u8>,
+    done: &AtomicBool,
+    sent: &AtomicUsize,
+) {
     let mut rng = Rng::new(5);
     let sockets: Vec<UdpSocket> =
         (0..ADDRESSES).map(|_| UdpSocket::bind("127.0.0.1:0").unwrap()).collect();
     while !done.load(Ordering::Relaxed) {
         for socket in &sockets {
-            let size = rng.between(0, 400);
-            let mut datagram = rng.bytes(size);
-            if let Some(first) = datagram.first_mut() {
-                *first = rng.pick(&[0x43, 0x64, 0xc3, 0x41, *first]);
-            }
-            if let [0x43, _, _, kind, ..] = &mut datagram[..] {
-                *kind = 1;
-            }
-            if datagram.len() > 32 && rng.percent(50) {
-                datagram[23] = 8;
-            }
-            if socket.send_to(&datagram, address).is_ok() {
+            if socket.send_to(&datagram(&mut rng), address).is_ok() {
                 sent.fetch_add(1, Ordering::Relaxed);
             }
         }

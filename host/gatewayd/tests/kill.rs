@@ -24,17 +24,23 @@ fn killed_and_started_again() {
     let first = Gatewayd::start(&place, "127.0.0.1:0", &more);
     let address = first.address;
     let done = AtomicBool::new(false);
-    let kills = AtomicUsize::new(0);
+    let (kills, starts_killed) = (AtomicUsize::new(0), AtomicUsize::new(0));
     thread::scope(|scope| {
         scope.spawn(|| {
             let mut rng = Rng::new(SEED);
             let mut running = first;
             while !done.load(Ordering::Relaxed) {
-                // Often in the middle of the start, too.
                 thread::sleep(Duration::from_micros(rng.between(100, 30_000) as u64));
                 running.kill();
                 kills.fetch_add(1, Ordering::Relaxed);
-                running = Gatewayd::start(&place, &address.to_string(), &more);
+                let listen = address.to_string();
+                // Often in the middle of the start, too.
+                while rng.percent(50) {
+                    let after = Duration::from_micros(rng.between(100, 10_000) as u64);
+                    Gatewayd::start_and_kill(&place, &listen, &more, after);
+                    starts_killed.fetch_add(1, Ordering::Relaxed);
+                }
+                running = Gatewayd::start(&place, &listen, &more);
             }
             running.end();
         });
@@ -45,8 +51,9 @@ fn killed_and_started_again() {
             sail(ship, &place, &mut rng);
         }
     });
-    let kills = kills.load(Ordering::Relaxed);
+    let (kills, starts_killed) = (kills.into_inner(), starts_killed.into_inner());
     assert!(kills >= 20, "only {kills} kills");
+    assert!(starts_killed >= 5, "only {starts_killed} kills soon after the start");
 
     for ship in 0..SHIPS {
         let mut listed = place.listed(ship);
@@ -64,7 +71,8 @@ fn killed_and_started_again() {
         assert!(line.starts_with(&format!("{REPORTS}\t")), "{line}");
         assert!(line.contains("open"), "{line}");
     }
-    println!("{kills} kills, {SHIPS} ships, {REPORTS} reports each");
+    println!("{kills} kills, {starts_killed} more soon after the start");
+    println!("{SHIPS} ships, {REPORTS} reports each");
 }
 
 /// Ends the killing when the sailing ends, also if by a panic.

@@ -107,6 +107,24 @@ fn an_18_moves_no_route_and_silence_closes_nothing() {
     assert_eq!(world.take(1, &unit.data(1), year).reports.len(), 1);
 }
 
+/// Before Open nobody has shown a key, so whoever says hello last is answered and routed.
+#[test]
+fn before_open_the_route_is_that_of_the_last_hello() {
+    let mut world = World::new(1, None);
+    let mut unit = ship(0);
+    let hello = unit.hello(1);
+    let reply = world.take(1, &hello, 0).send.remove(0).1;
+    unit.unit.hear_reply(&reply).unwrap();
+    let replayed = world.take(2, &hello, 0);
+    assert_eq!((&replayed.send, replayed.changed), (&vec![(address(2), reply)], true));
+    assert_eq!(world.take(1, &unit.unit.flight().unwrap(), 0).notes, [Note::Stranger]);
+    // The ship says it once more, and opens; from now on that hello moves nothing.
+    assert!(world.take(1, &hello, 0).changed);
+    assert!(world.take(1, &unit.unit.flight().unwrap(), 0).changed);
+    assert_eq!(refusals(&world.take(2, &hello, 0)), [18]);
+    assert_eq!((world.route(0), world.state(0)), (Some(address(1)), State::Open));
+}
+
 #[test]
 fn a_silent_ship_comes_back_with_a_hello() {
     let mut world = World::new(1, Some(100));
@@ -216,7 +234,7 @@ fn a_closed_connection_is_started_again() {
 
 #[test]
 fn a_barred_session_stays_out() {
-    let place = Place::new("barred");
+    let place = Place::in_memory("barred");
     let open = |secrets: fn(usize) -> [u8; 20]| {
         let session =
             |ship| Session { id: identifier(ship), secret: secrets(ship), ship: name(ship) };
@@ -242,7 +260,13 @@ fn a_barred_session_stays_out() {
     assert_eq!(barred(&open(secret)), [true, false]);
     let text = std::fs::read_to_string(place.state().join("barred")).unwrap();
     assert!(text.starts_with("0102030405060708\t") && text.lines().count() == 1, "{text}");
-    assert_eq!(barred(&open(secret)), [true, false]);
+    // A line that a crash cut is written again.
+    for cut in 0..text.len() {
+        std::fs::write(place.state().join("barred"), &text[..cut]).unwrap();
+        assert_eq!(barred(&open(secret)), [true, false]);
+        let again = std::fs::read_to_string(place.state().join("barred")).unwrap();
+        assert!(again.starts_with("0102030405060708\t") && again.len() == text.len(), "{again}");
+    }
     std::fs::remove_file(place.state().join("journal")).unwrap();
     assert_eq!(barred(&open(secret)), [true, false]);
     assert_eq!(barred(&open(|_| [9; 20])), [true, false]);

@@ -110,11 +110,25 @@ fn state_and_port() {
     other.plant(1);
     assert_eq!(refused(&other, &running.address.to_string()).0, 5);
 
+    // Two states, but one directory of lists.
+    let lists = place.state().join("lists");
+    let (sessions, state) = (other.sessions(), other.state());
+    let words = [&sessions, &state, &lists].map(|path| path.to_str().unwrap());
+    let used = running.address.to_string();
+    let more = ["--lists", words[2], "--listen", &used];
+    let output = run(&[&["--sessions", words[0], "--state", words[1]], &more[..]].concat());
+    let said = String::from_utf8(output.stderr).unwrap();
+    assert!(output.status.code() == Some(4) && said.contains("another gateway runs"), "{said}");
+
     running.kill();
-    fs::create_dir_all(place.state()).unwrap();
     fs::write(place.state().join("barred"), "no identifier\n").unwrap();
     let (status, said) = refused(&place, ANY);
     assert!(status == 4 && said.contains("barred:1:1:"), "{status} {said}");
+    // No crash leaves a journal without a record.
+    fs::remove_file(place.state().join("barred")).unwrap();
+    fs::write(place.state().join("journal"), "").unwrap();
+    let (status, said) = refused(&place, ANY);
+    assert!(status == 4 && said.contains("the journal is damaged"), "{status} {said}");
 }
 
 #[test]

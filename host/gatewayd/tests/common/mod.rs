@@ -105,19 +105,40 @@ pub struct Gatewayd {
 }
 
 impl Gatewayd {
-    pub fn start(place: &Place, listen: &str, more: &[&str]) -> Gatewayd {
+    fn command(place: &Place, listen: &str, more: &[&str]) -> Command {
         let log =
             fs::OpenOptions::new().create(true).append(true).open(place.path.join("log")).unwrap();
-        let mut child = Command::new(env!("CARGO_BIN_EXE_gatewayd"))
-            .args(["--listen", listen, "--sessions"])
-            .arg(place.sessions())
-            .arg("--state")
-            .arg(place.state())
-            .args(more)
-            .stdout(Stdio::piped())
-            .stderr(log)
-            .spawn()
-            .unwrap();
+        let mut command = Command::new(env!("CARGO_BIN_EXE_gatewayd"));
+        command.args(["--listen", listen, "--sessions"]).arg(place.sessions());
+        command.arg("--state").arg(place.state()).args(more).stdout(Stdio::piped()).stderr(log);
+        command
+    }
+
+    /// Killed so long after it was called, which may be before it listens.
+    pub fn start_and_kill(place: &Place, listen: &str, more: &[&str], after: Duration) {
+        let mut child = Gatewayd::command(place, listen, more).spawn().unwrap();
+        std::thread::sleep(after);
+        child.kill().unwrap();
+        child.wait().unwrap();
+    }
+
+    pub fn start(place: &Place, listen: &str, more: &[&str]) -> Gatewayd {
+        Gatewayd::begin(place, Gatewayd::command(place, listen, more))
+    }
+
+    /// On a disk that takes so many bytes in a file.
+    pub fn start_on_small_disk(place: &Place, listen: &str, bytes: usize) -> Gatewayd {
+        let plain = Gatewayd::command(place, listen, &[]);
+        let limits = format!("ulimit -f {}; trap '' XFSZ; exec \"$@\"", bytes / 512);
+        let log = fs::OpenOptions::new().append(true).open(place.path.join("log")).unwrap();
+        let mut command = Command::new("sh");
+        command.args(["-c", &limits, "sh"]).arg(plain.get_program()).args(plain.get_args());
+        command.stdout(Stdio::piped()).stderr(log);
+        Gatewayd::begin(place, command)
+    }
+
+    fn begin(place: &Place, mut command: Command) -> Gatewayd {
+        let mut child = command.spawn().unwrap();
         let mut out = BufReader::new(child.stdout.take().unwrap());
         let mut line = String::new();
         out.read_line(&mut line).unwrap();
@@ -164,7 +185,7 @@ pub struct Ship {
     /// the rest the server random, type and number. Another content under the same is a number
     /// used twice.
     seen: HashMap<Vec<u8>, Vec<u8>>,
-    random: Vec<u8>,
+    pub random: Vec<u8>,
     pub warnings: usize,
     pub notices: usize,
 }
