@@ -33,8 +33,8 @@ pub record First : Type 0 where
   pub refused-record : RefusedRecordChangesNothing
   pub unwritten : NothingWrittenWithoutReply
 
--- "Records, alerts, hellos, key changes and Finished are read and written exactly as WAP-261 WTLS of 6 April 2001 defines
--- them, within the stated profile."
+-- "Records, alerts, hellos, key changes and Finished are read and written exactly as WAP-261 WTLS of 6 April 2001
+-- defines them, within the stated profile."
 pub record Second : Type 0 where
   pub table : TableHolds
   pub written : ReadAsWritten
@@ -57,11 +57,12 @@ pub record Second : Type 0 where
   pub for-good : BarredForGood
 
 pub record Third : Type 0 where
-  -- "Leave out every datagram without a genuine record: the data handed out, its order and the connection are the same."
+  -- "Leave out every datagram without a genuine record: the data handed out, its order and the connection are the
+  -- same."
   pub left-out : LeavesOut stepOf
   pub left-out-of-runs : LeavesOutOfRuns
-  -- "Each genuine data record of at least one byte, whose number was not accepted before and is above the highest accepted
-  -- less 32, is handed out by that very call, once, as sent."
+  -- "Each genuine data record of at least one byte, whose number was not accepted before and is above the highest
+  -- accepted less 32, is handed out by that very call, once, as sent."
   pub handed-out : HandedOut
   pub handed-once : HandedOnce
   pub empty-then-data : EmptyThenData stepOf

@@ -72,5 +72,6 @@ ClosedBetween g =
     (c : Connection) → JustOpen c → (random out one two : List ℕ) (description : Description) (checksum : ℕ)
     → length random ≡ 16 → 128 ≤ length out
     → 1 ≤ length one → length one ≤ 600 → length two ≤ 600 → checksum < 4294967296
-    → g c (receive (withAlert (keysOf (c .handshake)) one (alertBytes Critical description checksum) two) random out) .result
+    → g c
+    (receive (withAlert (keysOf (c .handshake)) one (alertBytes Critical description checksum) two) random out) .result
     ≡ received (T.Records 3) (slotsOf (W.Data 7 5 (length one) ∷ W.Critical description ∷ W.Refused X.Ended ∷ [])) 0
