@@ -5,13 +5,13 @@ ghost use lib.ListN.{length};
 ghost use Rattle.digest.specs.Bytes.{bytes2, bytes4, bytes8, wordAt};
 ghost use Rattle.gateway.specs.Fields.{twoIn, eightIn};
 
-pub fn two(x: u16) -> [u8; 2]
+pub(crate) fn two(x: u16) -> [u8; 2]
     ensures { λ r. ⌜ r ≡ bytes2 x ⌝ }
 {
     [(x / 256 % 256) as u8, (x % 256) as u8]
 }
 
-pub fn four(x: u32) -> [u8; 4]
+pub(crate) fn four(x: u32) -> [u8; 4]
     ensures { λ r. ⌜ r ≡ bytes4 x ⌝ }
 {
     [
@@ -22,7 +22,7 @@ pub fn four(x: u32) -> [u8; 4]
     ]
 }
 
-pub fn eight(x: u64) -> [u8; 8]
+pub(crate) fn eight(x: u64) -> [u8; 8]
     ensures { λ r. ⌜ r ≡ bytes8 x ⌝ }
 {
     let high = x / 4294967296;
@@ -39,14 +39,14 @@ pub fn eight(x: u64) -> [u8; 8]
     ]
 }
 
-pub fn two_in(b: &[u8], at: usize) -> u16
+pub(crate) fn two_in(b: &[u8], at: usize) -> u16
     requires { ⌜ at + 2 ≤ length (now b) ⌝ }
     ensures { λ r. ⌜ r ≡ twoIn (now (b .entry)) at ⌝ }
 {
     wide16(b[at]) * 256 + wide16(b[at + 1])
 }
 
-pub fn four_in(b: &[u8], at: usize) -> u32
+pub(crate) fn four_in(b: &[u8], at: usize) -> u32
     requires { ⌜ at + 4 ≤ length (now b) ⌝ }
     ensures { λ r. ⌜ r ≡ wordAt (now (b .entry)) at ⌝ }
 {
@@ -54,7 +54,7 @@ pub fn four_in(b: &[u8], at: usize) -> u32
     (high * 256 + wide32(b[at + 2])) * 256 + wide32(b[at + 3])
 }
 
-pub fn eight_in(b: &[u8], at: usize) -> u64
+pub(crate) fn eight_in(b: &[u8], at: usize) -> u64
     requires { ⌜ at + 8 ≤ length (now b) ⌝ }
     ensures { λ r. ⌜ r ≡ eightIn (now (b .entry)) at ⌝ }
 {

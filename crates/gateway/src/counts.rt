@@ -7,7 +7,7 @@ use crate::bytes::four_in;
 use connection::tally::Tally;
 use digest::put;
 
-pub fn tally_in(b: &[u8]) -> Tally
+pub(crate) fn tally_in(b: &[u8]) -> Tally
     requires { ⌜ length (now b) ≡ 16 ⌝ }
     ensures { λ r. ⌜ r ≡ tallyIn (now (b .entry)) ⌝ }
 {
@@ -19,7 +19,7 @@ pub fn tally_in(b: &[u8]) -> Tally
     }
 }
 
-pub fn put_tally(d: &mut [u8], tally: Tally)
+pub(crate) fn put_tally(d: &mut [u8], tally: Tally)
     requires { ⌜ length (now d) ≡ 16 ⌝ }
     ensures { λ _. ⌜ now (d .exit) ≡ tallyBytes tally ⌝ }
 {

@@ -20,7 +20,7 @@ use connection::receive::Taken;
 use connection::refusal::number;
 use connection::send::Sent;
 
-pub fn leave_called(called: Called, state: &mut [u8]) -> u64
+pub(crate) fn leave_called(called: Called, state: &mut [u8]) -> u64
     requires { ⌜ length (now state) ≡ 457 ⌝ }
     ensures { λ r. ⌜ r ≡ resultOf (refusalIn (called .outcome)) 0 0 ⌝ }
     ensures { λ _. ⌜ now (state .exit) ≡ leftIn (now (state .entry)) (called .connection) (called .outcome) ⌝ }
@@ -36,7 +36,7 @@ pub fn leave_called(called: Called, state: &mut [u8]) -> u64
     }
 }
 
-pub fn leave_sent(sent: Sent, state: &mut [u8]) -> u64
+pub(crate) fn leave_sent(sent: Sent, state: &mut [u8]) -> u64
     requires { ⌜ length (now state) ≡ 457 ⌝ }
     ensures { λ r. ⌜ r ≡ sentResult sent ⌝ }
     ensures { λ _. ⌜ now (state .exit) ≡ sentState (now (state .entry)) sent ⌝ }
@@ -52,7 +52,7 @@ pub fn leave_sent(sent: Sent, state: &mut [u8]) -> u64
     }
 }
 
-pub fn leave_received(
+pub(crate) fn leave_received(
     received: Received,
     state: &mut [u8],
     tally: &mut [u8],

@@ -22,7 +22,7 @@ use record::window::Window;
 const MARK: u32 = 0x57544701;
 
 // Whether bytes are a saved connection: the size, the mark, a state and a MAC kind. Nothing else in them can be wrong.
-pub fn is_saved(b: &[u8]) -> bool
+pub(crate) fn is_saved(b: &[u8]) -> bool
     ensures { λ r. ⌜ r ≡ isSaved (now (b .entry)) ⌝ }
 {
     if b.len() != 457 {
@@ -41,7 +41,7 @@ pub fn is_saved(b: &[u8]) -> bool
 }
 
 // Whether what is lent to a receive has its sizes, and the bytes are a saved connection.
-pub fn lent_for(state: &[u8], counts: usize, places: usize) -> bool
+pub(crate) fn lent_for(state: &[u8], counts: usize, places: usize) -> bool
     ensures { λ r. ⌜ r ≡ lentFor (now (state .entry)) counts places ⌝ }
 {
     if counts != 16 {
@@ -54,7 +54,7 @@ pub fn lent_for(state: &[u8], counts: usize, places: usize) -> bool
 }
 
 // The connection that the bytes hold.
-pub fn connection_in(b: &[u8]) -> Connection
+pub(crate) fn connection_in(b: &[u8]) -> Connection
     requires { ⌜ length (now b) ≡ 457 ⌝ }
     ensures { λ r. ⌜ r ≡ connectionIn (now (b .entry)) ⌝ }
 {

@@ -23,7 +23,7 @@ pub struct Entry {
 }
 
 // All eight answers, over all the bytes.
-pub fn put_answers(d: &mut [u8], answers: [Slot; 8])
+pub(crate) fn put_answers(d: &mut [u8], answers: [Slot; 8])
     requires { ⌜ length (now d) ≡ 192 ⌝ }
     ensures { λ _. ⌜ now (d .exit) ≡ reportOf answers ⌝ }
 {

@@ -3,7 +3,7 @@
 ghost use mathlib.Core.Path.{_≡_};
 ghost use Rattle.gateway.specs.Calls.{resultOf, notTaken};
 
-pub fn result_of(refusal: u8, written: usize, count: usize) -> u64
+pub(crate) fn result_of(refusal: u8, written: usize, count: usize) -> u64
     ensures { λ r. ⌜ r ≡ resultOf refusal written count ⌝ }
 {
     let high = refusal as u64 * 65536 + (written % 65536) as u64;
@@ -11,7 +11,7 @@ pub fn result_of(refusal: u8, written: usize, count: usize) -> u64
 }
 
 // 16: what is lent is out of range.
-pub fn not_taken() -> u64
+pub(crate) fn not_taken() -> u64
     ensures { λ r. ⌜ r ≡ notTaken ⌝ }
 {
     result_of(16, 0, 0)

@@ -23,7 +23,7 @@ use record::window::Window;
 const MARK: u32 = 0x57544701;
 
 // The connection, over all the bytes.
-pub fn put_connection(d: &mut [u8], c: Connection)
+pub(crate) fn put_connection(d: &mut [u8], c: Connection)
     requires { ⌜ length (now d) ≡ 457 ⌝ }
     ensures { λ _. ⌜ now (d .exit) ≡ savedOf c ⌝ }
     ensures { λ _. ⌜ loaded (now (d .exit)) ≡ Is c ⌝ }
