@@ -208,7 +208,7 @@ fn a_large_journal() {
         assert_eq!(world.take(&ship.data(number)).reports.len(), 1);
         largest = largest.max(common::journal_size(&place.state()));
     }
-    assert!(largest > 7 << 20 && largest < 8 << 20, "{largest}");
+    assert!(largest > 7 << 20 && largest < (8 << 20) + 4096, "{largest}");
     assert!(common::journal_size(&place.state()) < largest);
     drop(world);
     drop(World::open(&place.state()));
