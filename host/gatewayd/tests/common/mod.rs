@@ -225,6 +225,9 @@ impl Ship {
         while let Ok(size) = self.socket.recv(&mut buffer) {
             let datagram = buffer[..size].to_vec();
             let is_reply = datagram[0] == 0xc3;
+            if is_reply && self.unit.hear_reply(&datagram).is_err() {
+                continue; // it comes late, and answers an earlier hello
+            }
             let key = match is_reply {
                 true => self.unit.last_hello().to_vec(),
                 false => [&self.random, &datagram[..3]].concat(),
@@ -232,7 +235,6 @@ impl Ship {
             let first = self.seen.entry(key).or_insert_with(|| datagram.clone());
             assert_eq!(*first, datagram, "one number, two contents");
             if is_reply {
-                self.unit.hear_reply(&datagram).unwrap();
                 self.random = datagram[9..25].to_vec();
                 replied = true;
             } else {
