@@ -28,8 +28,9 @@ use load::is_saved;
 use load::lent_for;
 use result::not_taken;
 use result::result_of;
+use save::SIZE;
 
-// A fresh connection of a planted session, in 457 bytes. Refusal: 16.
+// A fresh connection of a planted session, in 458 bytes. Refusal: 16.
 #[no_mangle]
 pub extern "C" fn gateway_fresh(id: &[u8], secret: &[u8], state: &mut [u8]) -> u64
     ensures exact { λ r. ⌜ r ≡ freshResult (now (id .entry)) (now (secret .entry)) (length (now (state .entry))) ⌝ }
@@ -38,7 +39,7 @@ pub extern "C" fn gateway_fresh(id: &[u8], secret: &[u8], state: &mut [u8]) -> u
     ensures loads { λ _. ⌜ loaded (now (state .exit)) ≡ freshLoads (now (id .entry)) (now (secret .entry))
         (now (state .entry)) ⌝ }
 {
-    if state.len() != 457 {
+    if state.len() != SIZE {
         return not_taken();
     }
     leave_called(calls::fresh(id, secret), state)
