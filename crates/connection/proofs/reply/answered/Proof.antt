@@ -4,6 +4,7 @@ use mathlib.Core.Path.{_≡_, sym, _∙_, ap}
 use lib.ListN.{length}
 use Rattle.record.proofs.Sealed.{size-most}
 use Rattle.connection.proofs.Replying.{answered-by, reply-size}
+use Rattle.connection.specs.Handshake.{planted}
 use borrow.Author.Needs.{needs}
 use native.Mathlib.Omega.{arith}
 use Rattle.connection.proofs.reply.answered.Statement.{statement}
@@ -53,10 +54,10 @@ add-t35 c = omega (arith, c .size .ensures, size-most (c .before .before .before
 
 returns : tie.Need-returns
 returns c = let args = c .before .before .before .before .before .before .before .before .before .before .before .before .before .before .before .before .before .before .before .args in
-    let id-size : length (args .h .session .id) ≡ 8 = search (needs, c .before .before .before .before .before .before .before .before .before .before .before .before .before .before .before .before .before .before .before .good .0) in
+    let id-size : length (args .h .id) ≡ 8 = search (needs, c .before .before .before .before .before .before .before .before .before .before .before .before .before .before .before .before .before .before .before .good .0) in
     answered-by (args .h) (args .random) (args .m .now) (args .plan) _ _ _ _ _ _ _ _
     (c .before .before .before .before .before .before .before .before .before .before .before .before .before .before .client-random .ensures) (c .before .before .before .before .before .before .before .before .before .before .before .before .before .server-hello .ensures) (c .before .before .before .before .before .before .before .before .before .before .server-verify .ensures) (c .before .before .before .before .before .before .before .before .before .message .ensures) (c .before .before .before .before .before .client-verify .ensures) (c .before .before .before .before .flown .ensures) (c .before .kept-hello .ensures)
-    (ap (λ n. 64 + n) (c .size .ensures) ∙ sym (reply-size (args .h .session) (args .random) (args .m .now) (args .plan) (c .before .before .before .before .before .before .before .before .before .before .before .before .before .before .before .before .before .before .before .pre .0) id-size))
+    (ap (λ n. 64 + n) (c .size .ensures) ∙ sym (reply-size (planted (args .h)) (args .random) (args .m .now) (args .plan) (c .before .before .before .before .before .before .before .before .before .before .before .before .before .before .before .before .before .before .before .pre .0) id-size))
 
 pub answered-spec : {M : Type 1} → statement M
 answered-spec =
