@@ -6,18 +6,19 @@ use mathlib.Core.List.{List, [], _∷_}
 use Prim.Native.Nat.{ℕ, _+_}
 use lib.Dec.{eqb}
 use Rattle.digest.specs.Pick.{pick}
+use lib.ListN.{replicate}
+use Rattle.digest.specs.declared.mac.Mac.{Mac}
 use Rattle.digest.specs.declared.mac.Mac.the-variants.{Sha80}
 use Rattle.message.specs.Acceptance.{heardOf}
 use Rattle.message.specs.declared.acceptance.Heard.{Heard}
 use Rattle.message.specs.declared.acceptance.Heard.the-variants as H
 use Rattle.record.specs.declared.reader.Record.{Record}
 use Rattle.connection.specs.Answer.{answerNumber}
-use Rattle.connection.specs.Handshake.{nothingAgreed}
 use Rattle.connection.specs.Judge.{fragmentOf}
 use Rattle.connection.specs.Reply.{clientRandom, expectedOf, replyTo, lastOf}
 use Rattle.connection.specs.declared.answer.Answer.{Answer}
 use Rattle.connection.specs.declared.answer.Answer.the-variants.{Nothing, Reply, Resent, Spec, Open, Again, Data, Warning, Critical, Fatal, Barred, Refused}
-use Rattle.connection.specs.declared.handshake.Agreed.{Agreed}
+use Rattle.connection.specs.declared.handshake.Handshake.{Handshake}
 use Rattle.connection.specs.declared.handshake.Session.{Session}
 use Rattle.record.specs.declared.keys.Keys.{Keys}
 use Rattle.demands.specs.Events.{Happened, answered, wrote, closed, started, refused}
@@ -89,6 +90,28 @@ keptGreeting (wrote sealed bytes ∷ past) = keptGreeting past
 keptGreeting (closed ∷ past) = keptGreeting past
 keptGreeting (started ∷ past) = none
 keptGreeting (refused ∷ past) = keptGreeting past
+
+pub record Agreed : Type 0 where
+  pub server : List ℕ
+  pub client : List ℕ
+  pub mac : Mac
+  pub refresh : ℕ
+  pub expected : List ℕ
+
+unfoldable pub nothingAgreed : Mac → ℕ → Agreed
+nothingAgreed mac refresh =
+    record { server = replicate 16 0; client = replicate 16 0; mac = mac; refresh = refresh; expected = replicate 12 0 }
+
+-- what a handshake holds of it
+abbrev pub agreedOf : Handshake → Agreed
+agreedOf h =
+    record {
+      server = h .protection .keys .server;
+      client = h .protection .keys .client;
+      mac = h .protection .keys .mac;
+      refresh = h .protection .keys .refresh;
+      expected = h .expected;
+    }
 
 -- what a new reply fixes, of the session and the two hellos alone: randoms, MAC kind, refresh, and the contents that
 -- the unit's Finished must have
