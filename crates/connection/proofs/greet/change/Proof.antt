@@ -38,9 +38,9 @@ with-state-requires c κs = search needs
 
 returns-2 : tie.Need-returns-2
 unfolding changedBy
-returns-2 c = let h = c .args .h in
-    let emptied-is = c .with-window .ensures ∙ ap (P.withWindow (h .protection)) (c .emptied .ensures) in
-    let left = c .with-state .ensures ∙ ap (λ x. withState x S.Spec) (c .with-protection .ensures ∙ ap (withProtection h) emptied-is) in
+returns-2 c = let h = c .before .before .before .before .before .before .before .before .before .args .h in
+    let emptied-is = c .before .before .with-window .ensures ∙ ap (P.withWindow (h .protection)) (c .before .before .before .emptied .ensures) in
+    let left = c .with-state .ensures ∙ ap (λ x. withState x S.Spec) (c .before .with-protection .ensures ∙ ap (withProtection h) emptied-is) in
     let e : _≡_ {A = Judged} (record { answer = Spec; handshake = c .with-state .result }) (judged Spec (withState (withWindow h (emptied (h .protection .window))) S.Spec)) = λ i. record { answer = Spec; handshake = left i } in
     search (picks, not-false)
 

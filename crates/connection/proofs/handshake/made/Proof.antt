@@ -11,8 +11,8 @@ new-protection-requires : tie.Need-new-protection-requires
 new-protection-requires c κs = search needs
 
 returns : tie.Need-returns
-returns c = let a = c .args in
-    λ i. record { state = a .state; id = a .session .id; expected = nothingExpected; kept = c .nothing-kept .ensures i; last = 0; protection = c .new-protection .ensures i }
+returns c = let a = c .before .before .before .before .args in
+    λ i. record { state = a .state; id = a .session .id; expected = nothingExpected; kept = c .before .nothing-kept .ensures i; last = 0; protection = c .new-protection .ensures i }
 
 pub made-spec : {M : Type 1} → statement M
 made-spec =

@@ -9,7 +9,7 @@ fresh-requires : tie.Need-fresh-requires
 fresh-requires c κs = search needs
 
 returns : tie.Need-returns
-returns c = λ i. record { keys = unagreedKeys (c .args .secret) Sha80 0; window = c .fresh .ensures .0 i; protected = 0; clear = 0 }
+returns c = λ i. record { keys = unagreedKeys (c .before .args .secret) Sha80 0; window = c .fresh .ensures .0 i; protected = 0; clear = 0 }
 
 pub new-protection-spec : {M : Type 1} → statement M
 new-protection-spec =

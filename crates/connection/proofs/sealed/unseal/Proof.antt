@@ -33,16 +33,16 @@ enum-told-3 c = search needs
 refuse-requires-3 : tie.Need-refuse-requires-3
 refuse-requires-3 c κs = search needs
 
-enum-known-size : tie.Need-enum-known-size
-enum-known-size c = search needs
+enum-known-opened : tie.Need-enum-known-opened
+enum-known-opened c = search needs
 
 with-protection-requires : tie.Need-with-protection-requires
 with-protection-requires c κs = search needs
 
 slice-aggregate-content : tie.Need-slice-aggregate-content
 slice-aggregate-content c =
-    let a = c .args in
-    let within = new-within (a .h .protection) FromUnit (a .number) (a .byte) (a .fragment .now) _ (sym (ap (λ (o : Opening). o .opened) (c .open .ensures)) ∙ c .size .given .1) in
+    let a = c .before .before .before .before .before .before .before .before .args in
+    let within = new-within (a .h .protection) FromUnit (a .number) (a .byte) (a .fragment .now) _ (sym (ap (λ (o : Opening). o .opened) (c .before .before .before .before .before .«open» .ensures)) ∙ c .before .before .before .opened .given .1) in
     sym (length-take-le _ (a .fragment .now) within)
 
 content-requires : tie.Need-content-requires
@@ -50,22 +50,22 @@ content-requires c κs = search needs
 
 returns : tie.Need-returns
 unfolding unsealedBy
-returns c = rw (sym (ap (λ (o : Opening). o .opened) (c .open .ensures)) ∙ c .enum-told .given .1) (c .refuse .ensures)
+returns c = rw (sym (ap (λ (o : Opening). o .opened) (c .before .before .before .«open» .ensures)) ∙ c .before .enum-told .given .1) (c .refuse .ensures)
 
 returns-2 : tie.Need-returns-2
 unfolding unsealedBy
-returns-2 c = rw (sym (ap (λ (o : Opening). o .opened) (c .open .ensures)) ∙ c .enum-told2 .given .1) (c .refuse2 .ensures)
+returns-2 c = rw (sym (ap (λ (o : Opening). o .opened) (c .before .before .before .«open» .ensures)) ∙ c .before .enum-told2 .given .1) (c .refuse2 .ensures)
 
 returns-3 : tie.Need-returns-3
 unfolding unsealedBy
-returns-3 c = rw (sym (ap (λ (o : Opening). o .opened) (c .open .ensures)) ∙ c .enum-told3 .given .1) (c .refuse3 .ensures)
+returns-3 c = rw (sym (ap (λ (o : Opening). o .opened) (c .before .before .before .«open» .ensures)) ∙ c .before .enum-told3 .given .1) (c .refuse3 .ensures)
 
 returns-4 : tie.Need-returns-4
 unfolding unsealedBy
 returns-4 c =
-    let a = c .args in
-    let left = c .with-protection .ensures ∙ ap (λ (o : Opening). withProtection (a .h) (o .protection)) (c .open .ensures) in
-    rw (sym (ap (λ (o : Opening). o .opened) (c .open .ensures)) ∙ c .size .given .1)
+    let a = c .before .before .before .before .before .before .before .before .before .args in
+    let left = c .before .before .with-protection .ensures ∙ ap (λ (o : Opening). withProtection (a .h) (o .protection)) (c .before .before .before .before .before .before .«open» .ensures) in
+    rw (sym (ap (λ (o : Opening). o .opened) (c .before .before .before .before .before .before .«open» .ensures)) ∙ c .before .before .before .before .opened .given .1)
     (c .content .ensures ∙ (λ i. contentBy (left i) (a .kind) (a .number) (a .at) (take _ (a .fragment .now))))
 
 pub unseal-spec : {M : Type 1} → statement M
@@ -79,7 +79,7 @@ unseal-spec =
     refuse-requires-2
     enum-told-3
     refuse-requires-3
-    enum-known-size
+    enum-known-opened
     with-protection-requires
     slice-aggregate-content
     content-requires

@@ -20,15 +20,15 @@ size-requires c κs = search needs
 
 slice-reshare-prefix-checksum : tie.Need-slice-reshare-prefix-checksum
 slice-reshare-prefix-checksum c =
-    let a = c .args in
-    let w = protected-wrote (a .h) (a .content) (a .body .now) (a .out .now) _ _ _ (c .pre .0) (c .pre .1) (c .write .ensures .0) (c .write .ensures .1) (c .size .ensures) .0 in
-    let same = ap length (w .bytes-are) ∙ length-laid (a .out .now) 0 (nextProtected (a .h) (a .content) (a .body .now)) (omega (arith, c .pre .1)) in
-    omega (arith, w .count, same, c .pre .1)
+    let a = c .before .before .before .before .before .before .before .before .args in
+    let w = protected-wrote (a .h) (a .content) (a .body .now) (a .out .now) _ _ _ (c .before .before .before .before .before .before .before .before .pre .0) (c .before .before .before .before .before .before .before .before .pre .1) (c .before .before .before .write .ensures .0) (c .before .before .before .write .ensures .1) (c .size .ensures) .0 in
+    let same = ap length (w .bytes-are) ∙ length-laid (a .out .now) 0 (nextProtected (a .h) (a .content) (a .body .now)) (omega (arith, c .before .before .before .before .before .before .before .before .pre .1)) in
+    omega (arith, w .count, same, c .before .before .before .before .before .before .before .before .pre .1)
 
 slice-aggregate-checksum : tie.Need-slice-aggregate-checksum
 slice-aggregate-checksum c =
-    let a = c .args in
-    let w = protected-wrote (a .h) (a .content) (a .body .now) (a .out .now) _ _ _ (c .pre .0) (c .pre .1) (c .write .ensures .0) (c .write .ensures .1) (c .size .ensures) .0 in
+    let a = c .before .before .before .before .before .before .before .before .before .args in
+    let w = protected-wrote (a .h) (a .content) (a .body .now) (a .out .now) _ _ _ (c .before .before .before .before .before .before .before .before .before .pre .0) (c .before .before .before .before .before .before .before .before .before .pre .1) (c .before .before .before .before .write .ensures .0) (c .before .before .before .before .write .ensures .1) (c .before .size .ensures) .0 in
     w .count ∙ sym (ap length (w .front))
 
 checksum-requires : tie.Need-checksum-requires
@@ -45,11 +45,11 @@ same-length c = search needs
 
 returns : tie.Need-returns
 returns c =
-    let a = c .args in
-    let both = protected-wrote (a .h) (a .content) (a .body .now) (a .out .now) _ _ _ (c .pre .0) (c .pre .1) (c .write .ensures .0) (c .write .ensures .1) (c .size .ensures) in
+    let a = c .before .before .before .before .before .before .before .before .before .before .before .before .args in
+    let both = protected-wrote (a .h) (a .content) (a .body .now) (a .out .now) _ _ _ (c .before .before .before .before .before .before .before .before .before .before .before .before .pre .0) (c .before .before .before .before .before .before .before .before .before .before .before .before .pre .1) (c .before .before .before .before .before .before .before .write .ensures .0) (c .before .before .before .before .before .before .before .write .ensures .1) (c .before .before .before .before .size .ensures) in
     let w = both .0 in
-    let sum = c .checksum .ensures ∙ ap (λ x. wordAt (checksumOf x) 0) (w .front) in
-    (c .finish .ensures ∙ ap (doneWith (c .size .result)) (c .with-sent .ensures) ∙ (λ i. doneWith (w .count i) (withSent (a .h) (both .1 i) (sum i))), w .bytes-are)
+    let sum = c .before .before .checksum .ensures ∙ ap (λ x. wordAt (checksumOf x) 0) (w .front) in
+    (c .finish .ensures ∙ ap (doneWith (c .before .before .before .before .size .result)) (c .before .with-sent .ensures) ∙ (λ i. doneWith (w .count i) (withSent (a .h) (both .1 i) (sum i))), w .bytes-are)
 
 pub protected-spec : {M : Type 1} → statement M
 protected-spec =

@@ -16,9 +16,9 @@ with-window-requires : tie.Need-with-window-requires
 with-window-requires c κs = search needs
 
 returns : tie.Need-returns
-returns c = let h = c .args .self in
-    let left = c .with-window .ensures ∙ ap (P.withWindow (h .protection)) (c .emptied .ensures) in
-    λ i. record { state = Idle; id = h .id; expected = h .expected; kept = c .nothing-kept .ensures i; last = h .last; protection = left i }
+returns c = let h = c .before .before .before .before .before .before .before .args .self in
+    let left = c .with-window .ensures ∙ ap (P.withWindow (h .protection)) (c .before .emptied .ensures) in
+    λ i. record { state = Idle; id = h .id; expected = h .expected; kept = c .before .before .nothing-kept .ensures i; last = h .last; protection = left i }
 
 pub reopened-spec : {M : Type 1} → statement M
 reopened-spec =
