@@ -17,7 +17,7 @@ server-hello-requires : tie.Need-server-hello-requires
 server-hello-requires c κs = search needs
 
 slice-aggregate-server-verify : tie.Need-slice-aggregate-server-verify
-slice-aggregate-server-verify c = search (needs, c .before .before .before .before .before .before .before .before .good .0)
+slice-aggregate-server-verify c = search (needs, c .before .before .before .before .before .before .before .before .good .0 .1 .1 .1 .1 .1 .1 .1 .0)
 
 slice-aggregate-server-verify-2 : tie.Need-slice-aggregate-server-verify-2
 slice-aggregate-server-verify-2 c = search needs
@@ -29,7 +29,7 @@ message-requires : tie.Need-message-requires
 message-requires c κs = search needs
 
 slice-aggregate-client-verify : tie.Need-slice-aggregate-client-verify
-slice-aggregate-client-verify c = search (needs, c .before .before .before .before .before .before .before .before .before .before .before .before .good .0)
+slice-aggregate-client-verify c = search (needs, c .before .before .before .before .before .before .before .before .before .before .before .before .good .0 .1 .1 .1 .1 .1 .1 .1 .0)
 
 slice-aggregate-client-verify-2 : tie.Need-slice-aggregate-client-verify-2
 slice-aggregate-client-verify-2 c = search needs

@@ -66,7 +66,7 @@ returns-4 c =
     let a = c .before .before .before .before .before .before .before .before .before .args in
     let left = c .before .before .with-protection .ensures ∙ ap (λ (o : Opening). withProtection (a .h) (o .protection)) (c .before .before .before .before .before .before .«open» .ensures) in
     rw (sym (ap (λ (o : Opening). o .opened) (c .before .before .before .before .before .before .«open» .ensures)) ∙ c .before .before .before .before .opened .given .1)
-    (c .content .ensures ∙ (λ i. contentBy (left i) (a .kind) (a .number) (a .at) (take _ (a .fragment .now))))
+    (c .content .ensures ∙ (λ i. contentBy (left i) (a .kind) (a .number) (a .at) (take (c .before .before .before .before .opened .given .0 .0) (a .fragment .now))))
 
 pub unseal-spec : {M : Type 1} → statement M
 unseal-spec =
