@@ -62,7 +62,7 @@ module _ (h : Handshake) (random d : List ℕ) (r : Record) where
   unfolding answeredWith
   unmoved plan = refl
 
-  same-session : (plan : Plan) → answeredWith h random (fragmentOf d r) planted plan ≡ planted h
+  same-session : (plan : Plan) → planted (answeredWith h random (fragmentOf d r) plan) ≡ planted h
   unfolding answeredWith
   same-session plan = refl
 

@@ -22,6 +22,7 @@ use Rattle.message.specs.declared.alert.Graded.the-variants as G
 use Rattle.message.specs.declared.alert.Sorted.{Sorted}
 use Rattle.message.specs.declared.alert.Sorted.the-variants as D
 use Rattle.connection.specs.Calls.{sessionOf}
+use Rattle.record.specs.Protection.{recordUnder}
 use Rattle.connection.specs.Send.{nextProtected, nextClear, nextAlert, alertBody}
 use Rattle.connection.specs.declared.state.State.{State}
 use Rattle.connection.specs.declared.state.State.the-variants as S
@@ -94,7 +95,7 @@ one-description k m s e f = cc
 module _ (session : Session) (past : List Happened) (h : Handshake) (p : Progress session past h) where
   sealed-by : (content : Content) (body : List ℕ) → h .protection .protected ≤ 65535 → ended (h .state) ≡ false
       → SealedRecord (keysIn session past) content (nextSealed past) body (nextProtected h content body)
-  unfolding nextProtected
+  unfolding nextProtected recordUnder
   sealed-by content body n l =
       let e : keysOf h ≡ keysIn session past = keys-are session past h p (live session past h (p .kept) l) in
       subst (λ k. SealedRecord k content (nextSealed past) body (nextProtected h content body)) e

@@ -133,7 +133,7 @@ module _ (v : Values) (id : List ℕ) where
       (λ b. rw (a, b)
       (paired-holds (eqb-true (v .version) 1 a) (same-equal (v .session) id b) (listedAs (firstFit (v .suites)))
       (listed-holds (v .suites))))
-      (λ b. rw (a, b) (λ x. clash (sym (equal-same (v .session) id (planted x)) ∙ b))))
+      (λ b. rw (a, b) (λ x. clash (sym (equal-same (v .session) id (x .session)) ∙ b))))
       (λ a. rw a (λ x. eqb-false (v .version) 1 a (x .version)))
 
 -- ---- a message that is to be a ClientHello
