@@ -10,7 +10,7 @@
    What the caller owes: each pointer has as many bytes behind it as the length beside it says (with a length of 0 it may be
    NULL), one that is not const overlaps no other of that call, and nothing else touches them before it returns.
 
-   `crates/gateway/src/lib.rt` has each promise below as a theorem, by the definitions in `crates/gateway/specs` and
+   `crates/gateway/src/lib.rt` has each promise below as a theorem, by the definitions in `crates/lent/specs` and
    `crates/connection/specs`. */
 #ifndef GATEWAY_H
 #define GATEWAY_H
@@ -23,7 +23,7 @@ extern "C" {
 #endif
 
 /* The sizes of what is lent, in bytes. */
-#define GATEWAY_STATE_SIZE 457   /* a connection; the places are listed in crates/gateway/specs/Saved.antt */
+#define GATEWAY_STATE_SIZE 457   /* a connection; the places are listed in crates/lent/specs/Saved.antt */
 #define GATEWAY_TALLY_SIZE 16    /* a tally: handed out, forged, too old, repeated; four bytes each, high byte first */
 #define GATEWAY_ANSWERS_SIZE 192 /* the answers of a receive: eight of 24 bytes each */
 #define GATEWAY_ANSWER_SIZE 24

@@ -1,0 +1,169 @@
+// Loading: a connection from the bytes that hold it.
+ghost use mathlib.Core.Path.{_≡_};
+ghost use mathlib.Core.Bool.{true};
+ghost use lib.ListN.{length};
+ghost use Rattle.lent.specs.Saved.{isSaved, stateNumbered, macNumbered, connectionIn};
+ghost use Rattle.lent.specs.Saved.{sessionIn, agreedIn, keptIn, windowIn, sendingIn};
+ghost use Rattle.lent.specs.Calls.{lentFor};
+use crate::bytes::eight_in;
+use crate::bytes::four_in;
+use crate::bytes::two_in;
+use connection::calls::Connection;
+use connection::handshake::Agreed;
+use connection::handshake::Handshake;
+use connection::handshake::Kept;
+use connection::handshake::Sending;
+use connection::handshake::Session;
+use connection::state::State;
+use digest::Mac;
+use record::window::Window;
+
+// "WTG", and 1 for this layout.
+const MARK: u32 = 0x57544701;
+
+// Whether bytes are a saved connection: the size, the mark, a state and a MAC kind. Nothing else in them can be wrong.
+pub(crate) fn is_saved(b: &[u8]) -> bool
+    ensures { λ r. ⌜ r ≡ isSaved (now (b .entry)) ⌝ }
+{
+    if b.len() != 457 {
+        return false;
+    }
+    if four_in(b, 0) != MARK {
+        return false;
+    }
+    if 5 < b[4] {
+        return false;
+    }
+    if b[65] == 2 {
+        return true;
+    }
+    b[65] == 3
+}
+
+// Whether what is lent to a receive has its sizes, and the bytes are a saved connection.
+pub(crate) fn lent_for(state: &[u8], counts: usize, places: usize) -> bool
+    ensures { λ r. ⌜ r ≡ lentFor (now (state .entry)) counts places ⌝ }
+{
+    if counts != 16 {
+        return false;
+    }
+    if places != 192 {
+        return false;
+    }
+    is_saved(state)
+}
+
+// The connection that the bytes hold.
+pub(crate) fn connection_in(b: &[u8]) -> Connection
+    requires { ⌜ length (now b) ≡ 457 ⌝ }
+    ensures { λ r. ⌜ r ≡ connectionIn (now (b .entry)) ⌝ }
+{
+    let handshake = Handshake {
+        state: state_numbered(b[4]),
+        session: session_in(b),
+        agreed: agreed_in(b),
+        kept: kept_in(b),
+        window: window_in(b),
+        sending: sending_in(b),
+    };
+    Connection { handshake }
+}
+
+fn state_numbered(n: u8) -> State
+    ensures { λ r. ⌜ r ≡ stateNumbered n ⌝ }
+{
+    if n == 0 {
+        return State::Idle;
+    }
+    if n == 1 {
+        return State::Replied;
+    }
+    if n == 2 {
+        return State::Spec;
+    }
+    if n == 3 {
+        return State::Open;
+    }
+    if n == 4 {
+        return State::Closed;
+    }
+    State::Barred
+}
+
+fn mac_numbered(n: u8) -> Mac
+    ensures { λ r. ⌜ r ≡ macNumbered n ⌝ }
+{
+    if n == 2 {
+        return Mac::Sha80;
+    }
+    Mac::Sha
+}
+
+fn session_in(b: &[u8]) -> Session
+    requires { ⌜ length (now b) ≡ 457 ⌝ }
+    ensures { λ r. ⌜ r ≡ sessionIn (now (b .entry)) ⌝ }
+{
+    let mut id = [0u8; 8];
+    digest::put(&mut id, 0, &b[5..13]);
+    let mut secret = [0u8; 20];
+    digest::put(&mut secret, 0, &b[13..33]);
+    Session { id, secret }
+}
+
+fn agreed_in(b: &[u8]) -> Agreed
+    requires { ⌜ length (now b) ≡ 457 ⌝ }
+    ensures { λ r. ⌜ r ≡ agreedIn (now (b .entry)) ⌝ }
+{
+    let mut server = [0u8; 16];
+    digest::put(&mut server, 0, &b[33..49]);
+    let mut client = [0u8; 16];
+    digest::put(&mut client, 0, &b[49..65]);
+    let mut expected = [0u8; 12];
+    digest::put(&mut expected, 0, &b[67..79]);
+    Agreed {
+        server,
+        client,
+        mac: mac_numbered(b[65]),
+        refresh: b[66],
+        expected,
+    }
+}
+
+fn kept_in(b: &[u8]) -> Kept
+    requires { ⌜ length (now b) ≡ 457 ⌝ }
+    ensures { λ r. ⌜ r ≡ keptIn (now (b .entry)) ⌝ }
+{
+    let mut hello = [0u8; 256];
+    digest::put(&mut hello, 0, &b[79..335]);
+    let mut reply = [0u8; 84];
+    digest::put(&mut reply, 0, &b[343..427]);
+    let heard = eight_in(b, 335) as usize;
+    let size = eight_in(b, 427) as usize;
+    Kept {
+        hello,
+        heard,
+        reply,
+        size,
+    }
+}
+
+fn window_in(b: &[u8]) -> Window
+    requires { ⌜ length (now b) ≡ 457 ⌝ }
+    ensures { λ r. ⌜ r ≡ windowIn (now (b .entry)) ⌝ }
+{
+    Window {
+        highest: two_in(b, 435),
+        marks: eight_in(b, 437),
+    }
+}
+
+fn sending_in(b: &[u8]) -> Sending
+    requires { ⌜ length (now b) ≡ 457 ⌝ }
+    ensures { λ r. ⌜ r ≡ sendingIn (now (b .entry)) ⌝ }
+{
+    Sending {
+        protected: four_in(b, 445),
+        clear: four_in(b, 449),
+        last: four_in(b, 453),
+    }
+}

@@ -1,0 +1,137 @@
+// Saving: a connection laid into its bytes.
+ghost use mathlib.Core.Path.{_≡_};
+ghost use Prim.Native.Nat.{_<_};
+ghost use lib.ListN.{length};
+ghost use Rattle.digest.specs.Bytes.{laidOver};
+ghost use Rattle.lent.specs.Fields.{joined};
+ghost use Rattle.lent.specs.Saved.{savedOf, loaded, Is};
+ghost use Rattle.lent.specs.Saved.{stateNumber, headFields, sessionFields, agreedFields};
+ghost use Rattle.lent.specs.Saved.{keptFields, windowFields, sendingFields};
+use crate::bytes::eight;
+use crate::bytes::four;
+use crate::bytes::two;
+use connection::calls::Connection;
+use connection::handshake::Agreed;
+use connection::handshake::Kept;
+use connection::handshake::Sending;
+use connection::handshake::Session;
+use connection::state::State;
+use digest::put;
+use record::window::Window;
+
+// "WTG", and 1 for this layout.
+const MARK: u32 = 0x57544701;
+
+// The connection, over all the bytes.
+pub(crate) fn put_connection(d: &mut [u8], c: Connection)
+    requires { ⌜ length (now d) ≡ 457 ⌝ }
+    ensures { λ _. ⌜ now (d .exit) ≡ savedOf c ⌝ }
+    ensures { λ _. ⌜ loaded (now (d .exit)) ≡ Is c ⌝ }
+{
+    let h = c.handshake;
+    let state = h.state;
+    put_head(d, state);
+    put_session(d, h.session);
+    put_agreed(d, h.agreed);
+    put_kept(d, h.kept);
+    put_window(d, h.window);
+    put_sending(d, h.sending);
+}
+
+fn put_head(d: &mut [u8], state: State)
+    requires { ⌜ length (now d) ≡ 457 ⌝ }
+    ensures { λ _. ⌜ now (d .exit) ≡ laidOver (now (d .entry)) 0 (joined (headFields state)) ⌝ }
+    ensures { λ _. ⌜ length (joined (headFields state)) ≡ 5 ⌝ }
+{
+    let mark = four(MARK);
+    put(d, 0, &mark);
+    let number = [state_number(state)];
+    put(d, 4, &number);
+}
+
+fn state_number(state: State) -> u8
+    ensures { λ r. ⌜ r ≡ stateNumber state ⌝ }
+{
+    match state {
+        State::Idle => 0,
+        State::Replied => 1,
+        State::Spec => 2,
+        State::Open => 3,
+        State::Closed => 4,
+        State::Barred => 5,
+    }
+}
+
+fn put_session(d: &mut [u8], session: Session)
+    requires { ⌜ length (now d) ≡ 457 ⌝ }
+    ensures { λ _. ⌜ now (d .exit) ≡ laidOver (now (d .entry)) 5 (joined (sessionFields session)) ⌝ }
+    ensures { λ _. ⌜ length (joined (sessionFields session)) ≡ 28 ⌝ }
+    ensures { λ _. ⌜ (length (session .id) ≡ 8) × (length (session .secret) ≡ 20) ⌝ }
+{
+    let id = session.id;
+    put(d, 5, &id);
+    let secret = session.secret;
+    put(d, 13, &secret);
+}
+
+fn put_agreed(d: &mut [u8], agreed: Agreed)
+    requires { ⌜ length (now d) ≡ 457 ⌝ }
+    ensures { λ _. ⌜ now (d .exit) ≡ laidOver (now (d .entry)) 33 (joined (agreedFields agreed)) ⌝ }
+    ensures { λ _. ⌜ length (joined (agreedFields agreed)) ≡ 46 ⌝ }
+    ensures { λ _. ⌜ (length (agreed .server) ≡ 16) × ((length (agreed .client) ≡ 16) × (length (agreed .expected) ≡ 12)) ⌝ }
+{
+    let server = agreed.server;
+    put(d, 33, &server);
+    let client = agreed.client;
+    put(d, 49, &client);
+    let mac = agreed.mac;
+    let kind = [mac.number()];
+    put(d, 65, &kind);
+    let refresh = [agreed.refresh];
+    put(d, 66, &refresh);
+    let expected = agreed.expected;
+    put(d, 67, &expected);
+}
+
+fn put_kept(d: &mut [u8], kept: Kept)
+    requires { ⌜ length (now d) ≡ 457 ⌝ }
+    ensures { λ _. ⌜ now (d .exit) ≡ laidOver (now (d .entry)) 79 (joined (keptFields kept)) ⌝ }
+    ensures { λ _. ⌜ length (joined (keptFields kept)) ≡ 356 ⌝ }
+    ensures { λ _. ⌜ (length (kept .hello) ≡ 256) × ((kept .heard < 18446744073709551616) ×
+        ((length (kept .reply) ≡ 84) × (kept .size < 18446744073709551616))) ⌝ }
+{
+    let hello = kept.hello;
+    put(d, 79, &hello);
+    let heard = eight(kept.heard as u64);
+    put(d, 335, &heard);
+    let reply = kept.reply;
+    put(d, 343, &reply);
+    let size = eight(kept.size as u64);
+    put(d, 427, &size);
+}
+
+fn put_window(d: &mut [u8], window: Window)
+    requires { ⌜ length (now d) ≡ 457 ⌝ }
+    ensures { λ _. ⌜ now (d .exit) ≡ laidOver (now (d .entry)) 435 (joined (windowFields window)) ⌝ }
+    ensures { λ _. ⌜ length (joined (windowFields window)) ≡ 10 ⌝ }
+    ensures { λ _. ⌜ (window .highest < 65536) × (window .marks < 18446744073709551616) ⌝ }
+{
+    let highest = two(window.highest);
+    put(d, 435, &highest);
+    let marks = eight(window.marks);
+    put(d, 437, &marks);
+}
+
+fn put_sending(d: &mut [u8], sending: Sending)
+    requires { ⌜ length (now d) ≡ 457 ⌝ }
+    ensures { λ _. ⌜ now (d .exit) ≡ laidOver (now (d .entry)) 445 (joined (sendingFields sending)) ⌝ }
+    ensures { λ _. ⌜ length (joined (sendingFields sending)) ≡ 12 ⌝ }
+    ensures { λ _. ⌜ (sending .protected < 4294967296) × ((sending .clear < 4294967296) × (sending .last < 4294967296)) ⌝ }
+{
+    let protected = four(sending.protected);
+    put(d, 445, &protected);
+    let clear = four(sending.clear);
+    put(d, 449, &clear);
+    let last = four(sending.last);
+    put(d, 453, &last);
+}
