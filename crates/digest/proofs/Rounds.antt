@@ -15,6 +15,7 @@ use Rattle.digest.specs.Bytes.{wordAt}
 use Rattle.digest.specs.Sha1.{shifted, f, k, inverted, words, round, rounds, schedule, nextWord}
 use Rattle.digest.specs.Midway.{turnedOver, Reached}
 use Rattle.digest.specs.declared.block.State.{State}
+use Rattle.digest.specs.declared.block.Midway.{Midway}
 
 -- A store behind the first i elements is one element more.
 pub fill-step : {A : Type 0} (w p : List A) (i : ℕ) (v : A) → i < length w → take i w ≡ p → take (i + 1) (set w i v) ≡ p ++ (v ∷ [])
@@ -164,6 +165,10 @@ turned-over m v t h g l lo hi p =
     ∙ sym (last-word m n l)
     ∙ front m (suc n) (n + 16) (omega arith) (omega arith)
     ∙ ap (λ x. getD (schedule m 64) x 0) (sym at)
+
+-- In other words: when round t uses its word, that word of the schedule stands at t modulo 16.
+pub word-in-place : (m : List ℕ) (h : State) (t : ℕ) (p : Midway) → Reached m h (t + 1) p → getD (p .words) (t % 16) 0 ≡ getD (schedule m 64) t 0
+word-in-place m h t p reached = reached .words-are t (omega arith) (omega arith)
 
 -- A block on its way. Before the first round no word is needed;
 pub none-reached : (m v : List ℕ) (h : State) → Reached m h 0 (record { state = h; words = v })
