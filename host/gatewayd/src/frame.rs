@@ -17,8 +17,8 @@ use gateway::{STATE_SIZE, TALLY_SIZE};
 use peer::sha1::sha1;
 use std::net::{IpAddr, SocketAddr};
 
-/// "GWJ", and 1 for this layout.
-const MARK: [u8; 4] = *b"GWJ\x01";
+/// "GWJ", and 2 for this layout.
+const MARK: [u8; 4] = *b"GWJ\x02";
 const HEAD: usize = 8;
 const DIGEST: usize = 20;
 
