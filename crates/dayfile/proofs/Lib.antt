@@ -1,0 +1,6 @@
+-- Laws that belong to no one function.
+pub mod Laying
+pub mod Fronts
+pub mod Running
+pub mod Trailing
+pub mod Lending
