@@ -5,10 +5,11 @@ use mathlib.Core.Bool.{Bool, true, false}
 use mathlib.Core.List.{List, [], _∷_, _++_}
 use Prim.Native.Nat.{ℕ, _+_, _-_, _*_, _≤_, _<_}
 use native.Mathlib.Omega.{arith}
+use native.Mathlib.Nat.{le-of-eq}
 use lib.ListN.{length, getD, take, drop, length-append, length-drop}
-use lib.Seq.{length-take-le, take-add, take-at}
+use lib.Seq.{length-take-le, take-add, take-at, take-all}
 use lib.Dec.{eqb, ltb}
-use borrow.Author.Tests.{eqb-true, ltb-false, eq-eqb, lt-ltb, le-ltb}
+use borrow.Author.Tests.{eqb-true, ltb-false, eq-eqb, ne-eqb, lt-ltb, le-ltb}
 use Rattle.digest.specs.Pick.{pick}
 use Rattle.digest.specs.Bytes.{bytes2}
 use Rattle.dayfile.specs.File.{Report, headOf, reportOf, isSized}
@@ -100,14 +101,24 @@ pub short-nothing : (s : List ℕ) → length s < 5 → frontOf s ≡ Nothing
 unfolding frontOf
 short-nothing s h = rw (lt-ltb (length s) 5 h)
 
-pub other-nothing : (x : ℕ) (s : List ℕ) → eqb x 209 ≡ false → frontOf (x ∷ s) ≡ Nothing
+pub other-nothing : (s : List ℕ) → (getD s 0 0 ≡ 209 → ⊥) → frontOf s ≡ Nothing
 unfolding frontOf
-other-nothing x s h = told (ltb (length (x ∷ s)) 5) (eqb x 209) h
+other-nothing s h =
+    ap (λ t. pick (ltb (length s) 5) Nothing (pick t (wholeIf (pairAt s 1) (pairAt s 3) (length s - 5)) Nothing)) (ne-eqb (getD s 0 0) 209 h)
+    ∙ either (ltb (length s) 5)
   where
-    told : (a b : Bool) → b ≡ false → pick a Nothing (pick b (wholeIf (pairAt (x ∷ s) 1) (pairAt (x ∷ s) 3) (length (x ∷ s) - 5)) Nothing) ≡ Nothing
-    told true b e = refl
-    told false true e = let o : _≡_ {A = ℕ} 0 1 = cc in absurd (omega arith)
-    told false false e = refl
+    either : (a : Bool) → pick a Nothing Nothing ≡ Nothing
+    either true = refl
+    either false = refl
+
+pub front-opened : (s : List ℕ) (n z : ℕ) → 5 ≤ length s → getD s 0 0 ≡ 209 → n ≡ pairAt s 1 → z ≡ pairAt s 3
+    → wholeIf n z (length s - 5) ≡ frontOf s
+unfolding frontOf
+front-opened s n z h e p q =
+    rw (le-ltb (length s) 5 h, eq-eqb (getD s 0 0) 209 e) (λ i. wholeIf (p i) (q i) (length s - 5))
+
+pub part-on : (d : List ℕ) (at : ℕ) → take (length d - at) (drop at d) ≡ drop at d
+part-on d at = take-all (length d - at) (drop at d) (le-of-eq (length-drop at d))
 
 -- ---- what is found stands there
 

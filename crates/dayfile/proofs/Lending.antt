@@ -179,6 +179,20 @@ laid-report o o₁ o₂ o₃ at n s h e₁ e₂ e₃ =
     let three : o₃ ≡ laidOver o at (headOf n z) = e₃ ∙ ap (λ l. laidOver l (at + 3) (bytes2 z)) two ∙ sym (laid-append o at (209 ∷ bytes2 n) (bytes2 z) (omega arith)) in
     ap (λ l. laidOver l (at + 5) s) three ∙ sym (laid-append o at (headOf n z) s (omega arith))
 
+-- the part of the bytes that is a report's
+pub part-length : (b : List ℕ) (from z : ℕ) → from + z ≤ length b → length (take (from + z - from) (drop from b)) ≡ z
+part-length b from z h =
+    let size : from + z - from ≡ z = omega arith in
+    ap (λ k. length (take k (drop from b))) size ∙ length-take-le z (drop from b) (omega (arith, length-drop from b))
+
+pub report-again : (out : List ℕ) (at n : ℕ) (b : List ℕ) (from z : ℕ)
+    → laidOver out at (headOf n (length (take (from + z - from) (drop from b))) ++ take (from + z - from) (drop from b))
+    ≡ laidOver out at (reportOf (record { number = n; bytes = take z (drop from b) }))
+unfolding reportOf
+report-again out at n b from z =
+    let size : from + z - from ≡ z = omega arith in
+    ap (λ k. laidOver out at (headOf n (length (take k (drop from b))) ++ take k (drop from b))) size
+
 -- ---- the loop of `put_reports`: the reports from the i-th on are left, and their bytes begin at `from`
 
 pub record Laid (ns ss b o out : List ℕ) (at from i : ℕ) : Type 0 where
@@ -265,6 +279,10 @@ pub record Outcome (out : List ℕ) (x w : Written) : Type 0 where
 pub outcome : (out : List ℕ) (x w : Written) → x ≡ w → Outcome out x w
 outcome out x w e = record { told = ap writingTold (sym e); held = ap (leftBy out) (sym e) }
 
+one-test : (w : Written) (x y : Bool) → pick x (pick y w (refused Argument)) (refused Argument) ≡ pick (pick x y false) w (refused Argument)
+one-test w true y = refl
+one-test w false y = refl
+
 module _ (ns ss b : List ℕ) (room : ℕ) where
   pub not-paired : (length ns ≡ length ss → ⊥) → writeLent ns ss b room ≡ refused Argument
   unfolding writeLent isList
@@ -278,15 +296,10 @@ module _ (ns ss b : List ℕ) (room : ℕ) where
         ≡ pick (areSized ss (length b)) (pick (isWithin l) (pick (leb (length (fileOf l)) room) (file (fileOf l)) (refused Room)) (refused Limit)) (refused Argument)
     unfolding writeLent isList writeOf
     lent-opened =
+        let within : Written = pick (isWithin l) (pick (leb (length (fileOf l)) room) (file (fileOf l)) (refused Room)) (refused Limit) in
         ap (λ t. pick (pick t (eqb (sumOf ss) (length b)) false) (pick (allSized l) within (refused Argument)) (refused Argument)) (eq-eqb (length ns) (length ss) h)
-        ∙ one-test (eqb (sumOf ss) (length b)) (allSized l)
+        ∙ one-test within (eqb (sumOf ss) (length b)) (allSized l)
         ∙ ap (λ t. pick t within (refused Argument)) (sym (sized-list ns ss b h))
-      where
-        abbrev within : Written
-        within = pick (isWithin l) (pick (leb (length (fileOf l)) room) (file (fileOf l)) (refused Room)) (refused Limit)
-        one-test : (x y : Bool) → pick x (pick y within (refused Argument)) (refused Argument) ≡ pick (pick x y false) within (refused Argument)
-        one-test true y = refl
-        one-test false y = refl
 
     pub not-sized : areSized ss (length b) ≡ false → writeLent ns ss b room ≡ refused Argument
     not-sized e = lent-opened ∙ rw e

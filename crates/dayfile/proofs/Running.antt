@@ -143,11 +143,12 @@ begins s e h = told (frontOf s) refl
 
 pub record Ran (b : List ℕ) (count at : ℕ) : Type 0 where
   pub inside : at ≤ length b
+  pub few : count ≤ at
   pub many : length (runOf b) ≡ count + length (runOf (drop at b))
   pub stands : bodyOf (runOf b) ≡ take at b ++ bodyOf (runOf (drop at b))
 
 pub begun : (b : List ℕ) → Ran b 0 0
-begun b = record { inside = omega arith; many = omega arith; stands = refl }
+begun b = record { inside = omega arith; few = omega arith; many = omega arith; stands = refl }
 
 module _ (b : List ℕ) (count at : ℕ) (w : Ran b count at) where
   pub go-on : (n z : ℕ) → frontOf (drop at b) ≡ Whole n z → Standing (drop at b) (Whole n z) → Ran b (count + 1) (at + (5 + z))
@@ -159,6 +160,7 @@ module _ (b : List ℕ) (count at : ℕ) (w : Ran b count at) where
       = run-next s n z e ∙ ap (λ t. foundIn s n z ∷ runOf t) (drop-drop (5 + z) at b) in
       record {
         inside = omega (arith, f .inside, length-drop at b, w .inside);
+        few = omega (arith, w .few);
         many = omega (arith, w .many, ap length next);
         stands =
             w .stands ∙ ap (λ l. take at b ++ bodyOf l) next

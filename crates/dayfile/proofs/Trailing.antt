@@ -8,6 +8,7 @@ use mathlib.Core.Logic.{by-cases}
 use Prim.Native.Nat.{ℕ, suc, _+_, _-_, _*_, _/_, _%_, _≤_, _<_}
 use native.Mathlib.Omega.{arith}
 use native.Mathlib.Numerals.{add-one}
+use native.Mathlib.Nat.{zero-add}
 use lib.ListN.{length, getD, take, drop, set, length-set, length-append, length-drop, length-take, take-append-drop, drop-of-length-le}
 use lib.Seq.{length-take-le, take-all, take-set-le, take-take, drop-drop, drop-cons, getD-drop, getD-take, getD-at}
 use lib.Dec.{eqb}
@@ -118,7 +119,9 @@ part-step b end at h k e =
 
 -- at the end no report is left
 pub rest-none : (b : List ℕ) (end at : ℕ) → end ≤ at → runOf (restOf b end at) ≡ []
-rest-none b end at h = ap runOf (drop-of-length-le (take end b) (omega (arith, length-take end b))) ∙ run-none
+rest-none b end at h =
+    let short : length (take end b) ≤ at = omega (arith, length-take end b) in
+    ap runOf (drop-of-length-le (take end b) short) ∙ run-none
 
 -- ---- the trailer that is compared
 
@@ -215,11 +218,12 @@ module _ (b : List ℕ) (count end at place : ℕ) (w : Matching b count end at 
     last : sameBytes b (fileOf (runOf b)) ≡ sameBytes (getD b place 0 ∷ getD b (place + 1) 0 ∷ []) (bytes2 count ++ [])
     unfolding distancesOf
     last =
+        let gone : length b ≤ place + 2 = omega (arith, last-there) in
         w .same
         ∙ (λ i. sameBytes (drop place b) (distancesOf (rest-none b end at h i) ++ bytes2 count))
         ∙ ap (λ l. sameBytes l (bytes2 count))
           (two-first b place (omega (arith, last-there))
-          ∙ ap (λ l. getD b place 0 ∷ getD b (place + 1) 0 ∷ l) (drop-of-length-le b (omega (arith, last-there))))
+          ∙ ap (λ l. getD b place 0 ∷ getD b (place + 1) 0 ∷ l) (drop-of-length-le b gone))
 
     pub match-done : ((k : ℕ) → getD b k 0 < 256) → eqb (getD b place 0 * 256 + getD b (place + 1) 0) count ≡ sameBytes b (fileOf (runOf b))
     match-done below =
@@ -323,5 +327,5 @@ module _ (o out : List ℕ) (l : List Report) (count end : ℕ) (s : Sound l) (e
   pub laid-file : end ≤ length o → laidOver out end (trailerOf (runOf (take end out))) ≡ laidOver o 0 (fileOf l)
   unfolding fileOf
   laid-file room =
-      (λ i. laidOver (e i) (sym long i) (trailerOf (body-run i)))
+      (λ i. laidOver (e i) ((sym long ∙ sym (zero-add (length (bodyOf l)))) i) (trailerOf (body-run i)))
       ∙ sym (laid-append o 0 (bodyOf l) (trailerOf l) (omega (arith, long)))

@@ -1,62 +1,52 @@
+-- `front`: the tests of the definition, in its order; what was found stands there.
+use mathlib.Core.Path.{_≡_, refl, sym, _∙_, ap, subst}
+use Rattle.dayfile.proofs.Fronts.{short-nothing, other-nothing, nothing-stands, front-stands, front-opened}
 use borrow.Author.Needs.{needs}
+use native.Mathlib.Omega.{arith}
 use Rattle.dayfile.proofs.report.front.Statement.{statement}
 use Rattle.dayfile.proofs.report.front.Tie as tie
-use Rattle.dayfile.proofs.report.front.Reads as reads
-use Rattle.dayfile.proofs.report.front.Lts as lts
-use Rattle.dayfile.proofs.report.pair.Reads as pair-reads
-use Rattle.dayfile.proofs.report.whole_if.Reads as whole-if-reads
 
--- src/report.rt:36:9
 returns : tie.Need-returns
-returns c = ?
+returns c = (sym (short-nothing _ (c .if1 .taken)), nothing-stands _ _ refl)
 
--- src/report.rt:38:8
 shared-slice-read-if2 : tie.Need-shared-slice-read-if2
 shared-slice-read-if2 c = search needs
 
--- src/report.rt:39:27
 shared-slice-read-pair : tie.Need-shared-slice-read-pair
 shared-slice-read-pair c = search needs
 
--- src/report.rt:39:36
 shared-slice-read-pair-2 : tie.Need-shared-slice-read-pair-2
 shared-slice-read-pair-2 c = search needs
 
--- src/report.rt:39:13
 pair-requires : tie.Need-pair-requires
 pair-requires c κs = search needs
 
--- src/report.rt:40:25
 shared-slice-read-pair-3 : tie.Need-shared-slice-read-pair-3
 shared-slice-read-pair-3 c = search needs
 
--- src/report.rt:40:34
 shared-slice-read-pair-4 : tie.Need-shared-slice-read-pair-4
 shared-slice-read-pair-4 c = search needs
 
--- src/report.rt:40:20
 pair-requires-2 : tie.Need-pair-requires-2
 pair-requires-2 c κs = search needs
 
--- src/report.rt:40:20
 cast-size : tie.Need-cast-size
 cast-size c = search needs
 
--- src/report.rt:41:39
 sub-whole-if : tie.Need-sub-whole-if
 sub-whole-if c = search needs
 
--- src/report.rt:41:9
 whole-if-requires : tie.Need-whole-if-requires
 whole-if-requires c κs = search needs
 
--- src/report.rt:41:9
 returns-2 : tie.Need-returns-2
-returns-2 c = ?
+returns-2 c =
+    let s = c .before .before .before .before .before .before .before .before .before .before .before .args .part .now in
+    let same = c .whole-if .ensures ∙ front-opened s (c .before .before .before .before .pair .result) (c .before .pair2 .result) (c .before .before .before .before .before .before .before .before .before .if1 .left) (c .before .before .before .before .before .before .before .if2 .taken) (c .before .before .before .before .pair .ensures) (c .before .pair2 .ensures) in
+    (same, λ n z e. front-stands s (λ k. omega (arith, c .before .before .before .before .before .before .before .before .before .before .shared-slice-known .given k)) n z (sym same ∙ e))
 
--- src/report.rt:31:1
 returns-3 : tie.Need-returns-3
-returns-3 c = ?
+returns-3 c = (sym (other-nothing _ (c .if2 .left)), nothing-stands _ _ refl)
 
 pub front-spec : {M : Type 1} → statement M
 front-spec =

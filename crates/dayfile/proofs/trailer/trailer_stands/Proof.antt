@@ -1,142 +1,116 @@
+-- `trailer_stands`: the loop keeps `Matching`; a number that differs, or a length, tells that the files do.
+use mathlib.Core.Path.{_≡_, refl, sym, _∙_, ap, subst}
+use Prim.Native.Nat.{ℕ, _+_, _-_, _*_, _≤_, _<_}
+use lib.Dec.{eqb}
+use Rattle.dayfile.proofs.Trailing.{Matching, match-begun, match-next, match-differs, match-done, other-length, other-opening, pair-there, last-there, step, count-in}
+use borrow.Author.Needs.{needs}
+use native.Mathlib.Omega.{arith}
 use Rattle.dayfile.proofs.trailer.trailer_stands.Statement.{statement}
 use Rattle.dayfile.proofs.trailer.trailer_stands.Tie as tie
-use Rattle.dayfile.proofs.trailer.trailer_stands.Reads as reads
-use Rattle.dayfile.proofs.trailer.trailer_stands.Lts as lts
-use Rattle.dayfile.proofs.report.pair.Reads as pair-reads
 
 abbrev Inv-loop : tie.InvT-loop
-Inv-loop file count end place₀ at₀ place at = ?
+Inv-loop file count end place₀ at₀ place at = Matching file count end at place
 
 abbrev μ-loop : tie.MeasureT-loop
-μ-loop file count end place₀ at₀ place at = ?
+μ-loop file count end place₀ at₀ place at = end - at
 
--- src/trailer.rt:22:8
 sub-if1 : tie.Need-sub-if1 Inv-loop μ-loop
-sub-if1 c = ?
+sub-if1 c = search needs
 
--- src/trailer.rt:22:32
 mul-if1 : tie.Need-mul-if1 Inv-loop μ-loop
-mul-if1 c = ?
+mul-if1 c = omega (arith, count-in _ _ _ (c .before .pre .0), c .before .pre .0 .inside, c .before .pre .1)
 
--- src/trailer.rt:22:28
 add-if1 : tie.Need-add-if1 Inv-loop μ-loop
-add-if1 c = ?
+add-if1 c = omega (arith, count-in _ _ _ (c .before .pre .0), c .before .pre .0 .inside, c .before .pre .1)
 
--- src/trailer.rt:23:9
 returns : tie.Need-returns Inv-loop μ-loop
-returns c = ?
+returns c = other-length _ _ _ (c .before .before .pre .0) (c .if1 .taken)
 
--- src/trailer.rt:25:8
 shared-slice-read-if2 : tie.Need-shared-slice-read-if2 Inv-loop μ-loop
-shared-slice-read-if2 c = ?
+shared-slice-read-if2 c = search needs
 
--- src/trailer.rt:26:9
 returns-2 : tie.Need-returns-2 Inv-loop μ-loop
-returns-2 c = ?
+returns-2 c = other-opening _ _ _ (c .before .before .before .before .pre .0) (c .if2 .taken)
 
--- src/trailer.rt:28:21
 add-place : tie.Need-add-place Inv-loop μ-loop
-add-place c = ?
+add-place c = search needs
 
--- src/trailer.rt:30:5
 loop-holds : tie.Need-loop-holds Inv-loop μ-loop
-loop-holds c = ?
+loop-holds c = match-begun _ _ _ (c .before .before .before .before .pre .0) (λ k. omega (arith, c .before .before .before .shared-slice-known .given k)) (c .before .before .before .before .pre .1) (c .before .before .if1 .left) (c .if2 .left)
 
--- src/trailer.rt:31:17
 shared-slice-read-pair : tie.Need-shared-slice-read-pair Inv-loop μ-loop
-shared-slice-read-pair c = ?
+shared-slice-read-pair c = omega (arith, pair-there _ _ _ _ _ (c .before .before .loop .inv) (c .before .loop-test .taken))
 
--- src/trailer.rt:31:35
 add-pair : tie.Need-add-pair Inv-loop μ-loop
-add-pair c = ?
+add-pair c = omega (arith, pair-there _ _ _ _ _ (c .before .before .loop .inv) (c .before .loop-test .taken), c .before .before .before .before .before .before .before .good)
 
--- src/trailer.rt:31:30
 shared-slice-read-pair-2 : tie.Need-shared-slice-read-pair-2 Inv-loop μ-loop
-shared-slice-read-pair-2 c = ?
+shared-slice-read-pair-2 c = omega (arith, pair-there _ _ _ _ _ (c .before .before .before .loop .inv) (c .before .before .loop-test .taken))
 
--- src/trailer.rt:31:12
 pair-requires : tie.Need-pair-requires Inv-loop μ-loop
-pair-requires c κs = ?
+pair-requires c κs = search needs
 
--- src/trailer.rt:31:12
 cast-if3 : tie.Need-cast-if3 Inv-loop μ-loop
-cast-if3 c = ?
+cast-if3 c = search needs
 
--- src/trailer.rt:31:59
 sub-if3 : tie.Need-sub-if3 Inv-loop μ-loop
-sub-if3 c = ?
+sub-if3 c = search needs
 
--- src/trailer.rt:32:13
 returns-3 : tie.Need-returns-3 Inv-loop μ-loop
-returns-3 c = ?
+returns-3 c = match-differs _ _ _ _ _ (c .before .before .before .before .before .loop .inv) (c .before .before .before .before .loop-test .taken) (λ e. c .if3 .taken (c .before .pair .ensures ∙ e))
 
--- src/trailer.rt:34:32
 add-pair-2 : tie.Need-add-pair-2 Inv-loop μ-loop
-add-pair-2 c = ?
+add-pair-2 c = omega (arith, step _ _ _ _ _ (c .before .before .before .before .before .loop .inv) (c .before .before .before .before .loop-test .taken) .inside, c .before .before .before .before .before .loop .inv .few)
 
--- src/trailer.rt:34:27
 shared-slice-read-pair-3 : tie.Need-shared-slice-read-pair-3 Inv-loop μ-loop
-shared-slice-read-pair-3 c = ?
+shared-slice-read-pair-3 c = omega (arith, step _ _ _ _ _ (c .before .before .before .before .before .before .loop .inv) (c .before .before .before .before .before .loop-test .taken) .inside, c .before .before .before .before .before .before .loop .inv .behind, c .before .before .before .before .before .before .loop .inv .long)
 
--- src/trailer.rt:34:46
 add-pair-3 : tie.Need-add-pair-3 Inv-loop μ-loop
-add-pair-3 c = ?
+add-pair-3 c = omega (arith, step _ _ _ _ _ (c .before .before .before .before .before .before .loop .inv) (c .before .before .before .before .before .loop-test .taken) .inside, c .before .before .before .before .before .before .loop .inv .few)
 
--- src/trailer.rt:34:41
 shared-slice-read-pair-4 : tie.Need-shared-slice-read-pair-4 Inv-loop μ-loop
-shared-slice-read-pair-4 c = ?
+shared-slice-read-pair-4 c = omega (arith, step _ _ _ _ _ (c .before .before .before .before .before .before .before .loop .inv) (c .before .before .before .before .before .before .loop-test .taken) .inside, c .before .before .before .before .before .before .before .loop .inv .behind, c .before .before .before .before .before .before .before .loop .inv .long)
 
--- src/trailer.rt:34:22
 pair-requires-2 : tie.Need-pair-requires-2 Inv-loop μ-loop
-pair-requires-2 c κs = ?
+pair-requires-2 c κs = search needs
 
--- src/trailer.rt:34:22
 cast-at : tie.Need-cast-at Inv-loop μ-loop
-cast-at c = ?
+cast-at c = search needs
 
--- src/trailer.rt:34:15
 add-at : tie.Need-add-at Inv-loop μ-loop
-add-at c = ?
+add-at c = omega (arith, (c .pair2 .ensures ∙ step _ _ _ _ _ (c .before .before .before .before .before .before .before .before .loop .inv) (c .before .before .before .before .before .before .before .loop-test .taken) .spelled), step _ _ _ _ _ (c .before .before .before .before .before .before .before .before .loop .inv) (c .before .before .before .before .before .before .before .loop-test .taken) .inside, c .before .before .before .before .before .before .before .before .loop .inv .few)
 
--- src/trailer.rt:34:9
 add-at-2 : tie.Need-add-at-2 Inv-loop μ-loop
-add-at-2 c = ?
+add-at-2 c = omega (arith, (c .pair2 .ensures ∙ step _ _ _ _ _ (c .before .before .before .before .before .before .before .before .loop .inv) (c .before .before .before .before .before .before .before .loop-test .taken) .spelled), step _ _ _ _ _ (c .before .before .before .before .before .before .before .before .loop .inv) (c .before .before .before .before .before .before .before .loop-test .taken) .inside, c .before .before .before .before .before .before .before .before .loop .inv .few)
 
--- src/trailer.rt:35:9
 add-place-2 : tie.Need-add-place-2 Inv-loop μ-loop
-add-place-2 c = ?
+add-place-2 c = omega (arith, pair-there _ _ _ _ _ (c .before .before .before .before .before .before .before .before .loop .inv) (c .before .before .before .before .before .before .before .loop-test .taken), c .before .before .before .before .before .before .before .before .before .before .before .before .before .good)
 
--- src/trailer.rt:30:5
 loop-less : tie.Need-loop-less Inv-loop μ-loop
-loop-less c = ?
+loop-less c = omega (arith, c .before .before .before .before .before .before .before .loop-test .taken)
 
--- src/trailer.rt:30:5
 loop-again : tie.Need-loop-again Inv-loop μ-loop
-loop-again c = ?
+loop-again c =
+    subst (λ (r : ℕ). Matching (c .before .before .before .before .before .before .before .before .before .before .before .before .before .args .file .now) (c .before .before .before .before .before .before .before .before .before .before .before .before .before .args .count) (c .before .before .before .before .before .before .before .before .before .before .before .before .before .args .end) (c .before .before .before .before .before .before .before .before .loop .at + (5 + r)) (c .before .before .before .before .before .before .before .before .loop .place + 2)) (sym (c .pair2 .ensures ∙ step _ _ _ _ _ (c .before .before .before .before .before .before .before .before .loop .inv) (c .before .before .before .before .before .before .before .loop-test .taken) .spelled))
+    (match-next _ _ _ _ _ (c .before .before .before .before .before .before .before .before .loop .inv) (c .before .before .before .before .before .before .before .loop-test .taken) (λ k. omega (arith, c .before .before .before .before .before .before .before .before .before .before .before .before .shared-slice-known .given k)) (sym (c .before .before .before .before .pair .ensures) ∙ c .before .before .before .if3 .left))
 
--- src/trailer.rt:37:10
 shared-slice-read-pair-5 : tie.Need-shared-slice-read-pair-5 Inv-loop μ-loop
-shared-slice-read-pair-5 c = ?
+shared-slice-read-pair-5 c = omega (arith, last-there _ _ _ _ _ (c .before .before .loop .inv) (c .before .loop-test .left))
 
--- src/trailer.rt:37:28
 add-pair-4 : tie.Need-add-pair-4 Inv-loop μ-loop
-add-pair-4 c = ?
+add-pair-4 c = omega (arith, last-there _ _ _ _ _ (c .before .before .loop .inv) (c .before .loop-test .left), c .before .before .before .before .before .before .before .good)
 
--- src/trailer.rt:37:23
 shared-slice-read-pair-6 : tie.Need-shared-slice-read-pair-6 Inv-loop μ-loop
-shared-slice-read-pair-6 c = ?
+shared-slice-read-pair-6 c = omega (arith, last-there _ _ _ _ _ (c .before .before .before .loop .inv) (c .before .before .loop-test .left))
 
--- src/trailer.rt:37:5
 pair-requires-3 : tie.Need-pair-requires-3 Inv-loop μ-loop
-pair-requires-3 c κs = ?
+pair-requires-3 c κs = search needs
 
--- src/trailer.rt:37:5
 cast-result : tie.Need-cast-result Inv-loop μ-loop
-cast-result c = ?
+cast-result c = search needs
 
--- src/trailer.rt:18:1
 returns-4 : tie.Need-returns-4 Inv-loop μ-loop
-returns-4 c = ?
+returns-4 c = ap (λ n. eqb n (c .before .before .before .before .before .before .before .before .before .args .count)) (c .pair3 .ensures) ∙ match-done _ _ _ _ _ (c .before .before .before .before .loop .inv) (c .before .before .before .loop-test .left) (λ k. omega (arith, c .before .before .before .before .before .before .before .before .shared-slice-known .given k))
 
 pub trailer-stands-spec : {M : Type 1} → statement M
 trailer-stands-spec =

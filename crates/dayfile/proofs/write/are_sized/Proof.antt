@@ -1,53 +1,48 @@
+-- `are_sized`: the loop keeps `Sizing`, the definition opened one size at a time.
+use mathlib.Core.Path.{_≡_, refl, sym, _∙_, ap, subst}
+use Prim.Native.Nat.{ℕ, _+_, _-_, _*_, _≤_, _<_}
+use lib.ListN.{length}
+use Rattle.dayfile.proofs.Lending.{Sizing, too-small, too-large, too-many, sized-on, sized-end}
+use borrow.Author.Needs.{needs}
+use native.Mathlib.Omega.{arith}
 use Rattle.dayfile.proofs.write.are_sized.Statement.{statement}
 use Rattle.dayfile.proofs.write.are_sized.Tie as tie
-use Rattle.dayfile.proofs.write.are_sized.Reads as reads
-use Rattle.dayfile.proofs.write.are_sized.Lts as lts
 
 abbrev Inv-loop : tie.InvT-loop
-Inv-loop sizes total left₀ i₀ left i = ?
+Inv-loop sizes total left₀ i₀ left i = Sizing sizes total left i
 
 abbrev μ-loop : tie.MeasureT-loop
-μ-loop sizes total left₀ i₀ left i = ?
+μ-loop sizes total left₀ i₀ left i = length sizes - i
 
--- src/write.rt:58:5
 loop-holds : tie.Need-loop-holds Inv-loop μ-loop
-loop-holds c = ?
+loop-holds c = record { here = omega arith; fits = omega arith; same = refl }
 
--- src/write.rt:59:20
 mul-size : tie.Need-mul-size Inv-loop μ-loop
-mul-size c = ?
+mul-size c = search needs
 
--- src/write.rt:59:20
 shared-slice-read-size : tie.Need-shared-slice-read-size Inv-loop μ-loop
-shared-slice-read-size c = ?
+shared-slice-read-size c = search needs
 
--- src/write.rt:61:13
 returns : tie.Need-returns Inv-loop μ-loop
-returns c = ?
+returns c = too-small _ _ _ _ (c .before .before .before .loop .inv) (c .before .before .loop-test .taken) (c .if1 .taken)
 
--- src/write.rt:64:13
 returns-2 : tie.Need-returns-2 Inv-loop μ-loop
-returns-2 c = ?
+returns-2 c = too-large _ _ _ _ (c .before .before .before .before .loop .inv) (c .before .before .before .loop-test .taken) (c .before .if1 .left) (c .if2 .taken)
 
--- src/write.rt:67:13
 returns-3 : tie.Need-returns-3 Inv-loop μ-loop
-returns-3 c = ?
+returns-3 c = too-many _ _ _ _ (c .before .before .before .before .before .loop .inv) (c .before .before .before .before .loop-test .taken) (c .before .before .if1 .left) (c .before .if2 .left) (c .if3 .taken)
 
--- src/write.rt:70:9
 add-i : tie.Need-add-i Inv-loop μ-loop
-add-i c = ?
+add-i c = search needs
 
--- src/write.rt:58:5
 loop-less : tie.Need-loop-less Inv-loop μ-loop
-loop-less c = ?
+loop-less c = search needs
 
--- src/write.rt:58:5
 loop-again : tie.Need-loop-again Inv-loop μ-loop
-loop-again c = ?
+loop-again c = sized-on _ _ _ _ (c .before .before .before .before .before .loop .inv) (c .before .before .before .before .loop-test .taken) (c .before .before .if1 .left) (c .before .if2 .left) (c .if3 .left)
 
--- src/write.rt:53:1
 returns-4 : tie.Need-returns-4 Inv-loop μ-loop
-returns-4 c = ?
+returns-4 c = sized-end _ _ _ _ (c .before .loop .inv) (c .loop-test .left)
 
 pub are-sized-spec : {M : Type 1} → statement M
 are-sized-spec =

@@ -1,90 +1,77 @@
+-- `put_reports`: the loop keeps `Laid`; one report more is laid behind the others.
+use mathlib.Core.Path.{_≡_, refl, sym, _∙_, ap, subst}
+use Prim.Native.Nat.{ℕ, _+_, _-_, _*_, _≤_, _<_}
+use lib.ListN.{length, getD}
+use Rattle.dayfile.proofs.Lending.{Laid, laid-begun, laid-on, laid-done, laid-next, fits-next, room-next, part-length, report-again}
+use borrow.Author.Needs.{needs}
+use native.Mathlib.Omega.{arith}
 use Rattle.dayfile.proofs.write.put_reports.Statement.{statement}
 use Rattle.dayfile.proofs.write.put_reports.Tie as tie
-use Rattle.dayfile.proofs.write.put_reports.Reads as reads
-use Rattle.dayfile.proofs.write.put_reports.Lts as lts
-use Rattle.dayfile.proofs.write.put_report.Reads as put-report-reads
 
 abbrev Inv-loop : tie.InvT-loop
-Inv-loop numbers sizes bytes out₀ at₀ from₀ i₀ out at from i = ?
+Inv-loop numbers sizes bytes out₀ at₀ from₀ i₀ out at from i = Laid numbers sizes bytes out₀ out at from i
 
 abbrev μ-loop : tie.MeasureT-loop
-μ-loop numbers sizes bytes out₀ at₀ from₀ i₀ out at from i = ?
+μ-loop numbers sizes bytes out₀ at₀ from₀ i₀ out at from i = length sizes - i
 
--- src/write.rt:85:5
 loop-holds : tie.Need-loop-holds Inv-loop μ-loop
-loop-holds c = ?
+loop-holds c = laid-begun _ _ _ _ (c .before .before .before .before .pre .0 .0) (c .before .before .before .before .pre .0 .1) (c .before .before .before .before .pre .1)
 
--- src/write.rt:86:26
 mul-end : tie.Need-mul-end Inv-loop μ-loop
-mul-end c = ?
+mul-end c = search needs
 
--- src/write.rt:86:26
 shared-slice-read-end : tie.Need-shared-slice-read-end Inv-loop μ-loop
-shared-slice-read-end c = ?
+shared-slice-read-end c = search needs
 
--- src/write.rt:86:19
 add-end : tie.Need-add-end Inv-loop μ-loop
-add-end c = ?
+add-end c = omega (arith, fits-next _ _ _ _ _ _ _ _ (c .before .before .loop .inv) (c .before .loop-test .taken), c .before .before .before .before .before .before .before .good .1 .1 .0)
 
--- src/write.rt:87:29
 mul-put-report : tie.Need-mul-put-report Inv-loop μ-loop
-mul-put-report c = ?
+mul-put-report c = omega (arith, c .before .before .before .loop .inv .paired, c .before .before .loop-test .taken, c .before .before .before .before .before .before .before .before .good .0)
 
--- src/write.rt:87:29
 shared-slice-read-put-report : tie.Need-shared-slice-read-put-report Inv-loop μ-loop
-shared-slice-read-put-report c = ?
+shared-slice-read-put-report c = omega (arith, c .before .before .before .before .loop .inv .paired, c .before .before .before .loop-test .taken)
 
--- src/write.rt:87:41
 sub-put-report : tie.Need-sub-put-report Inv-loop μ-loop
-sub-put-report c = ?
+sub-put-report c = search needs
 
--- src/write.rt:87:41
 part-put-report-start : tie.Need-part-put-report-start Inv-loop μ-loop
-part-put-report-start c = ?
+part-put-report-start c = search needs
 
--- src/write.rt:87:41
 part-put-report-end : tie.Need-part-put-report-end Inv-loop μ-loop
-part-put-report-end c = ?
+part-put-report-end c = omega (arith, fits-next _ _ _ _ _ _ _ _ (c .before .before .before .before .loop .inv) (c .before .before .before .loop-test .taken))
 
--- src/write.rt:87:9
 put-report-requires : tie.Need-put-report-requires Inv-loop μ-loop
-put-report-requires c κs = ?
+put-report-requires c κs = omega (arith, room-next _ _ _ _ _ _ _ _ (c .before .before .before .before .before .loop .inv) (c .before .before .before .before .loop-test .taken), part-length (c .before .before .before .before .before .before .before .before .before .before .args .bytes .now) (c .before .before .before .before .before .loop .from) (getD (c .before .before .before .before .before .before .before .before .before .before .args .sizes .now) (c .before .before .before .before .before .loop .i) 0) (fits-next _ _ _ _ _ _ _ _ (c .before .before .before .before .before .loop .inv) (c .before .before .before .before .loop-test .taken)))
 
--- src/write.rt:88:22
 mul-at : tie.Need-mul-at Inv-loop μ-loop
-mul-at c = ?
+mul-at c = search needs
 
--- src/write.rt:88:22
 shared-slice-read-at : tie.Need-shared-slice-read-at Inv-loop μ-loop
-shared-slice-read-at c = ?
+shared-slice-read-at c = search needs
 
--- src/write.rt:88:15
 add-at : tie.Need-add-at Inv-loop μ-loop
-add-at c = ?
+add-at c = omega (arith, laid-next _ _ _ _ _ _ _ _ (c .before .before .before .before .before .before .before .before .before .loop .inv) (c .before .before .before .before .before .before .before .before .loop-test .taken) .small)
 
--- src/write.rt:88:9
 add-at-2 : tie.Need-add-at-2 Inv-loop μ-loop
-add-at-2 c = ?
+add-at-2 c = omega (arith, room-next _ _ _ _ _ _ _ _ (c .before .before .before .before .before .before .before .before .before .loop .inv) (c .before .before .before .before .before .before .before .before .loop-test .taken), c .before .before .before .before .before .before .before .before .before .loop .inv .as-long, c .before .before .before .before .before .before .before .before .before .before .before .before .before .before .good)
 
--- src/write.rt:90:9
 add-i : tie.Need-add-i Inv-loop μ-loop
-add-i c = ?
+add-i c = search needs
 
--- src/write.rt:85:5
 loop-less : tie.Need-loop-less Inv-loop μ-loop
-loop-less c = ?
+loop-less c = search needs
 
--- src/write.rt:85:5
 loop-again : tie.Need-loop-again Inv-loop μ-loop
-loop-again c = ?
+loop-again c =
+    laid-on _ _ _ _ _ _ _ _ (c .before .before .before .before .before .before .before .before .before .loop .inv) (c .before .before .before .before .before .before .before .before .loop-test .taken) _
+    (c .before .before .before .put-report .ensures ∙ report-again (c .before .before .before .before .before .before .before .before .before .loop .out) (c .before .before .before .before .before .before .before .before .before .loop .at) (getD (c .before .before .before .before .before .before .before .before .before .before .before .before .before .before .args .numbers .now) (c .before .before .before .before .before .before .before .before .before .loop .i) 0) (c .before .before .before .before .before .before .before .before .before .before .before .before .before .before .args .bytes .now) (c .before .before .before .before .before .before .before .before .before .loop .from) (getD (c .before .before .before .before .before .before .before .before .before .before .before .before .before .before .args .sizes .now) (c .before .before .before .before .before .before .before .before .before .loop .i) 0))
 
--- src/write.rt:77:1
 same-length : tie.Need-same-length Inv-loop μ-loop
-same-length c = ?
+same-length c = c .before .loop .inv .as-long
 
--- src/write.rt:77:1
 returns : tie.Need-returns Inv-loop μ-loop
-returns c = ?
+returns c = laid-done _ _ _ _ _ _ _ _ (c .before .loop .inv) (c .loop-test .left)
 
 pub put-reports-spec : {M : Type 1} → statement M
 put-reports-spec =
