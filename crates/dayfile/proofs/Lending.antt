@@ -109,7 +109,8 @@ pub sized-list : (ns ss b : List ℕ) → length ns ≡ length ss
     → areSized ss (length b) ≡ pick (eqb (sumOf ss) (length b)) (allSized (listOf ns ss b)) false
 unfolding areSized sumOf listOf allSized
 sized-list [] [] [] h = refl
-sized-list [] [] (x ∷ b) h = refl
+sized-list [] [] (x ∷ b) h =
+    ne-eqb (length (x ∷ b)) 0 (λ e. omega arith) ∙ sym (ap (λ t. pick t true false) (ne-eqb 0 (length (x ∷ b)) (λ e. omega arith)))
 sized-list [] (s ∷ ss) b h = absurd (omega arith)
 sized-list (n ∷ ns) [] b h = absurd (omega arith)
 sized-list (n ∷ ns) (s ∷ ss) b h =
@@ -159,7 +160,7 @@ sound-listed (n ∷ ns) [] b h e below = absurd (omega arith)
 sound-listed (n ∷ ns) (s ∷ ss) b h e below =
     let w : Next s (length b) ss = lent-next s (length b) ss e in
     let size : length (take s b) ≡ s = length-take-le s b (w .fits) in
-    more (omega (arith, w .some)) (omega (arith, w .small)) (below 0)
+    more {r = record { number = n; bytes = take s b }} (omega (arith, w .some)) (omega (arith, w .small)) (below 0)
     (sound-listed ns ss (drop s b) (omega arith) (ap (areSized ss) (length-drop s b) ∙ w .rest) (λ k. below (suc k)))
 
 none-listed : (ns ss b : List ℕ) → ss ≡ [] → listOf ns ss b ≡ []

@@ -4,3 +4,6 @@ pub mod Fronts
 pub mod Running
 pub mod Trailing
 pub mod Lending
+pub mod Looking
+pub mod Claimed
+pub mod Coincide

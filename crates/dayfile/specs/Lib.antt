@@ -4,3 +4,5 @@ pub mod Runs
 pub mod Lent
 pub mod Writing
 pub mod Reading
+pub mod Calls
+pub mod Claims
