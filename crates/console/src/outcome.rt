@@ -3,9 +3,9 @@
 use crate::console::Console;
 use crate::console::Ran;
 use crate::status::put_status;
-use crate::text::put;
-use crate::text::put_hex;
-use crate::text::put_number;
+use lines::text::put;
+use lines::text::put_hex;
+use lines::text::put_number;
 use connection::answer::Answer;
 use connection::answer::Slot;
 use connection::calls::Outcome;

@@ -1,8 +1,8 @@
 // The state line.
 use crate::console::Console;
-use crate::text::put;
-use crate::text::put_number;
-use crate::text::put_word;
+use lines::text::put;
+use lines::text::put_number;
+use lines::text::put_word;
 use connection::handshake::Handshake;
 use connection::handshake::Sending;
 use connection::state::State;

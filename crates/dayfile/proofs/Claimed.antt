@@ -19,7 +19,8 @@ use Rattle.dayfile.specs.File.{Report, reportOf, bodyOf, trailerOf, dist
 use Rattle.dayfile.specs.Runs.{frontOf, foundIn, runOf}
 use Rattle.dayfile.specs.Lent.{sumOf, isList, listOf}
 use Rattle.dayfile.specs.Writing.{Written, file, refused, writeOf, writeLent, leftBy}
-use Rattle.dayfile.specs.Reading.{Read, reports, readOf, isFileOf} as reading
+use Rattle.dayfile.specs.Reading.{Read, reports, readOf}
+use Rattle.dayfile.specs.Reading as reading
 use Rattle.dayfile.specs.Claims.{Exactly, AreBytes, Unsized, empty, long, later, ReadsBack, OneList, OnlyFiles, FoundInOrder, WritingExactly, RefusedWritesNothing, Lendable, ReadingExactly, sizeOfReports, SizeOfFile}
 use Rattle.dayfile.specs.declared.refusal.Refusal.{Refusal}
 use Rattle.dayfile.specs.declared.refusal.Refusal.the-variants.{Argument, Limit, Room, NoFile}
@@ -121,10 +122,10 @@ reading-exactly b below =
     none-told (no-file h k g) e = (h, λ l w f. falsehood (let r : readOf b ≡ reports l = ap readOf (sym f) ∙ reads-back l w in cc))
     none-told (a-file h k f g) e = falsehood (cc)
     not-told : ReadCase b → length b ≤ 65536 → ((l : List Report) → Writable l → fileOf l ≡ b → ⊥) → readOf b ≡ reading.refused NoFile
-    not-told (too-long h g) k no = absurd (omega arith)
-    not-told (no-file h k g) m no = g
-    not-told (a-file h k f g) m no =
-        absurd (no (runOf b) (record { sound = run-sound b below; few = k; short = omega (arith, ap length f) }) f)
+    not-told (too-long h g) k not-so = absurd (omega arith)
+    not-told (no-file h k g) m not-so = g
+    not-told (a-file h k f g) m not-so =
+        absurd (not-so (runOf b) (record { sound = run-sound b below; few = k; short = omega (arith, ap length f) }) f)
     never : (r : Refusal) → ReadCase b → readOf b ≡ reading.refused r → (r ≡ Limit → ⊥) → (r ≡ NoFile → ⊥) → ⊥
     never r (too-long h g) e x y = x (cc)
     never r (no-file h k g) e x y = y (cc)
@@ -144,22 +145,22 @@ sized-told (r ∷ l) e (long h) = told (isSized (length (r .bytes))) refl e
     told : (t : Bool) → isSized (length (r .bytes)) ≡ t → pick t (allSized l) false ≡ true → ⊥
     told true p q = let w = sized-is (length (r .bytes)) p in omega (arith, w .1)
     told false p q = falsehood (let z : false ≡ true = q in cc)
-sized-told (r ∷ l) e (later u) = told (isSized (length (r .bytes))) e
+sized-told (r ∷ l) e (later u) = told (isSized (length (r .bytes))) e (λ q. sized-told l q u)
   where
-    told : (t : Bool) → pick t (allSized l) false ≡ true → ⊥
-    told true q = sized-told l q u
-    told false q = falsehood (let z : false ≡ true = q in cc)
+    told : (t : Bool) → pick t (allSized l) false ≡ true → (allSized l ≡ true → ⊥) → ⊥
+    told true q rest = rest q
+    told false q rest = falsehood (let z : false ≡ true = q in cc)
 
 unsized-told : (l : List Report) → allSized l ≡ false → Unsized l
 unfolding allSized
 unsized-told [] e = falsehood (let z : true ≡ false = e in cc)
-unsized-told (r ∷ l) e = told (ltb (length (r .bytes)) 1) (ltb 1400 (length (r .bytes))) refl refl e
+unsized-told (r ∷ l) e = told (ltb (length (r .bytes)) 1) (ltb 1400 (length (r .bytes))) refl refl e (λ q. unsized-told l q)
   where
     told : (x y : Bool) → ltb (length (r .bytes)) 1 ≡ x → ltb 1400 (length (r .bytes)) ≡ y
-        → pick (pick x false (pick y false true)) (allSized l) false ≡ false → Unsized (r ∷ l)
-    told true y p q w = empty (ltb-true (length (r .bytes)) 1 p)
-    told false true p q w = long (ltb-true 1400 (length (r .bytes)) q)
-    told false false p q w = later (unsized-told l w)
+        → pick (pick x false (pick y false true)) (allSized l) false ≡ false → (allSized l ≡ false → Unsized l) → Unsized (r ∷ l)
+    told true y p q w rest = empty (ltb-true (length (r .bytes)) 1 p)
+    told false true p q w rest = long (ltb-true 1400 (length (r .bytes)) q)
+    told false false p q w rest = later (rest w)
 
 data WriteCase (l : List Report) (room : ℕ) : Type 0 where
   unsized : Unsized l → writeOf l room ≡ refused Argument → WriteCase l room
@@ -209,30 +210,30 @@ writing-exactly l room =
     is-over (narrow n a b d g) e = falsehood (cc)
     is-over (fits n a b d g) e = falsehood (cc)
     of-over : WriteCase l room → (Unsized l → ⊥) → (4096 < length l) ⊎ (65536 < length (fileOf l)) → writeOf l room ≡ refused Limit
-    of-over (unsized u g) no k = absurd (no u)
-    of-over (over n k g) no m = g
-    of-over (narrow n a b d g) no m = ⊎-elim (λ x. absurd (omega arith)) (λ x. absurd (omega arith)) m
-    of-over (fits n a b d g) no m = ⊎-elim (λ x. absurd (omega arith)) (λ x. absurd (omega arith)) m
+    of-over (unsized u g) not-so k = absurd (not-so u)
+    of-over (over n k g) not-so m = g
+    of-over (narrow n a b d g) not-so m = ⊎-elim (λ x. absurd (omega arith)) (λ x. absurd (omega arith)) m
+    of-over (fits n a b d g) not-so m = ⊎-elim (λ x. absurd (omega arith)) (λ x. absurd (omega arith)) m
     is-narrow : WriteCase l room → writeOf l room ≡ refused Room → (Unsized l → ⊥) × (length l ≤ 4096) × (length (fileOf l) ≤ 65536) × (room < length (fileOf l))
     is-narrow (unsized u g) e = falsehood (cc)
     is-narrow (over n k g) e = falsehood (cc)
     is-narrow (narrow n a b d g) e = (n, a, b, d)
     is-narrow (fits n a b d g) e = falsehood (cc)
     of-narrow : WriteCase l room → (Unsized l → ⊥) → length l ≤ 4096 → length (fileOf l) ≤ 65536 → room < length (fileOf l) → writeOf l room ≡ refused Room
-    of-narrow (unsized u g) no a b d = absurd (no u)
-    of-narrow (over n k g) no a b d = ⊎-elim (λ x. absurd (omega arith)) (λ x. absurd (omega arith)) k
-    of-narrow (narrow n x y z g) no a b d = g
-    of-narrow (fits n x y z g) no a b d = absurd (omega arith)
+    of-narrow (unsized u g) not-so a b d = absurd (not-so u)
+    of-narrow (over n k g) not-so a b d = ⊎-elim (λ x. absurd (omega arith)) (λ x. absurd (omega arith)) k
+    of-narrow (narrow n x y z g) not-so a b d = g
+    of-narrow (fits n x y z g) not-so a b d = absurd (omega arith)
     is-file : WriteCase l room → (f : List ℕ) → writeOf l room ≡ file f → (Unsized l → ⊥) × (length l ≤ 4096) × (length (fileOf l) ≤ 65536) × (length (fileOf l) ≤ room) × (f ≡ fileOf l)
     is-file (unsized u g) f e = falsehood (cc)
     is-file (over n k g) f e = falsehood (cc)
     is-file (narrow n a b d g) f e = falsehood (cc)
     is-file (fits n a b d g) f e = (n, a, b, d, file-inner f (fileOf l) (sym e ∙ g))
     of-file : WriteCase l room → (Unsized l → ⊥) → length l ≤ 4096 → length (fileOf l) ≤ 65536 → length (fileOf l) ≤ room → writeOf l room ≡ file (fileOf l)
-    of-file (unsized u g) no a b d = absurd (no u)
-    of-file (over n k g) no a b d = ⊎-elim (λ x. absurd (omega arith)) (λ x. absurd (omega arith)) k
-    of-file (narrow n x y z g) no a b d = absurd (omega arith)
-    of-file (fits n x y z g) no a b d = g
+    of-file (unsized u g) not-so a b d = absurd (not-so u)
+    of-file (over n k g) not-so a b d = ⊎-elim (λ x. absurd (omega arith)) (λ x. absurd (omega arith)) k
+    of-file (narrow n x y z g) not-so a b d = absurd (omega arith)
+    of-file (fits n x y z g) not-so a b d = g
     no-file : WriteCase l room → writeOf l room ≡ refused NoFile → ⊥
     no-file (unsized u g) e = falsehood (cc)
     no-file (over n k g) e = falsehood (cc)

@@ -9,7 +9,8 @@ use Rattle.dayfile.specs.File.{Report, fileOf, Sound, Writable}
 use Rattle.dayfile.specs.Runs.{frontOf, foundIn, runOf}
 use Rattle.dayfile.specs.Lent.{isList, listOf}
 use Rattle.dayfile.specs.Writing.{Written, file, refused, writeOf, writeLent, leftBy}
-use Rattle.dayfile.specs.Reading.{Read, reports, readOf} as reading
+use Rattle.dayfile.specs.Reading.{Read, reports, readOf}
+use Rattle.dayfile.specs.Reading as reading
 use Rattle.dayfile.specs.declared.refusal.Refusal.{Refusal}
 use Rattle.dayfile.specs.declared.refusal.Refusal.the-variants.{Argument, Limit, Room, NoFile}
 use Rattle.dayfile.specs.declared.report.Found.the-variants.{Whole, Nothing}

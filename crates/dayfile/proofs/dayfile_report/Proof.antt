@@ -1,34 +1,28 @@
+-- `dayfile_report`: the answer of `report_at` as a number; a size that is found is at most 1,400.
+use mathlib.Core.Path.{_≡_, refl, sym, _∙_, ap}
+use Rattle.dayfile.specs.Calls.{foundResult}
+use Rattle.dayfile.proofs.Fronts.{front-is}
 use borrow.Author.Needs.{needs}
 use Rattle.dayfile.proofs.dayfile_report.Statement.{statement}
 use Rattle.dayfile.proofs.dayfile_report.Tie as tie
-use Rattle.dayfile.proofs.dayfile_report.Reads as reads
-use Rattle.dayfile.proofs.dayfile_report.Lts as lts
-use Rattle.dayfile.proofs.report.report_at.Reads as report-at-reads
-use Rattle.dayfile.proofs.told.Reads as told-reads
 
--- src/lib.rt:63:11
 report-at-requires : tie.Need-report-at-requires
 report-at-requires c κs = search needs
 
--- src/lib.rt:64:22
 enum-known-number : tie.Need-enum-known-number
 enum-known-number c = search needs
 
--- src/lib.rt:64:39
 told-requires : tie.Need-told-requires
-told-requires c κs = ?
+told-requires c κs = front-is _ _ _ (sym (c .before .before .before .report-at .ensures .0) ∙ c .before .number .given .1) .small
 
--- src/lib.rt:65:27
 enum-told : tie.Need-enum-told
 enum-told c = search needs
 
--- src/lib.rt:59:1
 returns : tie.Need-returns
-returns c = ?
+returns c = c .told .ensures ∙ ap foundResult (sym (c .before .before .number .given .1) ∙ c .before .before .before .before .report-at .ensures .0)
 
--- src/lib.rt:59:1
 returns-2 : tie.Need-returns-2
-returns-2 c = ?
+returns-2 c = ap foundResult (sym (c .enum-told .given .1) ∙ c .before .before .report-at .ensures .0)
 
 pub dayfile-report-spec : {M : Type 1} → statement M
 dayfile-report-spec =
