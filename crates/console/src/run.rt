@@ -6,18 +6,18 @@ use crate::call::call_in;
 use crate::call::call_of;
 use crate::console::Console;
 use crate::console::Ran;
-use lines::hex::put_bytes;
-use lines::number::number;
-use lines::number::room;
-use lines::said::named;
 use crate::outcome;
 use crate::outcome::bad_line;
-use lines::words::word;
 use connection::calls;
 use connection::calls::Outcome;
 use connection::receive::receive;
 use connection::send::send_alert;
 use connection::send::send_data;
+use lines::hex::put_bytes;
+use lines::number::number;
+use lines::number::room;
+use lines::said::named;
+use lines::words::word;
 
 // Runs a line, without its newline.
 pub fn run(console: Console, line: &[u8], text: &mut [u8], at: usize) -> Ran {

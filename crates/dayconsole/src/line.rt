@@ -82,5 +82,15 @@ fn run_held(
     if held.len() < size {
         return bad_line(hand, text, at);
     }
-    run(hand, &held[..size], text, at, numbers, sizes, bytes, file, out)
+    run(
+        hand,
+        &held[..size],
+        text,
+        at,
+        numbers,
+        sizes,
+        bytes,
+        file,
+        out,
+    )
 }

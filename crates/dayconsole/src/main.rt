@@ -47,17 +47,73 @@ fn take_input(
     let mut size: usize = 0;
     let mut turns = u64::MAX;
     while turns > 0 {
-        let got = libc::read(STDIN_FILENO, chunk);
-        let n = io::count(got, chunk);
-        if n == 0 {
-            line::end(hand, held, size, text, numbers, sizes, bytes, file, out);
+        let taken = take_chunk(
+            hand,
+            size,
+            chunk,
+            held,
+            text,
+            numbers,
+            sizes,
+            bytes,
+            file,
+            out,
+        );
+        if !taken.more {
             return;
         }
-        let fed = line::feed(
-            hand, &chunk[..n], held, size, text, numbers, sizes, bytes, file, out,
-        );
-        hand = fed.hand;
-        size = fed.size;
+        hand = taken.hand;
+        size = taken.size;
         turns -= 1;
+    }
+}
+
+// What is at hand after one chunk, the size of the line that is held, and whether more may come.
+pub struct Taken {
+    pub hand: Hand,
+    pub size: usize,
+    pub more: bool,
+}
+
+// Reads a chunk and runs its lines; at the end of the input, the line that is held.
+fn take_chunk(
+    hand: Hand,
+    size: usize,
+    chunk: &mut [u8],
+    held: &mut [u8],
+    text: &mut [u8],
+    numbers: &mut [u16],
+    sizes: &mut [usize],
+    bytes: &mut [u8],
+    file: &mut [u8],
+    out: &mut [u8],
+) -> Taken {
+    let got = libc::read(STDIN_FILENO, chunk);
+    let n = io::count(got, chunk);
+    if n == 0 {
+        line::end(hand, held, size, text, numbers, sizes, bytes, file, out);
+        return Taken {
+            hand,
+            size,
+            more: false,
+        };
+    }
+    let fed = line::feed(
+        hand,
+        &chunk[..n],
+        held,
+        size,
+        text,
+        numbers,
+        sizes,
+        bytes,
+        file,
+        out,
+    );
+    let left = fed.hand;
+    Taken {
+        hand: left,
+        size: fed.size,
+        more: true,
     }
 }

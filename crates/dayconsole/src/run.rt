@@ -1,7 +1,5 @@
 // Running the call that a line makes. Its words were read when the call was told (`call_of`).
-ghost use mathlib.Core.Path.{_≡_};
-ghost use mathlib.Core.Bool.{true};
-ghost use Prim.Native.Nat.{_+_, _≤_};
+ghost use Prim.Native.Nat.{_≤_};
 use crate::call::Call;
 use crate::call::call_of;
 use crate::hand::Hand;
@@ -54,16 +52,28 @@ fn run_report(
     let n = put_bytes(word(line, 2), &mut spelled);
     let i = hand.reports;
     let used = hand.used;
-    if has_room(i, 1, numbers.len(), sizes.len()) {
-        if has_room(used, n, bytes.len(), bytes.len()) {
-            numbers[i] = number(word(line, 1), 65535) as u16;
-            sizes[i] = n;
-            digest::put(bytes, used, &spelled[..n]);
-            let left = hand.with_report(i + 1, used + n);
-            return went(left, b"report", b" ok\n", text, at);
-        }
+    if numbers.len() <= i {
+        return full(hand, b"report", text, at);
     }
-    went(hand, b"report", b" full\n", text, at)
+    if sizes.len() <= i {
+        return full(hand, b"report", text, at);
+    }
+    if bytes.len() < n {
+        return full(hand, b"report", text, at);
+    }
+    if bytes.len() - n < used {
+        return full(hand, b"report", text, at);
+    }
+    numbers[i] = number(word(line, 1), 65535) as u16;
+    sizes[i] = n;
+    digest::put(bytes, used, &spelled[..n]);
+    went(
+        hand.with_report(i + 1, used + n),
+        b"report",
+        b" ok\n",
+        text,
+        at,
+    )
 }
 
 // Appends to the file at hand, where it has room.
@@ -71,27 +81,19 @@ fn run_file(hand: Hand, line: &[u8], text: &mut [u8], at: usize, file: &mut [u8]
     let mut spelled = io::buffer();
     let n = put_bytes(word(line, 1), &mut spelled);
     let used = hand.file;
-    if has_room(used, n, file.len(), file.len()) {
-        digest::put(file, used, &spelled[..n]);
-        return went(hand.with_file(used + n), b"file", b" ok\n", text, at);
+    if file.len() < n {
+        return full(hand, b"file", text, at);
     }
-    went(hand, b"file", b" full\n", text, at)
+    if file.len() - n < used {
+        return full(hand, b"file", text, at);
+    }
+    digest::put(file, used, &spelled[..n]);
+    went(hand.with_file(used + n), b"file", b" ok\n", text, at)
 }
 
-// Whether `more` fit behind `used`, in both of two.
-fn has_room(used: usize, more: usize, most: usize, also: usize) -> bool
-    ensures { λ r. ⌜ (r ≡ true → (used + more ≤ most) × (used + more ≤ also)) ⌝ }
-{
-    if most < more {
-        return false;
-    }
-    if also < more {
-        return false;
-    }
-    if most - more < used {
-        return false;
-    }
-    used <= also - more
+// There is no room: nothing changes.
+fn full(hand: Hand, name: &[u8], text: &mut [u8], at: usize) -> Ran {
+    went(hand, name, b" full\n", text, at)
 }
 
 fn run_write(
@@ -107,7 +109,12 @@ fn run_write(
     let count = least(hand.reports, numbers.len(), sizes.len());
     let used = least(hand.used, bytes.len(), bytes.len());
     let size = room(word(line, 1), out);
-    match write_file(&numbers[..count], &sizes[..count], &bytes[..used], &mut out[..size]) {
+    match write_file(
+        &numbers[..count],
+        &sizes[..count],
+        &bytes[..used],
+        &mut out[..size],
+    ) {
         Writing::Refused(refusal) => outcome::refused(hand, b"write", refusal, text, at),
         Writing::Written(written) => {
             let end = lines::text::put(text, at, b"write ok\n");

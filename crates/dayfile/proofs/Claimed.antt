@@ -69,9 +69,9 @@ read-case b = told (sameBytes b (fileOf (runOf b))) refl
     told t e =
         by-cases (decLe (length b) 65536)
         (λ h.
-            by-cases (decLe (length (runOf b)) 4096)
-            (λ k. same t e h k)
-            (λ k. let many : 4096 < length (runOf b) = omega arith in no-file h (inl many) (read-many b h many)))
+        by-cases (decLe (length (runOf b)) 4096)
+        (λ k. same t e h k)
+        (λ k. let many : 4096 < length (runOf b) = omega arith in no-file h (inl many) (read-many b h many)))
         (λ h. let big : 65536 < length b = omega arith in too-long big (read-long b big))
       where
         same : (t : Bool) → sameBytes b (fileOf (runOf b)) ≡ t → length b ≤ 65536 → length (runOf b) ≤ 4096 → ReadCase b
@@ -117,15 +117,18 @@ reading-exactly b below =
     long-told (too-long h g) e = h
     long-told (no-file h k g) e = falsehood (cc)
     long-told (a-file h k f g) e = falsehood (cc)
+
     none-told : ReadCase b → readOf b ≡ reading.refused NoFile → (length b ≤ 65536) × ((l : List Report) → Writable l → fileOf l ≡ b → ⊥)
     none-told (too-long h g) e = falsehood (cc)
     none-told (no-file h k g) e = (h, λ l w f. falsehood (let r : readOf b ≡ reports l = ap readOf (sym f) ∙ reads-back l w in cc))
     none-told (a-file h k f g) e = falsehood (cc)
+
     not-told : ReadCase b → length b ≤ 65536 → ((l : List Report) → Writable l → fileOf l ≡ b → ⊥) → readOf b ≡ reading.refused NoFile
     not-told (too-long h g) k not-so = absurd (omega arith)
     not-told (no-file h k g) m not-so = g
     not-told (a-file h k f g) m not-so =
         absurd (not-so (runOf b) (record { sound = run-sound b below; few = k; short = omega (arith, ap length f) }) f)
+
     never : (r : Refusal) → ReadCase b → readOf b ≡ reading.refused r → (r ≡ Limit → ⊥) → (r ≡ NoFile → ⊥) → ⊥
     never r (too-long h g) e x y = x (cc)
     never r (no-file h k g) e x y = y (cc)
@@ -199,41 +202,49 @@ writing-exactly l room =
     is-unsized (over n k g) e = falsehood (cc)
     is-unsized (narrow n a b d g) e = falsehood (cc)
     is-unsized (fits n a b d g) e = falsehood (cc)
+
     of-unsized : WriteCase l room → Unsized l → writeOf l room ≡ refused Argument
     of-unsized (unsized u g) v = g
     of-unsized (over n k g) v = absurd (n v)
     of-unsized (narrow n a b d g) v = absurd (n v)
     of-unsized (fits n a b d g) v = absurd (n v)
+
     is-over : WriteCase l room → writeOf l room ≡ refused Limit → (Unsized l → ⊥) × ((4096 < length l) ⊎ (65536 < length (fileOf l)))
     is-over (unsized u g) e = falsehood (cc)
     is-over (over n k g) e = (n, k)
     is-over (narrow n a b d g) e = falsehood (cc)
     is-over (fits n a b d g) e = falsehood (cc)
+
     of-over : WriteCase l room → (Unsized l → ⊥) → (4096 < length l) ⊎ (65536 < length (fileOf l)) → writeOf l room ≡ refused Limit
     of-over (unsized u g) not-so k = absurd (not-so u)
     of-over (over n k g) not-so m = g
     of-over (narrow n a b d g) not-so m = ⊎-elim (λ x. absurd (omega arith)) (λ x. absurd (omega arith)) m
     of-over (fits n a b d g) not-so m = ⊎-elim (λ x. absurd (omega arith)) (λ x. absurd (omega arith)) m
+
     is-narrow : WriteCase l room → writeOf l room ≡ refused Room → (Unsized l → ⊥) × (length l ≤ 4096) × (length (fileOf l) ≤ 65536) × (room < length (fileOf l))
     is-narrow (unsized u g) e = falsehood (cc)
     is-narrow (over n k g) e = falsehood (cc)
     is-narrow (narrow n a b d g) e = (n, a, b, d)
     is-narrow (fits n a b d g) e = falsehood (cc)
+
     of-narrow : WriteCase l room → (Unsized l → ⊥) → length l ≤ 4096 → length (fileOf l) ≤ 65536 → room < length (fileOf l) → writeOf l room ≡ refused Room
     of-narrow (unsized u g) not-so a b d = absurd (not-so u)
     of-narrow (over n k g) not-so a b d = ⊎-elim (λ x. absurd (omega arith)) (λ x. absurd (omega arith)) k
     of-narrow (narrow n x y z g) not-so a b d = g
     of-narrow (fits n x y z g) not-so a b d = absurd (omega arith)
+
     is-file : WriteCase l room → (f : List ℕ) → writeOf l room ≡ file f → (Unsized l → ⊥) × (length l ≤ 4096) × (length (fileOf l) ≤ 65536) × (length (fileOf l) ≤ room) × (f ≡ fileOf l)
     is-file (unsized u g) f e = falsehood (cc)
     is-file (over n k g) f e = falsehood (cc)
     is-file (narrow n a b d g) f e = falsehood (cc)
     is-file (fits n a b d g) f e = (n, a, b, d, file-inner f (fileOf l) (sym e ∙ g))
+
     of-file : WriteCase l room → (Unsized l → ⊥) → length l ≤ 4096 → length (fileOf l) ≤ 65536 → length (fileOf l) ≤ room → writeOf l room ≡ file (fileOf l)
     of-file (unsized u g) not-so a b d = absurd (not-so u)
     of-file (over n k g) not-so a b d = ⊎-elim (λ x. absurd (omega arith)) (λ x. absurd (omega arith)) k
     of-file (narrow n x y z g) not-so a b d = absurd (omega arith)
     of-file (fits n x y z g) not-so a b d = g
+
     no-file : WriteCase l room → writeOf l room ≡ refused NoFile → ⊥
     no-file (unsized u g) e = falsehood (cc)
     no-file (over n k g) e = falsehood (cc)

@@ -25,10 +25,10 @@ laid-append d at a b h =
     let sum : at + length a + length b ≡ at + length (a ++ b) = omega (arith, length-append a b) in
     let behind : drop (at + length a + length b) (laidOver d at a) ≡ drop (at + length (a ++ b)) d
     = ap (drop (at + length a + length b)) (opened d at a)
-      ∙ ap (λ n. drop (n + length b) (take at d ++ a ++ drop (at + length a) d)) (sym front)
-      ∙ drop-append-add (take at d ++ a) (drop (at + length a) d) (length b)
-      ∙ drop-drop (length b) (at + length a) d
-      ∙ ap (λ n. drop n d) sum in
+    ∙ ap (λ n. drop (n + length b) (take at d ++ a ++ drop (at + length a) d)) (sym front)
+    ∙ drop-append-add (take at d ++ a) (drop (at + length a) d) (length b)
+    ∙ drop-drop (length b) (at + length a) d
+    ∙ ap (λ n. drop n d) sum in
     opened d at (a ++ b)
     ∙ ap (λ l. l ++ drop (at + length (a ++ b)) d) (sym (append-assoc (take at d) a b))
     ∙ sym (opened (laidOver d at a) (at + length a) b ∙ (λ i. before i ++ b ++ behind i))

@@ -116,21 +116,21 @@ sized-list (n ∷ ns) [] b h = absurd (omega arith)
 sized-list (n ∷ ns) (s ∷ ss) b h =
     by-cases (decLe s (length b))
     (λ k.
-        let left : length b - s ≡ length (drop s b) = sym (length-drop s b) in
-        let size : length (take s b) ≡ s = length-take-le s b k in
-        let sum : eqb (sumOf ss) (length (drop s b)) ≡ eqb (s + sumOf ss) (length b)
-        = same-test (sumOf ss) (length (drop s b)) (s + sumOf ss) (length b) (λ e. omega arith) (λ e. omega arith) in
-        ap (λ t. pick (ltb s 1) false (pick (ltb 1400 s) false (pick t false (areSized ss (length b - s))))) (le-ltb (length b) s k)
-        ∙ ap (λ m. pick (ltb s 1) false (pick (ltb 1400 s) false (areSized ss m))) left
-        ∙ ap (λ t. pick (ltb s 1) false (pick (ltb 1400 s) false t)) (sized-list ns ss (drop s b) (omega arith))
-        ∙ picked (ltb s 1) (ltb 1400 s) (eqb (sumOf ss) (length (drop s b))) (allSized (listOf ns ss (drop s b)))
-        ∙ (λ i. pick (sum i) (pick (isSized (sym size i)) (allSized (listOf ns ss (drop s b))) false) false))
+    let left : length b - s ≡ length (drop s b) = sym (length-drop s b) in
+    let size : length (take s b) ≡ s = length-take-le s b k in
+    let sum : eqb (sumOf ss) (length (drop s b)) ≡ eqb (s + sumOf ss) (length b)
+    = same-test (sumOf ss) (length (drop s b)) (s + sumOf ss) (length b) (λ e. omega arith) (λ e. omega arith) in
+    ap (λ t. pick (ltb s 1) false (pick (ltb 1400 s) false (pick t false (areSized ss (length b - s))))) (le-ltb (length b) s k)
+    ∙ ap (λ m. pick (ltb s 1) false (pick (ltb 1400 s) false (areSized ss m))) left
+    ∙ ap (λ t. pick (ltb s 1) false (pick (ltb 1400 s) false t)) (sized-list ns ss (drop s b) (omega arith))
+    ∙ picked (ltb s 1) (ltb 1400 s) (eqb (sumOf ss) (length (drop s b))) (allSized (listOf ns ss (drop s b)))
+    ∙ (λ i. pick (sum i) (pick (isSized (sym size i)) (allSized (listOf ns ss (drop s b))) false) false))
     (λ k.
-        let more : length b < s = omega arith in
-        let sum : eqb (s + sumOf ss) (length b) ≡ false = ne-eqb (s + sumOf ss) (length b) (λ e. omega arith) in
-        ap (λ t. pick (ltb s 1) false (pick (ltb 1400 s) false (pick t false (areSized ss (length b - s))))) (lt-ltb (length b) s more)
-        ∙ never (ltb s 1) (ltb 1400 s) (areSized ss (length b - s))
-        ∙ sym (ap (λ t. pick t (pick (isSized (length (take s b))) (allSized (listOf ns ss (drop s b))) false) false) sum))
+    let more : length b < s = omega arith in
+    let sum : eqb (s + sumOf ss) (length b) ≡ false = ne-eqb (s + sumOf ss) (length b) (λ e. omega arith) in
+    ap (λ t. pick (ltb s 1) false (pick (ltb 1400 s) false (pick t false (areSized ss (length b - s))))) (lt-ltb (length b) s more)
+    ∙ never (ltb s 1) (ltb 1400 s) (areSized ss (length b - s))
+    ∙ sym (ap (λ t. pick t (pick (isSized (length (take s b))) (allSized (listOf ns ss (drop s b))) false) false) sum))
 
 pub many-listed : (ns ss b : List ℕ) → length ns ≡ length ss → length (listOf ns ss b) ≡ length ss
 unfolding listOf

@@ -60,6 +60,7 @@ by-run P stop next s = upto (length s) s (omega arith)
     told k s h rest Nothing e = subst (P s) (sym (run-stop s e)) (stop s e)
     told k s h rest (Whole n z) e =
         subst (P s) (sym (run-next s n z e)) (next s n z e (rest (drop (5 + z) s) (omega (arith, length-drop (5 + z) s, front-is s n z e .inside))))
+
     upto : (k : ℕ) (s : List ℕ) → length s ≤ k → P s (runOf s)
     upto zero s h = told zero s h (λ t m. absurd (omega arith)) (frontOf s) refl
     upto (suc k) s h = told (suc k) s h (λ t m. upto k t (omega arith)) (frontOf s) refl
@@ -71,10 +72,10 @@ pub run-sound : (s : List ℕ) → ((k : ℕ) → getD s k 0 < 256) → Sound (r
 run-sound =
     by-run (λ s l. ((k : ℕ) → getD s k 0 < 256) → Sound l) (λ s e below. none)
     (λ s n z e rest below.
-        let f : FrontIs s n z = front-is s n z e in
-        let size : length (foundIn s n z .bytes) ≡ z = found-length s n z (f .inside) in
-        more (omega (arith, f .some)) (omega (arith, f .small)) (omega (arith, f .numbered, below 1, below 2))
-        (rest (λ k. rw (getD-drop (5 + z) s k 0) (below (5 + z + k)))))
+    let f : FrontIs s n z = front-is s n z e in
+    let size : length (foundIn s n z .bytes) ≡ z = found-length s n z (f .inside) in
+    more (omega (arith, f .some)) (omega (arith, f .small)) (omega (arith, f .numbered, below 1, below 2))
+    (rest (λ k. rw (getD-drop (5 + z) s k 0) (below (5 + z + k)))))
 
 -- a run stands at the front, byte for byte
 pub run-front : (s : List ℕ) → ((k : ℕ) → getD s k 0 < 256) → bodyOf (runOf s) ++ drop (length (bodyOf (runOf s))) s ≡ s

@@ -59,9 +59,9 @@ pair-no : (x y n : ℕ) (s t : List ℕ) → n < 65536 → (x * 256 + y ≡ n �
 pair-no x y n s t h ne =
     differ-same (x ∷ y ∷ s) (bytes2 n ++ t)
     (λ e.
-        let p : x ≡ n / 256 % 256 = ap (λ l. getD l 0 0) e in
-        let q : y ≡ n % 256 = ap (λ l. getD l 1 0) e in
-        ne ((λ i. p i * 256 + q i) ∙ pair-back n h))
+    let p : x ≡ n / 256 % 256 = ap (λ l. getD l 0 0) e in
+    let q : y ≡ n % 256 = ap (λ l. getD l 1 0) e in
+    ne ((λ i. p i * 256 + q i) ∙ pair-back n h))
 
 two-first : (b : List ℕ) (at : ℕ) → at + 2 ≤ length b → drop at b ≡ getD b at 0 ∷ getD b (at + 1) 0 ∷ drop (at + 2) b
 two-first b at h =
@@ -183,12 +183,12 @@ module _ (b : List ℕ) (count end at place : ℕ) (w : Matching b count end at 
 
     opened : sameBytes b (fileOf (runOf b))
         ≡ sameBytes (getD b place 0 ∷ getD b (place + 1) 0 ∷ drop (place + 2) b)
-          (bytes2 (end - at) ++ (distancesOf (runOf (restOf b end (at + (5 + step .size)))) ++ bytes2 count))
+        (bytes2 (end - at) ++ (distancesOf (runOf (restOf b end (at + (5 + step .size)))) ++ bytes2 count))
     opened =
         w .same
         ∙ (λ i. sameBytes (two-first b place (omega (arith, pair-there)) i) (step .distances i ++ bytes2 count))
         ∙ ap (sameBytes (getD b place 0 ∷ getD b (place + 1) 0 ∷ drop (place + 2) b))
-          (append-assoc (bytes2 (end - at)) (distancesOf (runOf (restOf b end (at + (5 + step .size))))) (bytes2 count))
+        (append-assoc (bytes2 (end - at)) (distancesOf (runOf (restOf b end (at + (5 + step .size))))) (bytes2 count))
 
     pub match-next : ((k : ℕ) → getD b k 0 < 256) → getD b place 0 * 256 + getD b (place + 1) 0 ≡ end - at
         → Matching b count end (at + (5 + step .size)) (place + 2)
@@ -202,14 +202,14 @@ module _ (b : List ℕ) (count end at place : ℕ) (w : Matching b count end at 
           same =
               opened
               ∙ pair-yes (getD b place 0) (getD b (place + 1) 0) (end - at) (drop (place + 2) b)
-                (distancesOf (runOf (restOf b end (at + (5 + step .size)))) ++ bytes2 count) (below place) (below (place + 1)) e;
+              (distancesOf (runOf (restOf b end (at + (5 + step .size)))) ++ bytes2 count) (below place) (below (place + 1)) e;
         }
 
     pub match-differs : (getD b place 0 * 256 + getD b (place + 1) 0 ≡ end - at → ⊥) → false ≡ sameBytes b (fileOf (runOf b))
     match-differs ne =
         sym (opened
         ∙ pair-no (getD b place 0) (getD b (place + 1) 0) (end - at) (drop (place + 2) b)
-          (distancesOf (runOf (restOf b end (at + (5 + step .size)))) ++ bytes2 count) (omega (arith, w .few)) ne)
+        (distancesOf (runOf (restOf b end (at + (5 + step .size)))) ++ bytes2 count) (omega (arith, w .few)) ne)
 
   module _ (h : end ≤ at) where
     pub last-there : length b ≡ place + 2
@@ -222,8 +222,8 @@ module _ (b : List ℕ) (count end at place : ℕ) (w : Matching b count end at 
         w .same
         ∙ (λ i. sameBytes (drop place b) (distancesOf (rest-none b end at h i) ++ bytes2 count))
         ∙ ap (λ l. sameBytes l (bytes2 count))
-          (two-first b place (omega (arith, last-there))
-          ∙ ap (λ l. getD b place 0 ∷ getD b (place + 1) 0 ∷ l) (drop-of-length-le b gone))
+        (two-first b place (omega (arith, last-there))
+        ∙ ap (λ l. getD b place 0 ∷ getD b (place + 1) 0 ∷ l) (drop-of-length-le b gone))
 
     pub match-done : ((k : ℕ) → getD b k 0 < 256) → eqb (getD b place 0 * 256 + getD b (place + 1) 0) count ≡ sameBytes b (fileOf (runOf b))
     match-done below =

@@ -104,7 +104,8 @@ fn string(word: &[u8]) -> Option<Vec<u8>> {
 
 /// A number without sign or leading zero, of at most nine digits and at most `most`.
 fn decimal(word: &[u8], most: usize) -> Option<usize> {
-    let plain = matches!(word, b"0") || (matches!(word.first(), Some(b'1'..=b'9')) && word.len() <= 9);
+    let plain =
+        matches!(word, b"0") || (matches!(word.first(), Some(b'1'..=b'9')) && word.len() <= 9);
     if !plain || !word.iter().all(u8::is_ascii_digit) {
         return None;
     }

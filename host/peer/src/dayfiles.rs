@@ -116,18 +116,18 @@ fn report(rng: &mut Rng) -> Report {
 fn at_a_limit(rng: &mut Rng) -> Vec<Report> {
     let report = |size| Report { number: 7, bytes: vec![0xd1; size] };
     match rng.under(4) {
-        0 => vec![report(9); 4096],
+        0 => vec![report(8); 4096],
         1 => vec![report(1); 4097],
-        2 => limit_of_bytes(26),
-        _ => limit_of_bytes(27),
+        2 => limit_of_bytes(0),
+        _ => limit_of_bytes(1),
     }
 }
 
-/// 46 reports of 1,400 bytes and one that makes the file of 65,536 bytes and `last - 26` more.
-fn limit_of_bytes(last: usize) -> Vec<Report> {
+/// 46 reports of 1,400 bytes, and one that makes the file 65,536 bytes long, or as many more.
+fn limit_of_bytes(over: usize) -> Vec<Report> {
     let mut list = vec![Report { number: 1, bytes: vec![0xd2; 1400] }; 46];
     let left = dayfile::MOST_BYTES - 46 * 1407 - 3 - 7;
-    list.push(Report { number: 2, bytes: vec![0; left - 26 + last] });
+    list.push(Report { number: 2, bytes: vec![0; left + over] });
     list
 }
 
