@@ -3,7 +3,7 @@
 use std::io::{self, BufWriter, Read, Write};
 use std::process::ExitCode;
 
-use peer::{console, days, handshakes, lists, stored, wire};
+use peer::{console, dayconsole, dayfiles, days, handshakes, lists, rng, stored, wire};
 
 const USAGE: &str = "\
 peer console                       the lines that the console must write for those on stdin
@@ -11,6 +11,8 @@ peer lister                        the lines that the frame lister must write fo
 peer day                           the stored day, as input for the console
 peer long-day                      the day on which the sending numbers run out (refusal 15)
 peer handshakes                    two worked handshakes, one `name hex` to a line
+peer dayconsole                    the lines that the day console must write for those on stdin
+peer dayfiles --seed S --count N   lines for the day console: N lists and damaged files
 peer days --seed S --calls N [--spent K] [--keep FILE] --console PROGRAM [ARGUMENT ..]
                                    random days through PROGRAM, each line compared; K days on
                                    which sending numbers run out (else 2 to each 200,000 calls);
@@ -28,6 +30,8 @@ fn main() -> ExitCode {
         ["day"] => print(&stored::day()),
         ["long-day"] => print(&stored::long_day()),
         ["handshakes"] => print(&handshakes::worked()),
+        ["dayconsole"] => dayconsole::run(io::stdin().lock(), BufWriter::new(io::stdout().lock())),
+        ["dayfiles", "--seed", seed, "--count", count] => day_files(seed, count),
         ["days", ..] => return run_days(&words[1..]),
         ["lists", "--seed", seed, "--count", count, "--lister", ..] => {
             return run_lists(seed.parse().ok(), count.parse().ok(), &words[6..])
@@ -48,6 +52,18 @@ fn main() -> ExitCode {
 
 fn print(text: &str) -> io::Result<()> {
     io::stdout().write_all(text.as_bytes())
+}
+
+fn day_files(seed: &str, count: &str) -> io::Result<()> {
+    let (Ok(seed), Ok(count)) = (seed.parse(), count.parse::<u64>()) else {
+        return Err(io::Error::other("seed and count are numbers"));
+    };
+    let mut rng = rng::Rng::new(seed);
+    let mut output = BufWriter::new(io::stdout().lock());
+    for _ in 0..count {
+        output.write_all(dayfiles::lines(&mut rng).as_bytes())?;
+    }
+    output.flush()
 }
 
 fn lister() -> io::Result<()> {

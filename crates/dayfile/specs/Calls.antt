@@ -1,0 +1,27 @@
+-- The exported calls answer one number. Its upper 32 bits are the number of the refusal, 0 where the call is done; the lower
+-- 32 are what is told: how many bytes the file has, how many reports. A report is told by its number and its size, 16 bits
+-- each; where there is none, by 0.
+use Prim.Native.Nat.{ℕ, _+_, _*_}
+use Rattle.dayfile.specs.Writing.{refusalNumber}
+use Rattle.dayfile.specs.declared.refusal.Refusal.{Refusal}
+use Rattle.dayfile.specs.declared.write.Writing.{Writing}
+use Rattle.dayfile.specs.declared.write.Writing.the-variants as W
+use Rattle.dayfile.specs.declared.read.Reading.{Reading}
+use Rattle.dayfile.specs.declared.read.Reading.the-variants as R
+use Rattle.dayfile.specs.declared.report.Found.{Found}
+use Rattle.dayfile.specs.declared.report.Found.the-variants.{Whole, Nothing}
+
+abbrev pub refusedResult : Refusal → ℕ
+refusedResult r = refusalNumber r * 4294967296
+
+abbrev pub writingResult : Writing → ℕ
+writingResult (W.Written size) = size
+writingResult (W.Refused r) = refusedResult r
+
+abbrev pub readingResult : Reading → ℕ
+readingResult (R.Reports count) = count
+readingResult (R.Refused r) = refusedResult r
+
+abbrev pub foundResult : Found → ℕ
+foundResult (Whole number size) = number * 65536 + size
+foundResult Nothing = 0
