@@ -1,4 +1,4 @@
-/* The day's list of reports as one file, for C: written and read, proved in Rattle.
+/* The day's list of reports as one file, for C: written, read and mended, proved in Rattle.
 
    Link target/staticlib/libdayfile.a (`rt staticlib dayfile`). There is no heap, no global and no system call, and nothing is kept
    between calls. A call may be made on any bytes whatever: what is lent is tested, and what is wrong is refused with a number. A
@@ -54,6 +54,14 @@ uint64_t dayfile_read(const uint8_t *file, size_t size);
 uint64_t dayfile_report(const uint8_t *file, size_t size, size_t at);
 #define DAYFILE_NUMBER(report) ((uint16_t)((report) >> 16))
 #define DAYFILE_SIZE(report) ((size_t)((report) & 0xffff))
+
+/* Mends a cut file: writes the file of the longest run of whole reports from the front at the front of `out`, and touches no other byte.
+   It has size - DAYFILE_AFTER(result) + 3 + 2 * DAYFILE_KEPT(result) bytes, always reads, and is the file lent where that reads.
+   Refusals, in this order: 24, 6. */
+uint64_t dayfile_mend(const uint8_t *file, size_t size, uint8_t *out, size_t room);
+#define DAYFILE_KEPT(result) ((size_t)((result) >> 17 & 0x3fff))   /* reports kept */
+#define DAYFILE_AFTER(result) ((size_t)((result) & 0x1ffff))       /* bytes that stood after them */
+#define DAYFILE_CHANGED(result) ((int)((result) >> 31 & 1))        /* whether the bytes differ */
 
 #ifdef __cplusplus
 }

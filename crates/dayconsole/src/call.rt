@@ -13,6 +13,7 @@ pub enum Call {
     Clear,
     Write,
     Read,
+    Mend,
     // no call
     Bad,
 }
@@ -26,6 +27,9 @@ pub fn call_of(line: &[u8]) -> Call {
     }
     if named(line, 0, b"write") {
         return call_if(Call::Write, room_asked(line));
+    }
+    if named(line, 0, b"mend") {
+        return call_if(Call::Mend, room_asked(line));
     }
     if named(line, 0, b"clear") {
         return call_if(Call::Clear, spaces(line) == 0);
@@ -62,7 +66,7 @@ fn file_call(line: &[u8]) -> Call {
     call_if(Call::File, bytes_at(line, 1))
 }
 
-// write ROOM
+// write ROOM, mend ROOM
 fn room_asked(line: &[u8]) -> bool {
     if spaces(line) != 1 {
         return false;

@@ -1,6 +1,7 @@
 // What a call gave: its first line, the bytes or the reports behind it, and the state line.
 use crate::hand::Hand;
 use crate::hand::Ran;
+use dayfile::mend::Mended;
 use dayfile::refusal::Refusal;
 use dayfile::refusal::number;
 use dayfile::report::Found;
@@ -39,6 +40,32 @@ pub fn put_out(out: &[u8], size: usize, text: &mut [u8], at: usize) -> usize {
     let end = put(text, at, b"out ");
     let end = put_hex(text, end, &out[..size]);
     put(text, end, b"\n")
+}
+
+// `mend kept N after B changed|unchanged`
+pub fn put_mended(said: Mended, text: &mut [u8], at: usize) -> usize {
+    let end = put(text, at, b"mend kept ");
+    let end = put_number(text, end, said.kept as u64);
+    let end = put(text, end, b" after ");
+    let end = put_number(text, end, said.after as u64);
+    if said.changed {
+        return put(text, end, b" changed\n");
+    }
+    put(text, end, b" unchanged\n")
+}
+
+// How many bytes the mended file has: the kept reports, and the new trailer.
+pub fn mended_size(said: Mended, size: usize) -> usize {
+    if said.kept > 4096 {
+        return 0;
+    }
+    if size > 70000 {
+        return 0;
+    }
+    if size < said.after {
+        return 0;
+    }
+    size - said.after + (3 + 2 * said.kept)
 }
 
 // A line `NUMBER HEX` for each of `count` reports, from the front of the file on.

@@ -7,6 +7,8 @@ use crate::hand::Ran;
 use crate::outcome;
 use crate::outcome::bad_line;
 use crate::outcome::went;
+use dayfile::mend::Mending;
+use dayfile::mend::mend_file;
 use dayfile::read::Reading;
 use dayfile::read::read_file;
 use dayfile::write::Writing;
@@ -34,6 +36,7 @@ pub fn run(
         Call::Clear => went(Hand::new(), b"clear", b" ok\n", text, at),
         Call::Write => run_write(hand, line, text, at, numbers, sizes, bytes, out),
         Call::Read => run_read(hand, text, at, file),
+        Call::Mend => run_mend(hand, line, text, at, file, out),
         Call::Bad => bad_line(hand, text, at),
     }
 }
@@ -132,6 +135,27 @@ fn run_read(hand: Hand, text: &mut [u8], at: usize, file: &[u8]) -> Ran {
         Reading::Reports(count) => {
             let end = lines::text::put(text, at, b"read ok\n");
             let end = outcome::put_reports(whole, count, text, end);
+            outcome::state_line(hand, text, end)
+        }
+    }
+}
+
+fn run_mend(
+    hand: Hand,
+    line: &[u8],
+    text: &mut [u8],
+    at: usize,
+    file: &[u8],
+    out: &mut [u8],
+) -> Ran {
+    let have = least(hand.file, file.len(), file.len());
+    let size = room(word(line, 1), out);
+    match mend_file(&file[..have], &mut out[..size]) {
+        Mending::Refused(refusal) => outcome::refused(hand, b"mend", refusal, text, at),
+        Mending::Done(said) => {
+            let end = outcome::put_mended(said, text, at);
+            let written = outcome::mended_size(said, have);
+            let end = outcome::put_out(out, written, text, end);
             outcome::state_line(hand, text, end)
         }
     }

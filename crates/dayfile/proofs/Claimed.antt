@@ -81,7 +81,7 @@ read-case b = told (sameBytes b (fileOf (runOf b))) refl
 inner : (l m : List Report) → reports l ≡ reports m → l ≡ m
 inner l m e = cc
 
-read-whole : (b : List ℕ) (l : List Report) → readOf b ≡ reports l → (l ≡ runOf b) × (length (runOf b) ≤ 4096) × (fileOf (runOf b) ≡ b) × (length b ≤ 65536)
+pub read-whole : (b : List ℕ) (l : List Report) → readOf b ≡ reports l → (l ≡ runOf b) × (length (runOf b) ≤ 4096) × (fileOf (runOf b) ≡ b) × (length b ≤ 65536)
 read-whole b l e = told (read-case b)
   where
     told : ReadCase b → (l ≡ runOf b) × (length (runOf b) ≤ 4096) × (fileOf (runOf b) ≡ b) × (length b ≤ 65536)

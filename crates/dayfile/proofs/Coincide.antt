@@ -7,6 +7,8 @@ use Rattle.dayfile.proofs.refusal.number as refusal-number
 use Rattle.dayfile.proofs.report.report_at as report-report-at
 use Rattle.dayfile.proofs.read.read_file as read-read-file
 use Rattle.dayfile.proofs.write.write_file as write-write-file
+use Rattle.dayfile.proofs.mend.mend_file as mend-mend-file
+use Rattle.dayfile.proofs.dayfile_mend as dayfile-mend
 use Rattle.dayfile.proofs.dayfile_write as dayfile-write
 use Rattle.dayfile.proofs.dayfile_read as dayfile-read
 use Rattle.dayfile.proofs.dayfile_report as dayfile-report
@@ -31,3 +33,9 @@ dayfile-read-one κs a x y s u e f = (e ∙ sym f, refl)
 
 pub dayfile-report-one : OneOutcome dayfile-report.ended dayfile-report.Reads.Learnt
 dayfile-report-one κs a x y s u e f = (e ∙ sym f, refl)
+
+pub mend-mend-file-one : OneOutcome mend-mend-file.ended mend-mend-file.Reads.Learnt
+mend-mend-file-one κs a x y s u e f = (e .0 ∙ sym (f .0), ap (λ w. (tt, (w, tt))) (e .1 ∙ sym (f .1)))
+
+pub dayfile-mend-one : OneOutcome dayfile-mend.ended dayfile-mend.Reads.Learnt
+dayfile-mend-one κs a x y s u e f = (e .0 ∙ sym (f .0), ap (λ w. (tt, (w, tt))) (e .1 ∙ sym (f .1)))

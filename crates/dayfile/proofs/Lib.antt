@@ -7,3 +7,5 @@ pub mod Lending
 pub mod Looking
 pub mod Claimed
 pub mod Coincide
+pub mod Mendings
+pub mod Keeping

@@ -137,7 +137,7 @@ module _ (b : List ℕ) (count end : ℕ) (w : RunStands b count end) where
   run-length : length (bodyOf (runOf b)) ≡ end
   run-length = ap length (w .stands) ∙ length-take-le end b (w .inside)
 
-  file-length : length (fileOf (runOf b)) ≡ end + (3 + 2 * count)
+  pub file-length : length (fileOf (runOf b)) ≡ end + (3 + 2 * count)
   file-length = length-file (runOf b) ∙ (λ i. run-length i + (3 + 2 * sym (w .many) i))
 
   pub other-length : (length b - end ≡ 3 + 2 * count → ⊥) → false ≡ sameBytes b (fileOf (runOf b))

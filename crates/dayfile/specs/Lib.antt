@@ -6,3 +6,5 @@ pub mod Writing
 pub mod Reading
 pub mod Calls
 pub mod Claims
+pub mod Mending
+pub mod Kept

@@ -1,4 +1,4 @@
-// The day's list as a file (02 P9), for Rattle and, by the calls of this page, for C and Rust. There
+// The day's list as a file (02 P9) and its mending (02 P10), for Rattle and, by the calls of this page, for C and Rust. There
 // is no heap; everything is lent. No call has a `requires`: what is lent is tested. A refused call
 // leaves every lent byte as it was.
 ghost use mathlib.Core.Path.{_≡_};
@@ -7,8 +7,11 @@ ghost use lib.ListN.{length, drop};
 ghost use Rattle.dayfile.specs.Runs.{frontOf};
 ghost use Rattle.dayfile.specs.Writing.{writeLent, writingTold, leftBy};
 ghost use Rattle.dayfile.specs.Reading.{readOf, readingTold};
+ghost use Rattle.dayfile.specs.Mending.{mendOf, mendingTold, mendLeft};
 ghost use Rattle.dayfile.specs.Calls.{refusedResult, writingResult, readingResult, foundResult};
+ghost use Rattle.dayfile.specs.Calls.{changedBit, mendedResult, mendingResult};
 
+pub mod mend;
 pub mod read;
 pub mod refusal;
 pub mod report;
@@ -16,6 +19,9 @@ pub mod run;
 mod trailer;
 pub mod write;
 
+use mend::Mended;
+use mend::Mending;
+use mend::mend_file;
 use read::Reading;
 use read::read_file;
 use refusal::Refusal;
@@ -64,6 +70,37 @@ pub extern "C" fn dayfile_report(file: &[u8], at: usize) -> u64
         Found::Whole(number, size) => told(number, size),
         Found::Nothing => 0,
     }
+}
+
+// The file of the longest run of whole reports from the front, at the front of `out`. Answers how
+// many reports were kept, how many bytes stood after them, and whether the file changed. Refusals:
+// 24, 6.
+#[no_mangle]
+pub extern "C" fn dayfile_mend(file: &[u8], out: &mut [u8]) -> u64
+    ensures exact { λ r. ⌜ r ≡ mendingResult (mendingTold (mendOf (now (file .entry)) (length (now (out .entry))))) ⌝ }
+    ensures bytes { λ _. ⌜ now (out .exit) ≡ mendLeft (now (out .entry)) (mendOf (now (file .entry)) (length (now (out .entry)))) ⌝ }
+{
+    match mend_file(file, out) {
+        Mending::Done(said) => mended(said),
+        Mending::Refused(refusal) => refused(refusal),
+    }
+}
+
+fn mended(said: Mended) -> u64
+    requires { ⌜ (said .kept ≤ 4096) × (said .after ≤ 65536) ⌝ }
+    ensures { λ r. ⌜ r ≡ mendedResult said ⌝ }
+{
+    bit(said.changed) * 2147483648 + (said.kept as u64) * 131072 + (said.after as u64)
+}
+
+fn bit(changed: bool) -> u64
+    ensures { λ r. ⌜ r ≡ changedBit changed ⌝ }
+    ensures { λ r. ⌜ r ≤ 1 ⌝ }
+{
+    if changed {
+        return 1;
+    }
+    0
 }
 
 fn refused(refusal: Refusal) -> u64

@@ -65,6 +65,26 @@ pub fn report(file: &[u8], at: usize) -> Option<(u16, &[u8])> {
     Some(((told >> 16) as u16, &file[start..start + (told & 0xffff) as usize]))
 }
 
+/// A mended file, and what is said of it.
+#[derive(Clone, PartialEq, Eq, Debug)]
+pub struct Mended {
+    pub file: Vec<u8>,
+    /// How many reports were kept.
+    pub kept: usize,
+    /// How many bytes stood after them.
+    pub after: usize,
+    pub changed: bool,
+}
+
+/// The file of the longest run of whole reports from the front.
+pub fn mend(file: &[u8]) -> Result<Mended, Refusal> {
+    let mut out = vec![0; MOST_BYTES];
+    let told = done(raw::mend(file, &mut out))?;
+    let (changed, kept, after) = (told >> 31 == 1, told >> 17 & 0x3fff, told & 0x1ffff);
+    out.truncate(file.len() - after + FRAME + DISTANCE * kept);
+    Ok(Mended { file: out, kept, after, changed })
+}
+
 /// What a call told, or why it was refused.
 fn done(result: u64) -> Result<usize, Refusal> {
     match Refusal::numbered((result >> 32) as u32) {

@@ -10,9 +10,10 @@ use std::process::ExitCode;
 const USAGE: &str = "\
 dayfile write --list DAY.jsonl --ship NAME OUT   the file of a ship's reports of a day
 dayfile read FILE [--json]                       the reports of a file, one to a line
+dayfile mend FILE OUT                            the whole reports from the front of a cut file, with a new trailer
 ";
 
-/// Exit statuses: 0 done, 1 refused or wrong, 2 used wrongly.
+/// Exit statuses: 0 done (mend: unchanged), 1 refused or wrong, 2 used wrongly, 3 mended and changed.
 fn main() -> ExitCode {
     let arguments: Vec<String> = std::env::args().skip(1).collect();
     let words: Vec<&str> = arguments.iter().map(String::as_str).collect();
@@ -20,6 +21,7 @@ fn main() -> ExitCode {
         ["write", "--list", day, "--ship", ship, out] => write(day, ship, out),
         ["read", file] => read(file, false),
         ["read", file, "--json"] | ["read", "--json", file] => read(file, true),
+        ["mend", file, out] => mend(file, out),
         ["--help"] | ["-h"] => {
             print!("{USAGE}");
             return ExitCode::SUCCESS;
@@ -86,6 +88,16 @@ fn read(path: &str, json: bool) -> Result<ExitCode, String> {
     }
     io::stdout().write_all(text.as_bytes()).map_err(|error| format!("standard output: {error}"))?;
     Ok(ExitCode::SUCCESS)
+}
+
+/// The mended file stands in `out`, which was not there before, so the input is never written over.
+fn mend(path: &str, out: &str) -> Result<ExitCode, String> {
+    let file = fs::read(path).map_err(|error| format!("{path}: {error}"))?;
+    let mended = dayfile::mend(&file).map_err(|refusal| format!("{path}: {refusal}"))?;
+    put(out, &mended.file)?;
+    let changed = if mended.changed { "changed" } else { "unchanged" };
+    println!("{out}: kept {} reports, {} bytes stood after them, {changed}", mended.kept, mended.after);
+    Ok(if mended.changed { ExitCode::from(3) } else { ExitCode::SUCCESS })
 }
 
 /// Number, length, bytes.

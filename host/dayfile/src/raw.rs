@@ -17,6 +17,7 @@ mod exported {
         ) -> u64;
         pub fn dayfile_read(file: *const u8, size: usize) -> u64;
         pub fn dayfile_report(file: *const u8, size: usize, at: usize) -> u64;
+        pub fn dayfile_mend(file: *const u8, size: usize, out: *mut u8, room: usize) -> u64;
     }
 }
 
@@ -44,4 +45,9 @@ pub fn read(file: &[u8]) -> u64 {
 pub fn report(file: &[u8], at: usize) -> u64 {
     // Safety: the pointer is that of a slice, beside its length.
     unsafe { exported::dayfile_report(file.as_ptr(), file.len(), at) }
+}
+
+pub fn mend(file: &[u8], out: &mut [u8]) -> u64 {
+    // Safety: each pointer is that of a slice, beside its length.
+    unsafe { exported::dayfile_mend(file.as_ptr(), file.len(), out.as_mut_ptr(), out.len()) }
 }

@@ -51,6 +51,7 @@ impl Hand {
             }
             [b"write", room] => self.write(decimal(room, MOST_BYTES)?),
             [b"read"] => self.read(),
+            [b"mend", room] => self.mend(decimal(room, MOST_BYTES)?),
             _ => None,
         }
     }
@@ -89,6 +90,20 @@ impl Hand {
                 said
             }
             Err(refusal) => format!("read refused {refusal}\n"),
+        })
+    }
+}
+
+impl Hand {
+    fn mend(&self, room: usize) -> Option<String> {
+        Some(match dayfile::mend(&self.file, room) {
+            Ok(mended) => {
+                let changed = if mended.changed { "changed" } else { "unchanged" };
+                let (kept, after) = (mended.kept, mended.after);
+                let file = hex::write(&mended.file);
+                format!("mend kept {kept} after {after} {changed}\nout {file}\n")
+            }
+            Err(refusal) => format!("mend refused {refusal}\n"),
         })
     }
 }

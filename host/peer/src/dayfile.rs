@@ -1,4 +1,4 @@
-//! The day's list as a file (change request P9), from its words alone: the reports one behind the
+//! The day's list as a file (change request P9) and its mending (P10), from its words alone: the reports one behind the
 //! other, then a trailer with each report's distance back from the trailer's start, and the count.
 
 /// A report of the list.
@@ -92,4 +92,29 @@ fn whole(file: &[u8], start: usize) -> Option<(Report, usize)> {
 fn pair(file: &[u8], at: usize) -> Option<usize> {
     let bytes = file.get(at..at + 2)?;
     Some(usize::from(bytes[0]) * 256 + usize::from(bytes[1]))
+}
+
+/// A mended file, and what is said of it.
+#[derive(PartialEq, Eq, Debug)]
+pub struct Mended {
+    pub file: Vec<u8>,
+    pub kept: usize,
+    pub after: usize,
+    pub changed: bool,
+}
+
+/// The longest run of whole reports from the front, with a new trailer: 24, then 6.
+pub fn mend(lent: &[u8], room: usize) -> Result<Mended, u8> {
+    if lent.len() > MOST_BYTES {
+        return Err(24);
+    }
+    let mut list = Vec::new();
+    let mut end = 0;
+    while let Some((report, next)) = whole(lent, end) {
+        list.push(report);
+        end = next;
+    }
+    let file = write(&list, room)?;
+    let changed = file != lent;
+    Ok(Mended { file, kept: list.len(), after: lent.len() - end, changed })
 }

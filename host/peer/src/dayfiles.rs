@@ -42,7 +42,13 @@ fn read(rng: &mut Rng, file: &[u8]) -> String {
     for piece in file.chunks(PIECE) {
         text += &format!("file {}\n", hex::write(piece));
     }
-    text + "read\n"
+    text += "read\n";
+    let room = match rng.under(4) {
+        0 => file.len(),
+        1 => rng.under(file.len() + 8),
+        _ => 70_000,
+    };
+    text + &format!("mend {}\n", room.min(70_000))
 }
 
 /// The file of a list, as it is or spoiled in one way.
@@ -137,4 +143,17 @@ fn string(bytes: &[u8]) -> String {
     } else {
         hex::write(bytes)
     }
+}
+
+/// Every cut of the file of a random list, mended.
+pub fn cuts(rng: &mut Rng) -> String {
+    let count = rng.between(1, 8);
+    let list: Vec<Report> = (0..count)
+        .map(|_| {
+            let size = rng.between(1, 30);
+            Report { number: rng.draw() as u16, bytes: rng.bytes(size) }
+        })
+        .collect();
+    let file = dayfile::file(&list);
+    (0..=file.len()).map(|cut| format!("clear\nfile {}\nmend 70000\n", string(&file[..cut]))).collect()
 }

@@ -13,6 +13,7 @@ peer long-day                      the day on which the sending numbers run out 
 peer handshakes                    two worked handshakes, one `name hex` to a line
 peer dayconsole                    the lines that the day console must write for those on stdin
 peer dayfiles --seed S --count N   lines for the day console: N lists and damaged files
+peer daycuts --seed S --count N     lines for the day console: every cut of N files, mended
 peer days --seed S --calls N [--spent K] [--keep FILE] --console PROGRAM [ARGUMENT ..]
                                    random days through PROGRAM, each line compared; K days on
                                    which sending numbers run out (else 2 to each 200,000 calls);
@@ -31,7 +32,8 @@ fn main() -> ExitCode {
         ["long-day"] => print(&stored::long_day()),
         ["handshakes"] => print(&handshakes::worked()),
         ["dayconsole"] => dayconsole::run(io::stdin().lock(), BufWriter::new(io::stdout().lock())),
-        ["dayfiles", "--seed", seed, "--count", count] => day_files(seed, count),
+        ["dayfiles", "--seed", seed, "--count", count] => day_files(seed, count, dayfiles::lines),
+        ["daycuts", "--seed", seed, "--count", count] => day_files(seed, count, dayfiles::cuts),
         ["days", ..] => return run_days(&words[1..]),
         ["lists", "--seed", seed, "--count", count, "--lister", ..] => {
             return run_lists(seed.parse().ok(), count.parse().ok(), &words[6..])
@@ -54,14 +56,14 @@ fn print(text: &str) -> io::Result<()> {
     io::stdout().write_all(text.as_bytes())
 }
 
-fn day_files(seed: &str, count: &str) -> io::Result<()> {
+fn day_files(seed: &str, count: &str, made: fn(&mut rng::Rng) -> String) -> io::Result<()> {
     let (Ok(seed), Ok(count)) = (seed.parse(), count.parse::<u64>()) else {
         return Err(io::Error::other("seed and count are numbers"));
     };
     let mut rng = rng::Rng::new(seed);
     let mut output = BufWriter::new(io::stdout().lock());
     for _ in 0..count {
-        output.write_all(dayfiles::lines(&mut rng).as_bytes())?;
+        output.write_all(made(&mut rng).as_bytes())?;
     }
     output.flush()
 }
