@@ -1,0 +1,7 @@
+-- Laws that belong to no one function, and theorems about the definitions.
+pub mod Walking
+pub mod Headings
+pub mod Sums
+pub mod Laying
+pub mod Keeping
+pub mod Steps
