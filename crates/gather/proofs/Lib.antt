@@ -5,3 +5,7 @@ pub mod Sums
 pub mod Laying
 pub mod Keeping
 pub mod Steps
+pub mod Places
+pub mod Always
+pub mod Finishing
+pub mod Coincide

@@ -61,7 +61,7 @@ below-small s n = go (sumOf (take n (s .sizes)))
     go x = mathlib.Core.Logic.by-cases (native.Mathlib.Decide.decLe x 1400) (λ h. rw (borrow.Author.Tests.le-ltb 1400 x h) h) (λ h. rw (borrow.Author.Tests.lt-ltb 1400 x (omega arith)) (omega arith))
 
 -- bytes are more the more places there are
-together-mono : (f : ℕ → ℕ) (s : List ℕ) (m n : ℕ) → m ≤ n → together f (take m s) ≤ together f (take n s)
+pub together-mono : (f : ℕ → ℕ) (s : List ℕ) (m n : ℕ) → m ≤ n → together f (take m s) ≤ together f (take n s)
 unfolding together
 together-mono f [] zero n h = omega arith
 together-mono f [] (suc m) zero h = omega arith

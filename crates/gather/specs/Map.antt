@@ -1,7 +1,7 @@
 -- What the gatherer means: a map from references to totals and places (02, P2), and one message's step over it.
 use mathlib.Core.Bool.{Bool, true, false}
 use mathlib.Core.List.{List, [], _∷_, _++_}
-use Prim.Native.Nat.{ℕ, zero, suc, _+_, _-_}
+use Prim.Native.Nat.{ℕ, zero, suc, _+_, _-_, _*_}
 use lib.ListN.{length, getD, take, drop, set, replicate}
 use lib.Dec.{eqb, ltb, leb}
 use Rattle.digest.specs.Pick.{pick}
@@ -119,14 +119,18 @@ placesOf [] b = []
 placesOf (zero ∷ sizes) b = missing ∷ placesOf sizes b
 placesOf (suc n ∷ sizes) b = there (take n b) ∷ placesOf sizes (drop n b)
 
--- what the slots, with the bytes of the store from the first of them on, hold of a reference
-unfoldable pub lookUp : List Slot → List ℕ → ℕ → Entry
-lookUp [] store r = absent
-lookUp (s ∷ slots) store r =
-    pick (holds s r) (held (s .total) (placesOf (s .sizes) (take 1400 store))) (lookUp slots (drop 1400 store) r)
+-- slot k's 1,400 bytes of the store
+abbrev pub roomOf : List ℕ → ℕ → List ℕ
+roomOf store k = take 1400 (drop (k * 1400) store)
+
+-- what the slots from the k-th on hold of a reference
+unfoldable pub lookUp : ℕ → List Slot → List ℕ → ℕ → Entry
+lookUp k [] store r = absent
+lookUp k (s ∷ slots) store r =
+    pick (holds s r) (held (s .total) (placesOf (s .sizes) (roomOf store k))) (lookUp (suc k) slots store r)
 
 abbrev pub slotsOf : Gatherer → List Slot
 slotsOf g = g .first ∷ g .second ∷ g .third ∷ g .fourth ∷ []
 
 abbrev pub mapOf : Gatherer → List ℕ → Map
-mapOf g store = λ r. lookUp (slotsOf g) store r
+mapOf g store = λ r. lookUp 0 (slotsOf g) store r

@@ -144,12 +144,12 @@ fn join(
         }
         return add(g, k, s, store, part, ports, place, assembly);
     }
-    let k = vacant(g);
-    if k == 4 {
+    let room = vacant(g);
+    if room == 4 {
         return refused(g, Refusal::Full);
     }
     let s = new(place.reference, place.total);
-    add(g, k, s, store, part, ports, place, assembly)
+    add(g, room, s, store, part, ports, place, assembly)
 }
 
 // The part in its place of the slot s, which is slot k.

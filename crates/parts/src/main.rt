@@ -1,5 +1,7 @@
 // Gathers the short messages on standard input, a 2-byte length before each, and writes two lines for each: what its header
 // says, and what the gatherer answers. A length of 65535 is a drop: one byte follows, the reference.
+ghost use Prim.Native.Nat.{_≤_, _<_};
+ghost use lib.ListN.{length};
 use gather::Answer;
 use gather::Gatherer;
 use gather::Heading;
@@ -8,38 +10,73 @@ use gather::Ports;
 fn main() {
     let mut buffer = io::large_buffer();
     let n = io::read_full(0, &mut buffer);
-    gather_all(&buffer[..n]);
+    let mut store = [0u8; 5600];
+    let mut assembly = [0u8; 1400];
+    gather_all(&buffer[..n], &mut store, &mut assembly);
 }
 
 // Each message or drop, from the front; what is cut at the end is left.
-fn gather_all(s: &[u8]) {
-    let mut store = [0u8; 5600];
-    let mut assembly = [0u8; 1400];
+fn gather_all(s: &[u8], store: &mut [u8], assembly: &mut [u8]) {
     let mut g = Gatherer::fresh();
     let mut at: usize = 0;
-    while 2 < s.len() - at {
-        let size = (s[at] as usize) * 256 + (s[at + 1] as usize);
-        let from = at + 2;
-        if size == 65535 {
-            g = g.drop(s[from]);
-            io::write_all(1, b"dropped\n");
-            at = from + 1;
-        } else {
-            if s.len() - from < size {
-                return;
-            }
-            let end = from + size;
-            let message = &s[from..end];
-            show_heading(gather::read(message));
-            let step = g.step(&mut store, message, &mut assembly);
-            let answer = step.answer;
-            show(answer, message.len());
-            show_bytes(gather::datagram(answer, message, &assembly));
-            let next = step.gatherer;
-            g = next;
-            at = end;
+    while at < s.len() {
+        let end = end_of(s, at);
+        if end <= at {
+            return;
         }
+        g = item(g, &s[at..end], store, assembly);
+        at = end;
     }
+}
+
+// Where the item that begins at `at` ends; 0 where it is cut.
+fn end_of(s: &[u8], at: usize) -> usize
+    requires { ⌜ at < length (now s) ⌝ }
+    ensures { λ r. ⌜ r ≤ length (now (s .entry)) ⌝ }
+{
+    if s.len() - at < 3 {
+        return 0;
+    }
+    let size = pair(s[at], s[at + 1]);
+    if size == 65535 {
+        return at + 3;
+    }
+    if s.len() - at - 2 < size {
+        return 0;
+    }
+    at + 2 + size
+}
+
+fn pair(a: u8, b: u8) -> usize
+    ensures { λ r. ⌜ r ≤ 65535 ⌝ }
+{
+    (a as usize) * 256 + (b as usize)
+}
+
+// One item, with the two bytes before it.
+fn item(g: Gatherer, s: &[u8], store: &mut [u8], assembly: &mut [u8]) -> Gatherer {
+    if s.len() < 2 {
+        return g;
+    }
+    if pair(s[0], s[1]) == 65535 {
+        if s.len() == 3 {
+            io::write_all(1, b"dropped\n");
+            return g.drop(s[2]);
+        }
+        return g;
+    }
+    gathered(g, &s[2..], store, assembly)
+}
+
+// One message.
+fn gathered(g: Gatherer, message: &[u8], store: &mut [u8], assembly: &mut [u8]) -> Gatherer {
+    show_heading(gather::read(message));
+    let step = g.step(store, message, assembly);
+    let answer = step.answer;
+    show(answer);
+    show_bytes(gather::datagram(answer, message, assembly));
+    let next = step.gatherer;
+    next
 }
 
 fn show_heading(heading: Heading) {
@@ -65,7 +102,7 @@ fn show_heading(heading: Heading) {
     }
 }
 
-fn show(answer: Answer, size: usize) {
+fn show(answer: Answer) {
     match answer {
         Answer::Refused(refusal) => {
             io::write_all(1, b"refused ");
@@ -105,13 +142,12 @@ fn number(n: u64) {
 fn show_bytes(s: &[u8]) {
     let mut i: usize = 0;
     while i < s.len() {
-        let pair = [digit(s[i] / 16), digit(s[i] % 16)];
-        io::write_all(1, &pair);
+        show_byte(s[i]);
         i += 1;
     }
     io::write_all(1, b"\n");
 }
 
-fn digit(n: u8) -> u8 {
-    if n < 10 { n + 48 } else { n + 87 }
+fn show_byte(b: u8) {
+    io::print_hex(1, b as u64, 2);
 }
