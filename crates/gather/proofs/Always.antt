@@ -36,20 +36,20 @@ held-once absent = omega arith
 held-once (held total places) = omega arith
 
 -- 1 from the number above r on
-abbrev hot : ℕ → ℕ → ℕ
+abbrev pub hot : ℕ → ℕ → ℕ
 hot r n = pick (ltb r n) 1 0
 
-hot-no : (r n : ℕ) → n ≤ r → hot r n ≡ 0
+pub hot-no : (r n : ℕ) → n ≤ r → hot r n ≡ 0
 hot-no r n h = ap (λ (b : Bool). pick {A = ℕ} b 1 0) (le-ltb r n h)
 
-hot-yes : (r n : ℕ) → r < n → hot r n ≡ 1
+pub hot-yes : (r n : ℕ) → r < n → hot r n ≡ 1
 hot-yes r n h = ap (λ (b : Bool). pick {A = ℕ} b 1 0) (lt-ltb r n h)
 
 neither : (b : Bool) → pick b false false ≡ false
 neither true = refl
 neither false = refl
 
-holds-no : (s : Slot) (r : ℕ) → (s .reference ≡ r → ⊥) → holds s r ≡ false
+pub holds-no : (s : Slot) (r : ℕ) → (s .reference ≡ r → ⊥) → holds s r ≡ false
 holds-no s r h = rw (ne-eqb (s .reference) r h) (neither (eqb (s .total) 0))
 
 one-slot : (s : Slot) (h : Entry) (m : Map) (n : ℕ) → heldBelow n (λ r. pick (holds s r) h (m r)) ≤ heldBelow n m + hot (s .reference) n

@@ -27,7 +27,7 @@ sum-set (x ∷ s) zero n h e = omega arith
 sum-set (x ∷ s) (suc i) n h e = omega (arith, sum-set s i n (omega arith) e)
 
 -- a cut of a front
-cut-of-front : (n a m : ℕ) (d : List ℕ) → a + n ≤ m → take n (drop a (take m d)) ≡ take n (drop a d)
+pub cut-of-front : (n a m : ℕ) (d : List ℕ) → a + n ≤ m → take n (drop a (take m d)) ≡ take n (drop a d)
 cut-of-front n zero m d h = take-take n m d (omega arith)
 cut-of-front n (suc a) zero d h = absurd (let z : suc a + n ≤ 0 = h in omega arith)
 cut-of-front n (suc a) (suc m) [] h = refl

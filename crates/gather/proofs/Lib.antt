@@ -8,4 +8,6 @@ pub mod Steps
 pub mod Places
 pub mod Always
 pub mod Finishing
+pub mod Mapping
+pub mod Meaning
 pub mod Coincide

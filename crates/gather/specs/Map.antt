@@ -1,13 +1,15 @@
 -- What the gatherer means: a map from references to totals and places (02, P2), and one message's step over it.
 use mathlib.Core.Bool.{Bool, true, false}
 use mathlib.Core.List.{List, [], _∷_, _++_}
-use Prim.Native.Nat.{ℕ, zero, suc, _+_, _-_, _*_}
+use mathlib.Core.Path.{_≡_}
+use Prim.Native.Nat.{ℕ, zero, suc, _+_, _-_, _*_, _≤_, _<_}
 use lib.ListN.{length, getD, take, drop, set, replicate}
 use lib.Dec.{eqb, ltb, leb}
 use Rattle.digest.specs.Pick.{pick}
 use Rattle.digest.specs.Mac.{sameBytes}
 use Rattle.gather.specs.Header.{headingOf}
-use Rattle.gather.specs.Slot.{holds}
+use Rattle.gather.specs.Slot.{holds, sumOf}
+use Rattle.gather.specs.Gatherer.{slotAt}
 use Rattle.gather.specs.declared.slot.Slot.{Slot}
 use Rattle.gather.specs.declared.header.Ports.{Ports}
 use Rattle.gather.specs.declared.header.Place.{Place}
@@ -16,6 +18,8 @@ use Rattle.gather.specs.declared.header.Heading.the-variants as H
 use Rattle.gather.specs.declared.refusal.Refusal.{Refusal}
 use Rattle.gather.specs.declared.refusal.Refusal.the-variants as R
 use Rattle.gather.specs.declared.gatherer.Gatherer.{Gatherer}
+use Rattle.gather.specs.declared.gatherer.Answer.{Answer}
+use Rattle.gather.specs.declared.gatherer.Answer.the-variants as A
 
 -- ---- the map
 
@@ -134,3 +138,21 @@ slotsOf g = g .first ∷ g .second ∷ g .third ∷ g .fourth ∷ []
 
 abbrev pub mapOf : Gatherer → List ℕ → Map
 mapOf g store = λ r. lookUp 0 (slotsOf g) store r
+
+-- what an answer says, with the datagram that it shows
+abbrev pub saidOf : Answer → List ℕ → List ℕ → Said
+saidOf (A.Refused refusal) message assembly = refused refusal
+saidOf (A.Waiting ports r n total) message assembly = waiting r n total
+saidOf (A.Received ports start) message assembly = received (drop start message)
+saidOf (A.Gathered ports size) message assembly = gathered (take size assembly)
+
+-- a slot as steps leave it: its reference is a byte, it has eleven sizes, and its parts fit its room
+pub record Fits (s : Slot) : Type 0 where
+  pub byte : s .reference < 256
+  pub eleven : length (s .sizes) ≡ 11
+  pub bytes : sumOf (s .sizes) ≤ 1400
+
+-- a gatherer as steps leave it: and no reference is in two slots
+pub record Sound (g : Gatherer) : Type 0 where
+  pub fits : (k : ℕ) → Fits (slotAt g k)
+  pub once : (i k r : ℕ) → i < 4 → k < 4 → holds (slotAt g i) r ≡ true → holds (slotAt g k) r ≡ true → i ≡ k
