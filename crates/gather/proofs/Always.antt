@@ -52,7 +52,7 @@ neither false = refl
 pub holds-no : (s : Slot) (r : ℕ) → (s .reference ≡ r → ⊥) → holds s r ≡ false
 holds-no s r h = rw (ne-eqb (s .reference) r h) (neither (eqb (s .total) 0))
 
-one-slot : (s : Slot) (h : Entry) (m : Map) (n : ℕ) → heldBelow n (λ r. pick (holds s r) h (m r)) ≤ heldBelow n m + hot (s .reference) n
+pub one-slot : (s : Slot) (h : Entry) (m : Map) (n : ℕ) → heldBelow n (λ r. pick (holds s r) h (m r)) ≤ heldBelow n m + hot (s .reference) n
 unfolding heldBelow
 one-slot s h m zero = omega arith
 one-slot s h m (suc n) =
@@ -65,16 +65,16 @@ one-slot s h m (suc n) =
       (λ l. omega (arith, hot-no (s .reference) n l, hot-no (s .reference) (suc n) (omega arith)))
       (λ l. omega (arith, hot-yes (s .reference) n (omega arith), hot-yes (s .reference) (suc n) (omega arith))))
 
-none-held : (n : ℕ) → heldBelow n (λ r. absent) ≡ 0
+pub none-held : (n : ℕ) → heldBelow n (λ r. absent) ≡ 0
 unfolding heldBelow
 none-held zero = refl
 none-held (suc n) = omega (arith, none-held n)
 
-hot-once : (r n : ℕ) → hot r n ≤ 1
+pub hot-once : (r n : ℕ) → hot r n ≤ 1
 hot-once r n =
     by-cases (decLe n r) (λ l. omega (arith, hot-no r n l)) (λ l. omega (arith, hot-yes r n (omega arith)))
 
-few : (k : ℕ) (slots : List Slot) (store : List ℕ) (n : ℕ) → heldBelow n (lookUp k slots store) ≤ length slots
+pub few : (k : ℕ) (slots : List Slot) (store : List ℕ) (n : ℕ) → heldBelow n (lookUp k slots store) ≤ length slots
 unfolding lookUp
 few k [] store n = omega (arith, none-held n)
 few k (s ∷ slots) store n =

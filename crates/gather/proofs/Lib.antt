@@ -9,5 +9,7 @@ pub mod Places
 pub mod Always
 pub mod Finishing
 pub mod Mapping
+pub mod Counted
 pub mod Meaning
+pub mod Messages
 pub mod Coincide

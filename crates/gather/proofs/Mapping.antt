@@ -144,7 +144,7 @@ other-reference j (s ∷ slots) store store₁ (suc n) k x s₁ h e rooms h₁ h
     let rest = other-reference (suc j) slots store store₁ n k x s₁ (omega arith) (omega arith) rooms h₁ h₀ in
     λ i. pick (holds s x) (held (s .total) (placesOf (s .sizes) (room i))) (rest i)
 
-none-later : (j : ℕ) (slots : List Slot) (store : List ℕ) (r : ℕ) → ((i : ℕ) → i < length slots → holds (getD slots i free) r ≡ false)
+pub none-later : (j : ℕ) (slots : List Slot) (store : List ℕ) (r : ℕ) → ((i : ℕ) → i < length slots → holds (getD slots i free) r ≡ false)
     → lookUp j slots store r ≡ absent
 unfolding lookUp
 none-later j [] store r h = refl

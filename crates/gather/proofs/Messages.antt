@@ -1,0 +1,95 @@
+-- A step of a sound gatherer is the step of the map (`step-means`), and leaves a sound gatherer (`step-sound`).
+use mathlib.Core.Path.{_≡_, refl, sym, ap, _∙_, subst}
+use mathlib.Core.Bool.{Bool, true, false}
+use mathlib.Core.List.{List, [], _∷_, _++_}
+use mathlib.Core.Logic.{by-cases}
+use Prim.Native.Nat.{ℕ, zero, suc, _+_, _-_, _*_, _≤_, _<_}
+use native.Mathlib.Omega.{arith}
+use native.Mathlib.Decide.{decLe, ℕ-discrete}
+use lib.ListN.{length, getD, take, drop, set, replicate}
+use lib.Seq.{drop-drop}
+use lib.Dec.{eqb, ltb, leb}
+use borrow.Author.Tests.{eq-eqb, ne-eqb, lt-ltb, le-ltb, le-leb, lt-leb, eqb-true, eqb-false}
+use Rattle.digest.specs.Pick.{pick}
+use Rattle.digest.specs.Mac.{sameBytes}
+use Rattle.gather.specs.Header.{headingOf}
+use Rattle.gather.specs.Slot.{free, begun, holds, countOf, sumOf, below, sized, together}
+use Rattle.gather.specs.Gatherer.{slotAt, withSlot, heldAt, vacantAt, within, Left, leaves, refusing, said, againOf, addOf, joinOf, stepBy, stepOf}
+use Rattle.gather.specs.Map.{Part, missing, there, Entry, absent, held, Map, heldIn, have, joined, refused, waiting, received, Next, put, placed, joins, messageBy, messageOf, placesOf, roomOf, mapOf, Fits, Sound}
+use Rattle.gather.specs.declared.slot.Slot.{Slot}
+use Rattle.gather.specs.declared.header.Ports.{Ports}
+use Rattle.gather.specs.declared.header.Place.{Place}
+use Rattle.gather.specs.declared.header.Heading.{Heading}
+use Rattle.gather.specs.declared.header.Heading.the-variants as H
+use Rattle.gather.specs.declared.refusal.Refusal.the-variants as R
+use Rattle.gather.specs.declared.gatherer.Gatherer.{Gatherer}
+use Rattle.gather.specs.declared.gatherer.Answer.the-variants.{Refused, Waiting, Received}
+use Rattle.gather.proofs.Always.{holds-no}
+use Rattle.gather.proofs.Headings.{Within, part-within}
+use Rattle.gather.proofs.Places.{have-places, place-missing, place-there}
+use Rattle.gather.proofs.Sums.{together-more, together-mono, all-there}
+use Rattle.gather.proofs.Finishing.{cut-of-front}
+use Rattle.gather.proofs.Mapping.{found, none-holds, map-held, map-absent, vacant}
+use Rattle.gather.proofs.Counted.{holds-own, apart, four-held, fewer-held}
+use Rattle.gather.proofs.Meaning.{Means, put-means}
+
+-- ---- a place that is held
+
+module _ (s : Slot) (k i n : ℕ) (store : List ℕ) (place : i < 11) (fits : Fits s) (size : getD (s .sizes) i 0 ≡ suc n) where
+  upto : (m : ℕ) → m ≤ 11 → below s m ≡ sumOf (take m (s .sizes))
+  upto m h =
+      let all : sumOf (take 11 (s .sizes)) ≡ sumOf (s .sizes) = ap sumOf (lib.Seq.take-all 11 (s .sizes) (omega (arith, fits .eleven))) in
+      sym (all-there s m (sumOf (take m (s .sizes))) refl (omega (arith, together-mono (λ x. x - 1) (s .sizes) m 11 h, fits .bytes)))
+
+  one-on : below s (i + 1) ≡ below s i + n
+  one-on =
+      upto (i + 1) (omega arith)
+      ∙ together-more (λ x. x - 1) (s .sizes) i (omega (arith, fits .eleven))
+      ∙ (let z : sumOf (take i (s .sizes)) + (getD (s .sizes) i 0 - 1) ≡ below s i + n = omega (arith, upto i (omega arith), size) in z)
+
+  in-place : getD (placesOf (s .sizes) (roomOf store k)) i missing ≡ there (within store k s i)
+  in-place =
+      let width : n ≡ below s (i + 1) - below s i = omega (arith, one-on) in
+      let at : sumOf (take i (s .sizes)) ≡ below s i = sym (upto i (omega arith)) in
+      let most : below s (i + 1) ≤ 1400 = Rattle.gather.proofs.Sums.below-small s (i + 1) in
+      place-there (s .sizes) (roomOf store k) i n size
+      ∙ (λ j. there (take (width j) (drop (at j) (roomOf store k))))
+      ∙ ap there
+        (cut-of-front (below s (i + 1) - below s i) (below s i) 1400 (drop (k * 1400) store) (omega (arith, one-on))
+        ∙ ap (take (below s (i + 1) - below s i)) (drop-drop (below s i) (k * 1400) store))
+
+held-by : (g : Gatherer) (store message assembly : List ℕ) (k : ℕ) (s : Slot) (i : ℕ) (part : List ℕ) (ports : Ports) (b : Bool)
+    → (getD (s .sizes) i 0 ≡ 0 → ⊥) → sameBytes (within store k s i) part ≡ b
+    → Means message (addOf g k s i store part ports assembly)
+      (pick (sameBytes (within store k s i) part)
+      (record { said = waiting (s .reference) (have (placesOf (s .sizes) (roomOf store k))) (s .total); map = mapOf g store })
+      (record { said = refused R.Differs; map = mapOf g store }))
+unfolding addOf againOf
+held-by g store message assembly k s i part ports true h e =
+    rw (ne-eqb (getD (s .sizes) i 0) 0 h, e)
+    (record {
+      answer = ap (λ (n : ℕ). waiting (s .reference) n (s .total)) (sym (have-places (s .sizes) (roomOf store k)));
+      gathering = λ x. refl;
+    })
+held-by g store message assembly k s i part ports false h e =
+    rw (ne-eqb (getD (s .sizes) i 0) 0 h, e) (record { answer = refl; gathering = λ x. refl })
+
+-- ---- a part, whether its place is held or not
+
+module _ (g : Gatherer) (store message assembly : List ℕ) (long : 5600 ≤ length store) (roomy : 1400 ≤ length assembly) where
+  added : (k : ℕ) (s : Slot) (i : ℕ) (part : List ℕ) (ports : Ports) → k < 4 → i < 11 → Fits s → eqb (s .total) 0 ≡ false
+      → ((x : ℕ) → (x ≡ s .reference → ⊥) → holds (slotAt g k) x ≡ false)
+      → ((j : ℕ) → j < 4 → (j ≡ k → ⊥) → holds (slotAt g j) (s .reference) ≡ false)
+      → Means message (addOf g k s i store part ports assembly)
+        (placed (mapOf g store) (s .reference) (s .total) (placesOf (s .sizes) (roomOf store k)) i part (getD (placesOf (s .sizes) (roomOf store k)) i missing))
+  added k s i part ports few place fits used old others =
+      by-cases (ℕ-discrete (getD (s .sizes) i 0) 0)
+      (λ gone.
+        subst (λ (p : Part). Means message (addOf g k s i store part ports assembly) (placed (mapOf g store) (s .reference) (s .total) (placesOf (s .sizes) (roomOf store k)) i part p))
+        (sym (place-missing (s .sizes) (roomOf store k) i gone))
+        (put-means g store message assembly k s i part ports few place fits used old others long roomy gone))
+      (λ there-is.
+        let size : getD (s .sizes) i 0 ≡ suc (getD (s .sizes) i 0 - 1) = omega arith in
+        subst (λ (p : Part). Means message (addOf g k s i store part ports assembly) (placed (mapOf g store) (s .reference) (s .total) (placesOf (s .sizes) (roomOf store k)) i part p))
+        (sym (in-place s k i (getD (s .sizes) i 0 - 1) store place fits size))
+        (held-by g store message assembly k s i part ports (sameBytes (within store k s i) part) there-is refl))
