@@ -85,7 +85,7 @@ pub four-held : (g : Gatherer) (store : List ℕ) → Sound g → vacantAt g ≡
 four-held g store sound h =
     count-used 0 (slotsOf g) store
     (λ i l. ap (λ (s : Slot). eqb (s .total) 0) (slot-of g free i l) ∙ all-full g h i l)
-    (λ i l. rw (slot-of g free i l) (sound .fits i .byte))
+    (λ i l. rw (slot-of g free i l) (sound .fits i l .byte))
     (λ i k l m.
       ap (λ (s : Slot). holds s (getD (slotsOf g) i free .reference)) (slot-of g free k m)
       ∙ ap (λ (s : Slot). holds (slotAt g k) (s .reference)) (slot-of g free i (omega arith))

@@ -11,5 +11,6 @@ pub mod Finishing
 pub mod Mapping
 pub mod Counted
 pub mod Meaning
+pub mod References
 pub mod Messages
 pub mod Coincide

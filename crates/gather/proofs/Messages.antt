@@ -1,4 +1,4 @@
--- A step of a sound gatherer is the step of the map (`step-means`), and leaves a sound gatherer (`step-sound`).
+-- A step of a sound gatherer is the step of the map: `step-means`.
 use mathlib.Core.Path.{_≡_, refl, sym, ap, _∙_, subst}
 use mathlib.Core.Bool.{Bool, true, false}
 use mathlib.Core.List.{List, [], _∷_, _++_}
@@ -15,7 +15,7 @@ use Rattle.digest.specs.Mac.{sameBytes}
 use Rattle.gather.specs.Header.{headingOf}
 use Rattle.gather.specs.Slot.{free, begun, holds, countOf, sumOf, below, sized, together}
 use Rattle.gather.specs.Gatherer.{slotAt, withSlot, heldAt, vacantAt, within, Left, leaves, refusing, said, againOf, addOf, joinOf, stepBy, stepOf}
-use Rattle.gather.specs.Map.{Part, missing, there, Entry, absent, held, Map, heldIn, have, joined, refused, waiting, received, Next, put, placed, joins, messageBy, messageOf, placesOf, roomOf, mapOf, Fits, Sound}
+use Rattle.gather.specs.Map.{Part, missing, there, Entry, absent, held, Map, heldIn, have, joined, refused, waiting, received, Next, put, placed, joins, messageBy, messageOf, placesOf, roomOf, mapOf, Fits, Sound, Bytes}
 use Rattle.gather.specs.declared.slot.Slot.{Slot}
 use Rattle.gather.specs.declared.header.Ports.{Ports}
 use Rattle.gather.specs.declared.header.Place.{Place}
@@ -25,7 +25,8 @@ use Rattle.gather.specs.declared.refusal.Refusal.the-variants as R
 use Rattle.gather.specs.declared.gatherer.Gatherer.{Gatherer}
 use Rattle.gather.specs.declared.gatherer.Answer.the-variants.{Refused, Waiting, Received}
 use Rattle.gather.proofs.Always.{holds-no}
-use Rattle.gather.proofs.Headings.{Within, part-within}
+use Rattle.gather.proofs.Headings.{Within, part-within, not-first}
+use Rattle.gather.proofs.References.{reference-byte}
 use Rattle.gather.proofs.Places.{have-places, place-missing, place-there}
 use Rattle.gather.proofs.Sums.{together-more, together-mono, all-there}
 use Rattle.gather.proofs.Finishing.{cut-of-front}
@@ -57,6 +58,10 @@ module _ (s : Slot) (k i n : ℕ) (store : List ℕ) (place : i < 11) (fits : Fi
       ∙ ap there
         (cut-of-front (below s (i + 1) - below s i) (below s i) 1400 (drop (k * 1400) store) (omega (arith, one-on))
         ∙ ap (take (below s (i + 1) - below s i)) (drop-drop (below s i) (k * 1400) store))
+
+zeros : sumOf (replicate 11 0) ≤ 1400
+unfolding together
+zeros = omega arith
 
 held-by : (g : Gatherer) (store message assembly : List ℕ) (k : ℕ) (s : Slot) (i : ℕ) (part : List ℕ) (ports : Ports) (b : Bool)
     → (getD (s .sizes) i 0 ≡ 0 → ⊥) → sameBytes (within store k s i) part ≡ b
@@ -93,3 +98,77 @@ module _ (g : Gatherer) (store message assembly : List ℕ) (long : 5600 ≤ len
         subst (λ (p : Part). Means message (addOf g k s i store part ports assembly) (placed (mapOf g store) (s .reference) (s .total) (placesOf (s .sizes) (roomOf store k)) i part p))
         (sym (in-place s k i (getD (s .sizes) i 0 - 1) store place fits size))
         (held-by g store message assembly k s i part ports (sameBytes (within store k s i) part) there-is refl))
+
+  -- what a slot that holds a reference says
+  own : (s : Slot) (r : ℕ) → holds s r ≡ true → (eqb (s .total) 0 ≡ false) × (s .reference ≡ r)
+  own s r e =
+      let both = not-first Bool (eqb (s .total) 0) false (eqb (s .reference) r) true e (λ q. let z : _≡_ {A = ℕ} 0 1 = cc in omega arith) in
+      (both .0, eqb-true (s .reference) r (both .1))
+
+  free-holds : (s : Slot) (x : ℕ) → s .total ≡ 0 → holds s x ≡ false
+  free-holds s x e = rw (eq-eqb (s .total) 0 e)
+
+  zero-sizes : (i : ℕ) → _≡_ {A = ℕ} (getD (replicate 11 0) i 0) 0
+  zero-sizes i = all-zero 11 i
+    where
+      all-zero : (n i : ℕ) → _≡_ {A = ℕ} (getD (replicate n 0) i 0) 0
+      all-zero zero i = refl
+      all-zero (suc n) zero = refl
+      all-zero (suc n) (suc i) = all-zero n i
+
+  module _ (sound : Sound g) (part : List ℕ) (ports : Ports) (p : Place) (positive : 0 < p .place) (eleven : p .place ≤ 11)
+      (several : p .total ≡ 0 → ⊥) (byte : p .reference < 256) where
+    abbrev h : ℕ
+    h = heldAt g (p .reference)
+
+    held-means : h < 4 → (b : Bool) → eqb (slotAt g h .total) (p .total) ≡ b
+        → Means message (joinOf g store part ports p assembly)
+          (joins (mapOf g store) p part (held (slotAt g h .total) (placesOf (slotAt g h .sizes) (roomOf store h))))
+    unfolding joinOf
+    held-means few true e =
+        let is = own (slotAt g h) (p .reference) (found g (p .reference) few) in
+        rw (lt-ltb h 4 few, e)
+        (subst (λ (r : ℕ). Means message (addOf g h (slotAt g h) (p .place - 1) store part ports assembly) (placed (mapOf g store) r (slotAt g h .total) (placesOf (slotAt g h .sizes) (roomOf store h)) (p .place - 1) part (getD (placesOf (slotAt g h .sizes) (roomOf store h)) (p .place - 1) missing)))
+          (is .1)
+          (added h (slotAt g h) (p .place - 1) part ports few (omega arith) (sound .fits h few) (is .0) (λ x n. holds-no (slotAt g h) x (λ q. n (sym q)))
+          (λ j l n. apart g sound h j (slotAt g h .reference) few l (λ q. n (sym q)) (holds-own (slotAt g h) (is .0)))))
+    held-means few false e = rw (lt-ltb h 4 few, e) (record { answer = refl; gathering = λ x. refl })
+
+    new-means : 4 ≤ h → Means message (joinOf g store part ports p assembly) (joins (mapOf g store) p part absent)
+    unfolding joinOf placesOf
+    new-means none =
+        by-cases (ℕ-discrete (vacantAt g) 4)
+        (λ e.
+          rw (le-ltb h 4 none, eq-eqb (vacantAt g) 4 e, le-leb 4 (heldIn (mapOf g store)) (omega (arith, four-held g store sound e)))
+          (record { answer = refl; gathering = λ x. refl }))
+        (λ n.
+          let v = vacant g n in
+          let s = begun (p .reference) (p .total) in
+          let fits : Fits s = record { byte = byte; eleven = refl; bytes = zeros } in
+          rw (le-ltb h 4 none, ne-eqb (vacantAt g) 4 n, lt-leb 4 (heldIn (mapOf g store)) (fewer-held g store n))
+          (put-means g store message assembly (vacantAt g) s (p .place - 1) part ports (v .0) (omega arith) fits
+            (ne-eqb (p .total) 0 several) (λ x q. free-holds (slotAt g (vacantAt g)) x (v .1))
+            (λ j l q. none-holds g (p .reference) none j l) long roomy (zero-sizes (p .place - 1))))
+
+    join-means : Means message (joinOf g store part ports p assembly) (joins (mapOf g store) p part (mapOf g store (p .reference)))
+    join-means =
+        by-cases (decLe 4 h)
+        (λ none. subst (λ (e : Entry). Means message (joinOf g store part ports p assembly) (joins (mapOf g store) p part e)) (sym (map-absent g store (p .reference) none)) (new-means none))
+        (λ l.
+          let few : h < 4 = omega arith in
+          subst (λ (e : Entry). Means message (joinOf g store part ports p assembly) (joins (mapOf g store) p part e)) (sym (map-held g store (p .reference) few)) (held-means few (eqb (slotAt g h .total) (p .total)) refl))
+
+  by-means : Sound g → Bytes message → (heading : Heading) → headingOf message ≡ heading
+      → Means message (stepBy g store message assembly heading) (messageBy (mapOf g store) message heading)
+  by-means sound bytes H.Refused e = record { answer = refl; gathering = λ x. refl }
+  by-means sound bytes (H.Alone ports start) e = record { answer = refl; gathering = λ x. refl }
+  by-means sound bytes (H.Part ports start p) e =
+      let w = part-within message ports start p e in
+      join-means sound (drop start message) ports p (w .positive) (omega (arith, w .up-to, w .eleven))
+      (λ z. omega (arith, w .up-to, w .positive)) (reference-byte message ports start p bytes e)
+
+  -- the step of the gatherer is the step of the map
+  pub step-means : Sound g → Bytes message → Means message (stepOf g store message assembly) (messageOf (mapOf g store) message)
+  unfolding stepOf
+  step-means sound bytes =
+      rw (le-ltb (length store) 5600 long, le-ltb (length assembly) 1400 roomy) (by-means sound bytes (headingOf message) refl)

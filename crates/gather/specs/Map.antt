@@ -154,5 +154,10 @@ pub record Fits (s : Slot) : Type 0 where
 
 -- a gatherer as steps leave it: and no reference is in two slots
 pub record Sound (g : Gatherer) : Type 0 where
-  pub fits : (k : ℕ) → Fits (slotAt g k)
+  pub fits : (k : ℕ) → k < 4 → Fits (slotAt g k)
   pub once : (i k r : ℕ) → i < 4 → k < 4 → holds (slotAt g i) r ≡ true → holds (slotAt g k) r ≡ true → i ≡ k
+
+-- each is a byte
+unfoldable pub Bytes : List ℕ → Type 0
+Bytes [] = _≡_ {A = ℕ} 0 0
+Bytes (x ∷ s) = (x < 256) × Bytes s
