@@ -98,7 +98,7 @@ pub record Keeps (g : Gatherer) (store assembly : List ℕ) (l : Left) : Type 0 
   pub buffers : (refusal : Refusal) → l .answer ≡ Refused refusal → (l .store ≡ store) × (l .assembly ≡ assembly)
   pub gathering : (refusal : Refusal) → l .answer ≡ Refused refusal → (refusal ≡ R.Long → ⊥) → l .gatherer ≡ g
 
-either-way : (A : Type 0) (P : A → Type 0) (b : Bool) (x y : A) → P x → P y → P (pick b x y)
+pub either-way : (A : Type 0) (P : A → Type 0) (b : Bool) (x y : A) → P x → P y → P (pick b x y)
 either-way A P true x y p q = p
 either-way A P false x y p q = q
 

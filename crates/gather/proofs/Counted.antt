@@ -8,7 +8,7 @@ use native.Mathlib.Omega.{arith}
 use native.Mathlib.Decide.{decLe, ℕ-discrete}
 use lib.ListN.{length, getD}
 use lib.Dec.{eqb}
-use borrow.Author.Tests.{eq-eqb, ne-eqb}
+use borrow.Author.Tests.{eq-eqb, ne-eqb, eqb-true}
 use Rattle.digest.specs.Pick.{pick}
 use Rattle.gather.specs.Slot.{free, holds}
 use Rattle.gather.specs.Gatherer.{slotAt, vacantAt}
@@ -16,10 +16,17 @@ use Rattle.gather.specs.Map.{Entry, absent, held, Map, isHeld, heldBelow
 use Rattle.gather.specs.declared.slot.Slot.{Slot}
 use Rattle.gather.specs.declared.gatherer.Gatherer.{Gatherer}
 use Rattle.gather.proofs.Always.{hot, hot-no, hot-yes, hot-once, holds-no, one-slot, none-held, few}
+use Rattle.gather.proofs.Headings.{not-first}
 use Rattle.gather.proofs.Mapping.{none-later, slot-of, vacant, all-full}
 
 pub holds-own : (s : Slot) → eqb (s .total) 0 ≡ false → holds s (s .reference) ≡ true
 holds-own s h = rw (h, eq-eqb (s .reference) (s .reference) refl)
+
+-- what a slot that holds a reference says
+pub owned : (s : Slot) (r : ℕ) → holds s r ≡ true → (eqb (s .total) 0 ≡ false) × (s .reference ≡ r)
+owned s r e =
+    let both = not-first Bool (eqb (s .total) 0) false (eqb (s .reference) r) true e (λ q. let z : _≡_ {A = ℕ} 0 1 = cc in omega arith) in
+    (both .0, eqb-true (s .reference) r (both .1))
 
 -- a slot in use whose reference is held nowhere else is one more
 one-used : (s : Slot) (h : Entry) (m : Map) (n : ℕ) → eqb (s .total) 0 ≡ false → isHeld h ≡ 1 → isHeld (m (s .reference)) ≡ 0

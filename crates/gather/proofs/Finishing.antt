@@ -20,7 +20,7 @@ use Rattle.gather.proofs.Laying.{length-cut}
 use Rattle.gather.proofs.Places.{joined-places, placed-between, places-front}
 
 -- one size more
-sum-set : (sizes : List ℕ) (i n : ℕ) → i < length sizes → getD sizes i 0 ≡ 0 → sumOf (set sizes i (n + 1)) ≡ sumOf sizes + n
+pub sum-set : (sizes : List ℕ) (i n : ℕ) → i < length sizes → getD sizes i 0 ≡ 0 → sumOf (set sizes i (n + 1)) ≡ sumOf sizes + n
 unfolding together
 sum-set [] i n h e = absurd (let z : suc i ≤ 0 = h in omega arith)
 sum-set (x ∷ s) zero n h e = omega arith

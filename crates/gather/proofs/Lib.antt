@@ -13,4 +13,5 @@ pub mod Counted
 pub mod Meaning
 pub mod References
 pub mod Messages
+pub mod Runs
 pub mod Coincide

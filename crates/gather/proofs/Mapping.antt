@@ -40,7 +40,7 @@ pub found : (g : Gatherer) (r : ℕ) → heldAt g r < 4 → holds (slotAt g (hel
 unfolding heldAt
 found g r h = found-by g r (holds (g .first) r) (holds (g .second) r) (holds (g .third) r) (holds (g .fourth) r) refl refl refl refl h
 
-at-four : (g : Gatherer) (P : Slot → Type 0) → P (g .first) → P (g .second) → P (g .third) → P (g .fourth) → (i : ℕ) → i < 4 → P (slotAt g i)
+pub at-four : (g : Gatherer) (P : Slot → Type 0) → P (g .first) → P (g .second) → P (g .third) → P (g .fourth) → (i : ℕ) → i < 4 → P (slotAt g i)
 unfolding slotAt
 at-four g P a b c d zero h = a
 at-four g P a b c d (suc zero) h = b
@@ -59,6 +59,17 @@ none-by g r false false false false ea eb ec ed h = at-four g (λ s. holds s r �
 pub none-holds : (g : Gatherer) (r : ℕ) → 4 ≤ heldAt g r → (i : ℕ) → i < 4 → holds (slotAt g i) r ≡ false
 unfolding heldAt
 none-holds g r h = none-by g r (holds (g .first) r) (holds (g .second) r) (holds (g .third) r) (holds (g .fourth) r) refl refl refl refl h
+
+most-by : (a b c d : Bool) → first-of a b c d ≤ 4
+most-by true b c d = omega arith
+most-by false true c d = omega arith
+most-by false false true d = omega arith
+most-by false false false true = omega arith
+most-by false false false false = omega arith
+
+pub most-four : (g : Gatherer) (r : ℕ) → heldAt g r ≤ 4
+unfolding heldAt
+most-four g r = most-by (holds (g .first) r) (holds (g .second) r) (holds (g .third) r) (holds (g .fourth) r)
 
 -- what the map says of a reference
 entryAt : Gatherer → List ℕ → ℕ → Entry

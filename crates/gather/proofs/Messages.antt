@@ -25,13 +25,13 @@ use Rattle.gather.specs.declared.refusal.Refusal.the-variants as R
 use Rattle.gather.specs.declared.gatherer.Gatherer.{Gatherer}
 use Rattle.gather.specs.declared.gatherer.Answer.the-variants.{Refused, Waiting, Received}
 use Rattle.gather.proofs.Always.{holds-no}
-use Rattle.gather.proofs.Headings.{Within, part-within, not-first}
+use Rattle.gather.proofs.Headings.{Within, part-within}
 use Rattle.gather.proofs.References.{reference-byte}
 use Rattle.gather.proofs.Places.{have-places, place-missing, place-there}
 use Rattle.gather.proofs.Sums.{together-more, together-mono, all-there}
 use Rattle.gather.proofs.Finishing.{cut-of-front}
 use Rattle.gather.proofs.Mapping.{found, none-holds, map-held, map-absent, vacant}
-use Rattle.gather.proofs.Counted.{holds-own, apart, four-held, fewer-held}
+use Rattle.gather.proofs.Counted.{holds-own, owned, apart, four-held, fewer-held}
 use Rattle.gather.proofs.Meaning.{Means, put-means}
 
 -- ---- a place that is held
@@ -59,7 +59,7 @@ module _ (s : Slot) (k i n : ℕ) (store : List ℕ) (place : i < 11) (fits : Fi
         (cut-of-front (below s (i + 1) - below s i) (below s i) 1400 (drop (k * 1400) store) (omega (arith, one-on))
         ∙ ap (take (below s (i + 1) - below s i)) (drop-drop (below s i) (k * 1400) store))
 
-zeros : sumOf (replicate 11 0) ≤ 1400
+pub zeros : sumOf (replicate 11 0) ≤ 1400
 unfolding together
 zeros = omega arith
 
@@ -99,12 +99,6 @@ module _ (g : Gatherer) (store message assembly : List ℕ) (long : 5600 ≤ len
         (sym (in-place s k i (getD (s .sizes) i 0 - 1) store place fits size))
         (held-by g store message assembly k s i part ports (sameBytes (within store k s i) part) there-is refl))
 
-  -- what a slot that holds a reference says
-  own : (s : Slot) (r : ℕ) → holds s r ≡ true → (eqb (s .total) 0 ≡ false) × (s .reference ≡ r)
-  own s r e =
-      let both = not-first Bool (eqb (s .total) 0) false (eqb (s .reference) r) true e (λ q. let z : _≡_ {A = ℕ} 0 1 = cc in omega arith) in
-      (both .0, eqb-true (s .reference) r (both .1))
-
   free-holds : (s : Slot) (x : ℕ) → s .total ≡ 0 → holds s x ≡ false
   free-holds s x e = rw (eq-eqb (s .total) 0 e)
 
@@ -126,7 +120,7 @@ module _ (g : Gatherer) (store message assembly : List ℕ) (long : 5600 ≤ len
           (joins (mapOf g store) p part (held (slotAt g h .total) (placesOf (slotAt g h .sizes) (roomOf store h))))
     unfolding joinOf
     held-means few true e =
-        let is = own (slotAt g h) (p .reference) (found g (p .reference) few) in
+        let is = owned (slotAt g h) (p .reference) (found g (p .reference) few) in
         rw (lt-ltb h 4 few, e)
         (subst (λ (r : ℕ). Means message (addOf g h (slotAt g h) (p .place - 1) store part ports assembly) (placed (mapOf g store) r (slotAt g h .total) (placesOf (slotAt g h .sizes) (roomOf store h)) (p .place - 1) part (getD (placesOf (slotAt g h .sizes) (roomOf store h)) (p .place - 1) missing)))
           (is .1)

@@ -11,6 +11,7 @@ use lib.Dec.{eqb, ltb}
 use Rattle.digest.specs.Pick.{pick}
 use Rattle.gather.specs.Header.{nothing, withPorts, withPlace, elementOf, onward, elementsFrom, walkedOf, placedOf, judgedOf, headingBy, headingOf}
 use Rattle.gather.specs.Map.{Bytes}
+use Rattle.gather.proofs.Always.{either-way}
 use Rattle.gather.specs.declared.header.Ports.{Ports}
 use Rattle.gather.specs.declared.header.Place.{Place}
 use Rattle.gather.specs.declared.header.Noted.{Noted}
@@ -41,10 +42,6 @@ get-byte (x ∷ s) (suc i) b = get-byte s i (b .1)
 pub data Small : Elements → Type 0 where
   no-fault : Small Fault
   a-byte : {n : Noted} → n .place .reference < 256 → Small (Whole n)
-
-either-way : (A : Type 0) (P : A → Type 0) (b : Bool) (x y : A) → P x → P y → P (pick b x y)
-either-way A P true x y p q = p
-either-way A P false x y p q = q
 
 element-small : (n : Noted) (number : ℕ) (b : List ℕ) → n .place .reference < 256 → Bytes b → Small (elementOf n number b)
 unfolding elementOf
