@@ -60,10 +60,10 @@ one-slot s h m (suc n) =
     by-cases (ℕ-discrete (s .reference) n)
     (λ e. omega (arith, held-once (pick (holds s n) h (m n)), hot-no (s .reference) n (omega arith), hot-yes (s .reference) (suc n) (omega arith)))
     (λ e.
-      let same : isHeld (pick (holds s n) h (m n)) ≡ isHeld (m n) = ap (λ (b : Bool). isHeld (pick b h (m n))) (holds-no s n e) in
-      by-cases (decLe n (s .reference))
-      (λ l. omega (arith, hot-no (s .reference) n l, hot-no (s .reference) (suc n) (omega arith)))
-      (λ l. omega (arith, hot-yes (s .reference) n (omega arith), hot-yes (s .reference) (suc n) (omega arith))))
+    let same : isHeld (pick (holds s n) h (m n)) ≡ isHeld (m n) = ap (λ (b : Bool). isHeld (pick b h (m n))) (holds-no s n e) in
+    by-cases (decLe n (s .reference))
+    (λ l. omega (arith, hot-no (s .reference) n l, hot-no (s .reference) (suc n) (omega arith)))
+    (λ l. omega (arith, hot-yes (s .reference) n (omega arith), hot-yes (s .reference) (suc n) (omega arith))))
 
 pub none-held : (n : ℕ) → heldBelow n (λ r. absent) ≡ 0
 unfolding heldBelow
@@ -78,8 +78,12 @@ pub few : (k : ℕ) (slots : List Slot) (store : List ℕ) (n : ℕ) → heldBel
 unfolding lookUp
 few k [] store n = omega (arith, none-held n)
 few k (s ∷ slots) store n =
-    omega (arith, one-slot s (held (s .total) (placesOf (s .sizes) (roomOf store k))) (lookUp (suc k) slots store) n,
-      few (suc k) slots store n, hot-once (s .reference) n)
+    omega (
+      arith,
+      one-slot s (held (s .total) (placesOf (s .sizes) (roomOf store k))) (lookUp (suc k) slots store) n,
+      few (suc k) slots store n,
+      hot-once (s .reference) n,
+    )
 
 -- whatever the gatherer and the store are, at most four references are held
 pub four-references : (g : Gatherer) (store : List ℕ) → heldIn (mapOf g store) ≤ 4

@@ -26,9 +26,10 @@ gatherer-gatherer-drop-one κs a x y s u e f = (e ∙ sym f, refl)
 
 pub gatherer-gatherer-step-one : OneOutcome gatherer-gatherer-step.ended gatherer-gatherer-step.Reads.Learnt
 gatherer-gatherer-step-one κs a x y s u e f =
-    let same = e ∙ sym f in
-    ( ap (λ (l : Left). record { gatherer = l .gatherer; answer = l .answer }) same,
-      ap (λ (l : Left). (tt, (l .store, (tt, (l .assembly, tt))))) same )
+    let same = e ∙ sym f in (
+      ap (λ (l : Left). record { gatherer = l .gatherer; answer = l .answer }) same,
+      ap (λ (l : Left). (tt, (l .store, (tt, (l .assembly, tt))))) same,
+    )
 
 pub gatherer-datagram-one : OneOutcomeBy gatherer-datagram.ended (λ κs x y. now x ≡ now y) gatherer-datagram.Reads.Learnt
 gatherer-datagram-one κs a x y s u e f = (e ∙ sym f, refl)

@@ -37,16 +37,16 @@ one-used s h m (suc n) u eh em =
     let rest = one-used s h m n u eh em in
     by-cases (ℕ-discrete (s .reference) n)
     (λ e.
-      let yes-held : isHeld (pick (holds s n) h (m n)) ≡ 1 =
-        ap (λ (x : ℕ). isHeld (pick (holds s x) h (m x))) (sym e)
-        ∙ ap (λ (b : Bool). isHeld (pick b h (m (s .reference)))) (holds-own s u) ∙ eh in
-      let not-held : isHeld (m n) ≡ 0 = ap (λ (x : ℕ). isHeld (m x)) (sym e) ∙ em in
-      omega (arith, hot-no (s .reference) n (omega arith), hot-yes (s .reference) (suc n) (omega arith)))
+    let yes-held : isHeld (pick (holds s n) h (m n)) ≡ 1 =
+    ap (λ (x : ℕ). isHeld (pick (holds s x) h (m x))) (sym e)
+    ∙ ap (λ (b : Bool). isHeld (pick b h (m (s .reference)))) (holds-own s u) ∙ eh in
+    let not-held : isHeld (m n) ≡ 0 = ap (λ (x : ℕ). isHeld (m x)) (sym e) ∙ em in
+    omega (arith, hot-no (s .reference) n (omega arith), hot-yes (s .reference) (suc n) (omega arith)))
     (λ e.
-      let same : isHeld (pick (holds s n) h (m n)) ≡ isHeld (m n) = ap (λ (b : Bool). isHeld (pick b h (m n))) (holds-no s n e) in
-      by-cases (decLe n (s .reference))
-      (λ l. omega (arith, hot-no (s .reference) n l, hot-no (s .reference) (suc n) (omega arith)))
-      (λ l. omega (arith, hot-yes (s .reference) n (omega arith), hot-yes (s .reference) (suc n) (omega arith))))
+    let same : isHeld (pick (holds s n) h (m n)) ≡ isHeld (m n) = ap (λ (b : Bool). isHeld (pick b h (m n))) (holds-no s n e) in
+    by-cases (decLe n (s .reference))
+    (λ l. omega (arith, hot-no (s .reference) n l, hot-no (s .reference) (suc n) (omega arith)))
+    (λ l. omega (arith, hot-yes (s .reference) n (omega arith), hot-yes (s .reference) (suc n) (omega arith))))
 
 -- a free one is none
 one-free : (s : Slot) (h : Entry) (m : Map) (n : ℕ) → s .total ≡ 0 → heldBelow n (λ r. pick (holds s r) h (m r)) ≡ heldBelow n m
@@ -66,9 +66,12 @@ count-used j [] store used byte apart = none-held 256
 count-used j (s ∷ slots) store used byte apart =
     let rest = count-used (suc j) slots store (λ i l. used (suc i) (omega arith)) (λ i l. byte (suc i) (omega arith)) (λ i k l h. apart (suc i) (suc k) (omega arith) (omega arith)) in
     let none : isHeld (lookUp (suc j) slots store (s .reference)) ≡ 0 =
-      ap isHeld (none-later (suc j) slots store (s .reference) (λ i l. apart 0 (suc i) (omega arith) (omega arith))) in
-    omega (arith, one-used s (held (s .total) (placesOf (s .sizes) (roomOf store j))) (lookUp (suc j) slots store) 256 (used 0 (omega arith)) refl none,
-      hot-yes (s .reference) 256 (byte 0 (omega arith)))
+    ap isHeld (none-later (suc j) slots store (s .reference) (λ i l. apart 0 (suc i) (omega arith) (omega arith))) in
+    omega (
+      arith,
+      one-used s (held (s .total) (placesOf (s .sizes) (roomOf store j))) (lookUp (suc j) slots store) 256 (used 0 (omega arith)) refl none,
+      hot-yes (s .reference) 256 (byte 0 (omega arith)),
+    )
 
 count-free : (j : ℕ) (slots : List Slot) (store : List ℕ) (v : ℕ) → v < length slots → getD slots v free .total ≡ 0
     → heldBelow 256 (lookUp j slots store) < length slots
@@ -77,8 +80,12 @@ count-free j [] store v h e = absurd (let z : suc v ≤ 0 = h in omega arith)
 count-free j (s ∷ slots) store zero h e =
     omega (arith, one-free s (held (s .total) (placesOf (s .sizes) (roomOf store j))) (lookUp (suc j) slots store) 256 e, few (suc j) slots store 256)
 count-free j (s ∷ slots) store (suc v) h e =
-    omega (arith, one-slot s (held (s .total) (placesOf (s .sizes) (roomOf store j))) (lookUp (suc j) slots store) 256,
-      count-free (suc j) slots store v (omega arith) e, hot-once (s .reference) 256)
+    omega (
+      arith,
+      one-slot s (held (s .total) (placesOf (s .sizes) (roomOf store j))) (lookUp (suc j) slots store) 256,
+      count-free (suc j) slots store v (omega arith) e,
+      hot-once (s .reference) 256,
+    )
 
 -- two slots of a sound gatherer do not hold one reference
 pub apart : (g : Gatherer) → Sound g → (i k r : ℕ) → i < 4 → k < 4 → (i ≡ k → ⊥) → holds (slotAt g i) r ≡ true → holds (slotAt g k) r ≡ false
@@ -94,9 +101,9 @@ four-held g store sound h =
     (λ i l. ap (λ (s : Slot). eqb (s .total) 0) (slot-of g free i l) ∙ all-full g h i l)
     (λ i l. rw (slot-of g free i l) (sound .fits i l .byte))
     (λ i k l m.
-      ap (λ (s : Slot). holds s (getD (slotsOf g) i free .reference)) (slot-of g free k m)
-      ∙ ap (λ (s : Slot). holds (slotAt g k) (s .reference)) (slot-of g free i (omega arith))
-      ∙ apart g sound i k (slotAt g i .reference) (omega arith) m (λ e. omega arith) (holds-own (slotAt g i) (all-full g h i (omega arith))))
+    ap (λ (s : Slot). holds s (getD (slotsOf g) i free .reference)) (slot-of g free k m)
+    ∙ ap (λ (s : Slot). holds (slotAt g k) (s .reference)) (slot-of g free i (omega arith))
+    ∙ apart g sound i k (slotAt g i .reference) (omega arith) m (λ e. omega arith) (holds-own (slotAt g i) (all-full g h i (omega arith))))
 
 pub fewer-held : (g : Gatherer) (store : List ℕ) → (vacantAt g ≡ 4 → ⊥) → heldIn (mapOf g store) < 4
 fewer-held g store h =

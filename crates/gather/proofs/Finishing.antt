@@ -65,9 +65,13 @@ module _ (s : Slot) (k i : ℕ) (store part : List ℕ) (few : k < 4) (eleven : 
   size-front =
       let l : length (take at (roomOf store k)) ≡ at = length-take-le at (roomOf store k) (omega (arith, size-room, at-most)) in
       let u : length (take (end - at) (drop at (roomOf store k))) ≡ end - at =
-        length-cut (end - at) at (roomOf store k) (omega (arith, size-room, at-most)) in
-      omega (arith, at-most, length-append (take at (roomOf store k) ++ part) (take (end - at) (drop at (roomOf store k))),
-        length-append (take at (roomOf store k)) part)
+      length-cut (end - at) at (roomOf store k) (omega (arith, size-room, at-most)) in
+      omega (
+        arith,
+        at-most,
+        length-append (take at (roomOf store k) ++ part) (take (end - at) (drop at (roomOf store k))),
+        length-append (take at (roomOf store k)) part,
+      )
 
   -- the places with the part in its own, read from the bytes as they then stand
   set-places : placesOf (set (s .sizes) i (length part + 1)) front ≡ set (placesOf (s .sizes) (roomOf store k)) i (there part)
@@ -77,7 +81,7 @@ module _ (s : Slot) (k i : ℕ) (store part : List ℕ) (few : k < 4) (eleven : 
       let rest = drop (end - at) y in
       let l : length x ≡ at = length-take-le at (roomOf store k) (omega (arith, size-room, at-most)) in
       let cut : front ++ rest ≡ x ++ part ++ y =
-        append-assoc (x ++ part) (take (end - at) y) rest ∙ ap (λ (q : List ℕ). x ++ part ++ q) (take-append-drop (end - at) y) in
+      append-assoc (x ++ part) (take (end - at) y) rest ∙ ap (λ (q : List ℕ). x ++ part ++ q) (take-append-drop (end - at) y) in
       let size : sumOf (set (s .sizes) i (length part + 1)) ≡ end + length part = sum-set (s .sizes) i (length part) (omega arith) gone in
       sym (places-front (set (s .sizes) i (length part + 1)) front rest (omega (arith, size, size-front)))
       ∙ ap (placesOf (set (s .sizes) i (length part + 1))) cut
@@ -88,19 +92,19 @@ module _ (s : Slot) (k i : ℕ) (store part : List ℕ) (few : k < 4) (eleven : 
   bytes : lower store k s i ++ part ++ upper store k s i ≡ front
   bytes =
       let low : lower store k s i ≡ take at (roomOf store k) =
-        (λ j. take (here j - 0) (drop (add-zero (k * 1400) j) store))
-        ∙ ap (λ (m : ℕ). take m (drop (k * 1400) store)) (let z : at - 0 ≡ at = omega arith in z)
-        ∙ sym (take-take at 1400 (drop (k * 1400) store) (omega (arith, at-most))) in
+      (λ j. take (here j - 0) (drop (add-zero (k * 1400) j) store))
+      ∙ ap (λ (m : ℕ). take m (drop (k * 1400) store)) (let z : at - 0 ≡ at = omega arith in z)
+      ∙ sym (take-take at 1400 (drop (k * 1400) store) (omega (arith, at-most))) in
       let up : upper store k s i ≡ take (end - at) (drop at (roomOf store k)) =
-        (λ j. take (whole j - here j) (drop (k * 1400 + here j) store))
-        ∙ ap (take (end - at)) (sym (drop-drop at (k * 1400) store))
-        ∙ sym (cut-of-front (end - at) at 1400 (drop (k * 1400) store) (omega (arith, at-most))) in
+      (λ j. take (whole j - here j) (drop (k * 1400 + here j) store))
+      ∙ ap (take (end - at)) (sym (drop-drop at (k * 1400) store))
+      ∙ sym (cut-of-front (end - at) at 1400 (drop (k * 1400) store) (omega (arith, at-most))) in
       λ j. low j ++ part ++ up j
 
   -- "a completed datagram is the parts by place"
   pub finished-joined : (assembly : List ℕ) → 1400 ≤ length assembly
       → take (below s 11 + length part) (laidOver assembly 0 (lower store k s i ++ part ++ upper store k s i))
-        ≡ joined (set (placesOf (s .sizes) (roomOf store k)) i (there part))
+      ≡ joined (set (placesOf (s .sizes) (roomOf store k)) i (there part))
   finished-joined assembly h =
       let size : sumOf (set (s .sizes) i (length part + 1)) ≡ end + length part = sum-set (s .sizes) i (length part) (omega arith) gone in
       ap (λ (q : List ℕ). take (below s 11 + length part) (laidOver assembly 0 q)) bytes
@@ -120,22 +124,22 @@ module _ (s : Slot) (k i : ℕ) (store part : List ℕ) (few : k < 4) (eleven : 
       let l : length x ≡ base + below s i = length-take-le (base + below s i) store (omega (arith, here, at-most)) in
       let z : below s i - 0 ≡ below s i = omega arith in
       let first : drop base x ≡ lower store k s i =
-        ap (λ (m : ℕ). drop m x) (sym (add-zero base))
-        ∙ ap (λ (q : List ℕ). drop (base + 0) q) (take-add base (below s i) store)
-        ∙ ap (λ (m : ℕ). drop m (take base store ++ take (below s i) (drop base store))) (add-zero base)
-        ∙ drop-at (take base store) (take (below s i) (drop base store)) base (length-take-le base store (omega arith))
-        ∙ sym (λ j. take (z j) (drop (add-zero base j) store)) in
+      ap (λ (m : ℕ). drop m x) (sym (add-zero base))
+      ∙ ap (λ (q : List ℕ). drop (base + 0) q) (take-add base (below s i) store)
+      ∙ ap (λ (m : ℕ). drop m (take base store ++ take (below s i) (drop base store))) (add-zero base)
+      ∙ drop-at (take base store) (take (below s i) (drop base store)) base (length-take-le base store (omega arith))
+      ∙ sym (λ j. take (z j) (drop (add-zero base j) store)) in
       let behind : drop base store₁ ≡ front ++ tail =
-        ap (drop base) (e ∙ append-assoc x (part ++ upper store k s i) tail)
-        ∙ drop-append-le base x ((part ++ upper store k s i) ++ tail) (omega (arith, l))
-        ∙ ap (λ (q : List ℕ). q ++ ((part ++ upper store k s i) ++ tail)) first
-        ∙ sym (append-assoc (lower store k s i) (part ++ upper store k s i) tail)
-        ∙ ap (λ (q : List ℕ). q ++ tail) (sym (append-assoc (lower store k s i) part (upper store k s i)) ∙ bytes) in
+      ap (drop base) (e ∙ append-assoc x (part ++ upper store k s i) tail)
+      ∙ drop-append-le base x ((part ++ upper store k s i) ++ tail) (omega (arith, l))
+      ∙ ap (λ (q : List ℕ). q ++ ((part ++ upper store k s i) ++ tail)) first
+      ∙ sym (append-assoc (lower store k s i) (part ++ upper store k s i) tail)
+      ∙ ap (λ (q : List ℕ). q ++ tail) (sym (append-assoc (lower store k s i) part (upper store k s i)) ∙ bytes) in
       let size : sumOf (set (s .sizes) i (length part + 1)) ≡ end + length part = sum-set (s .sizes) i (length part) (omega arith) gone in
       let sizes₁ = set (s .sizes) i (length part + 1) in
       let cut : take 1400 (front ++ tail) ≡ front ++ take (1400 - length front) tail =
-        ap (λ (m : ℕ). take m (front ++ tail)) (let w : 1400 ≡ length front + (1400 - length front) = omega (arith, size-front) in w)
-        ∙ lib.Seq.take-append-add front tail (1400 - length front) in
+      ap (λ (m : ℕ). take m (front ++ tail)) (let w : 1400 ≡ length front + (1400 - length front) = omega (arith, size-front) in w)
+      ∙ lib.Seq.take-append-add front tail (1400 - length front) in
       ap (λ (q : List ℕ). placesOf sizes₁ (take 1400 q)) behind
       ∙ ap (placesOf sizes₁) cut
       ∙ places-front sizes₁ front (take (1400 - length front) tail) (omega (arith, size, size-front))

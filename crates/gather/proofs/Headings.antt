@@ -53,13 +53,13 @@ placed-within m ports start p ports′ start′ q b e =
     let same : p ≡ q = cc (four .1) in
     let begun : start ≡ start′ = cc (four .1) in
     let there : Within m start p =
-      record {
-        positive = let n : p .place ≡ 0 → ⊥ = eqb-false (p .place) 0 (two .0) in omega arith;
-        up-to = ltb-false (p .total) (p .place) (three .0);
-        eleven = ltb-false 11 (p .total) (one .0);
-        several = eqb-false (p .total) 1 (four .0);
-        begins = b;
-      } in
+    record {
+      positive = let n : p .place ≡ 0 → ⊥ = eqb-false (p .place) 0 (two .0) in omega arith;
+      up-to = ltb-false (p .total) (p .place) (three .0);
+      eleven = ltb-false 11 (p .total) (one .0);
+      several = eqb-false (p .total) 1 (four .0);
+      begins = b;
+    } in
     rw begun at (rw same at there)
 
 judged-within : (m : List ℕ) (n : Noted) (start : ℕ) (ports : Ports) (start′ : ℕ) (q : Place) → start ≤ length m

@@ -64,16 +64,17 @@ module _ (s : Slot) (k i : ℕ) (store part : List ℕ) (few : k < 4) (eleven : 
       let u : length up ≡ y - x = length-cut _ (k * 1400 + x) store (omega arith) ∙ (let m : k * 1400 + y - (k * 1400 + x) ≡ y - x = omega arith in m) in
       let zero-less : x ≡ below s i - 0 = omega arith in
       let lowest : low ≡ lower store k s i =
-        ap (λ (m : ℕ). take m (drop (k * 1400) store)) (n ∙ zero-less)
-        ∙ ap (λ (m : ℕ). take (below s i - 0) (drop m store)) (sym (add-zero (k * 1400))) in
+      ap (λ (m : ℕ). take m (drop (k * 1400) store)) (n ∙ zero-less)
+      ∙ ap (λ (m : ℕ). take (below s i - 0) (drop m store)) (sym (add-zero (k * 1400))) in
       let upmost : up ≡ upper store k s i =
-        cut-from store (k * 1400) x y ∙ (λ j. take (ey j - ex j) (drop (k * 1400 + ex j) store)) in
-      ( ap (λ (m : ℕ). m + length part) ey,
+      cut-from store (k * 1400) x y ∙ (λ j. take (ey j - ex j) (drop (k * 1400 + ex j) store)) in (
+        ap (λ (m : ℕ). m + length part) ey,
         e₃
-        ∙ ap (λ (q : List ℕ). laidWithin q (x + length part) up) (e₂ ∙ ap (λ (q : List ℕ). laidWithin q x part) e₁)
-        ∙ ap (λ (m : ℕ). laidWithin (laidWithin (laidWithin a 0 low) m part) (m + length part) up) (sym l)
-        ∙ laid-three a low part up (omega arith)
-        ∙ (λ j. laidOver a 0 (lowest j ++ part ++ upmost j)) )
+            ∙ ap (λ (q : List ℕ). laidWithin q (x + length part) up) (e₂ ∙ ap (λ (q : List ℕ). laidWithin q x part) e₁)
+            ∙ ap (λ (m : ℕ). laidWithin (laidWithin (laidWithin a 0 low) m part) (m + length part) up) (sym l)
+            ∙ laid-three a low part up (omega arith)
+            ∙ (λ j. laidOver a 0 (lowest j ++ part ++ upmost j)),
+      )
 
 -- ---- a part whose place is held
 

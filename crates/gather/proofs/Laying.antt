@@ -75,12 +75,12 @@ one-moved d₀ from end n d i w h =
     let next : i ≡ suc j = omega arith in
     let inside : j < length d₀ = omega (arith, w .high, w .room) in
     let same : getD d j 0 ≡ getD d₀ j 0 =
-      ap (λ (l : List ℕ). getD l j 0) (w .so-far)
-      ∙ laid-before d₀ (i + n) (take (end - i) (drop i d₀)) j (omega arith) (omega (arith, w .high, w .room)) in
+    ap (λ (l : List ℕ). getD l j 0) (w .so-far)
+    ∙ laid-before d₀ (i + n) (take (end - i) (drop i d₀)) j (omega arith) (omega (arith, w .high, w .room)) in
     let taken : take (end - j) (drop j d₀) ≡ getD d₀ j 0 ∷ take (end - i) (drop i d₀) =
-      ap (λ (m : ℕ). take m (drop j d₀)) more
-      ∙ ap (take (suc (end - i))) (drop-cons d₀ j 0 inside)
-      ∙ ap (λ (m : ℕ). getD d₀ j 0 ∷ take (end - i) (drop m d₀)) (sym next) in
+    ap (λ (m : ℕ). take m (drop j d₀)) more
+    ∙ ap (take (suc (end - i))) (drop-cons d₀ j 0 inside)
+    ∙ ap (λ (m : ℕ). getD d₀ j 0 ∷ take (end - i) (drop m d₀)) (sym next) in
     record {
       low = omega arith;
       high = omega (arith, w .high);
@@ -110,11 +110,11 @@ laid-in-front d at x y h =
     let rest = drop (n + length y) d in
     let l : length (take n d) ≡ n = length-take-le n d (omega arith) in
     let front : take at (take n d ++ y ++ rest) ≡ take at d =
-      ap (take at) (append-assoc (take n d) y rest)
-      ∙ take-append-le at (take n d) (y ++ rest) (omega arith)
-      ∙ take-take at n d (omega arith) in
+    ap (take at) (append-assoc (take n d) y rest)
+    ∙ take-append-le at (take n d) (y ++ rest) (omega arith)
+    ∙ take-take at n d (omega arith) in
     let back : drop n (take n d ++ y ++ rest) ≡ y ++ rest =
-      ap (drop n) (append-assoc (take n d) y rest) ∙ drop-at (take n d) (y ++ rest) n l in
+    ap (drop n) (append-assoc (take n d) y rest) ∙ drop-at (take n d) (y ++ rest) n l in
     let end : n + length y ≡ at + length (x ++ y) = omega (arith, length-append x y) in
     ap (λ (q : List ℕ). q ++ x ++ drop n (take n d ++ y ++ rest)) front
     ∙ ap (λ (q : List ℕ). take at d ++ x ++ q) back
@@ -129,9 +129,9 @@ laid-behind d x y h =
     let rest = drop (length x) d in
     let front : take (length x) (x ++ rest) ≡ x = take-at x rest (length x) refl in
     let back : drop (length x + length y) (x ++ rest) ≡ drop (0 + length (x ++ y)) d =
-      lib.Seq.drop-append-add x rest (length y)
-      ∙ drop-drop (length y) (length x) d
-      ∙ ap (λ (m : ℕ). drop m d) (sym (length-append x y) ∙ sym (zero-add (length (x ++ y)))) in
+    lib.Seq.drop-append-add x rest (length y)
+    ∙ drop-drop (length y) (length x) d
+    ∙ ap (λ (m : ℕ). drop m d) (sym (length-append x y) ∙ sym (zero-add (length (x ++ y)))) in
     ap (λ (q : List ℕ). take (length x) (x ++ q) ++ y ++ drop (length x + length y) (x ++ q)) one
     ∙ ap (λ (q : List ℕ). q ++ y ++ drop (length x + length y) (x ++ rest)) front
     ∙ ap (λ (q : List ℕ). x ++ y ++ q) back
@@ -143,7 +143,7 @@ laid-three d x p y h =
     let one : laidWithin d 0 x ≡ laidOver d 0 x = fits d 0 x (omega arith) in
     let l₁ : length (laidOver d 0 x) ≡ length d = length-laid d 0 x (omega arith) in
     let two : laidWithin (laidOver d 0 x) (length x) p ≡ laidOver d 0 (x ++ p) =
-      fits (laidOver d 0 x) (length x) p (omega arith) ∙ laid-behind d x p (omega arith) in
+    fits (laidOver d 0 x) (length x) p (omega arith) ∙ laid-behind d x p (omega arith) in
     let l₂ : length (laidOver d 0 (x ++ p)) ≡ length d = length-laid d 0 (x ++ p) (omega (arith, length-append x p)) in
     ap (λ (q : List ℕ). laidWithin (laidWithin q (length x) p) (length x + length p) y) one
     ∙ ap (λ (q : List ℕ). laidWithin q (length x + length p) y) two

@@ -78,7 +78,7 @@ entryAt g store k = held (slotAt g k .total) (placesOf (slotAt g k .sizes) (room
 looked-by : (g : Gatherer) (store : List ℕ) (r : ℕ) (a b c d : Bool) → holds (g .first) r ≡ a → holds (g .second) r ≡ b
     → holds (g .third) r ≡ c → holds (g .fourth) r ≡ d
     → lookUp 0 (slotsOf g) store r
-      ≡ pick (ltb (first-of a b c d) 4) (entryAt g store (first-of a b c d)) absent
+    ≡ pick (ltb (first-of a b c d) 4) (entryAt g store (first-of a b c d)) absent
 unfolding slotAt lookUp entryAt
 looked-by g store r true b c d ea eb ec ed = rw ea
 looked-by g store r false true c d ea eb ec ed = rw (ea, eb)
@@ -201,17 +201,17 @@ pub updated : (g : Gatherer) (store store₁ : List ℕ) (k r : ℕ) (s₁ : Slo
 updated g store store₁ k r s₁ e few rooms new old others eq x =
     by-cases (ℕ-discrete x r)
     (λ same.
-      ap (λ (l : List Slot). lookUp 0 l store₁ x) (set-of g s₁ k few)
-      ∙ ap (λ (y : ℕ). lookUp 0 (set (slotsOf g) k s₁) store₁ y) same
-      ∙ this-reference 0 (slotsOf g) store₁ k r s₁ few (λ i l n. ap (λ (s : Slot). holds s r) (slot-of g free i l) ∙ others i l n)
-      ∙ ap (λ (m : ℕ). pick (holds s₁ r) (held (s₁ .total) (placesOf (s₁ .sizes) (roomOf store₁ m))) absent) (native.Mathlib.Nat.zero-add k)
-      ∙ eq
-      ∙ sym (ap (λ (b : Bool). pick b e (mapOf g store x)) (eq-eqb x r same)))
+    ap (λ (l : List Slot). lookUp 0 l store₁ x) (set-of g s₁ k few)
+    ∙ ap (λ (y : ℕ). lookUp 0 (set (slotsOf g) k s₁) store₁ y) same
+    ∙ this-reference 0 (slotsOf g) store₁ k r s₁ few (λ i l n. ap (λ (s : Slot). holds s r) (slot-of g free i l) ∙ others i l n)
+    ∙ ap (λ (m : ℕ). pick (holds s₁ r) (held (s₁ .total) (placesOf (s₁ .sizes) (roomOf store₁ m))) absent) (native.Mathlib.Nat.zero-add k)
+    ∙ eq
+    ∙ sym (ap (λ (b : Bool). pick b e (mapOf g store x)) (eq-eqb x r same)))
     (λ n.
-      ap (λ (l : List Slot). lookUp 0 l store₁ x) (set-of g s₁ k few)
-      ∙ other-reference 0 (slotsOf g) store store₁ k k x s₁ few (sym (native.Mathlib.Nat.zero-add k)) rooms (new x n)
-        (ap (λ (s : Slot). holds s x) (slot-of g s₁ k few) ∙ old x n)
-      ∙ sym (ap (λ (b : Bool). pick b e (mapOf g store x)) (ne-eqb x r n)))
+    ap (λ (l : List Slot). lookUp 0 l store₁ x) (set-of g s₁ k few)
+    ∙ other-reference 0 (slotsOf g) store store₁ k k x s₁ few (sym (native.Mathlib.Nat.zero-add k)) rooms (new x n)
+    (ap (λ (s : Slot). holds s x) (slot-of g s₁ k few) ∙ old x n)
+    ∙ sym (ap (λ (b : Bool). pick b e (mapOf g store x)) (ne-eqb x r n)))
 
 -- ---- bytes laid into one room leave the others
 

@@ -114,23 +114,26 @@ module _ (g : Gatherer) (store message assembly : List ℕ) (k : ℕ) (s : Slot)
 
   abbrev next : Next
   next = put (mapOf g store) (s .reference) (s .total) filled
+
   too-long : (length part ≤ 1400 - below s 11 → ⊥) → Means message (addOf g k s i store part ports assembly) next
   too-long h =
       let e = put-long (mapOf g store) (s .reference) (s .total) filled (omega (arith, bytes-then, whole, fits .bytes)) in
       subst (λ (l : Left). Means message l next)
       (add-long g k s i store part ports assembly (withSlot g k free) free (below s 11) gone refl (omega arith) refl refl)
       (record { answer = ap (λ (n : Next). n .said) (sym e); gathering = λ x. freed x ∙ ap (λ (n : Next). n .map x) (sym e) })
+
   finished : length part ≤ 1400 - below s 11 → s .total ≤ countOf (s .sizes) + 1 → Means message (addOf g k s i store part ports assembly) next
   finished h t =
       let e = put-done (mapOf g store) (s .reference) (s .total) filled (omega (arith, bytes-then, whole, fits .bytes)) (omega (arith, have-then)) in
       let shown = finished-joined s k i store part few (fits .eleven) place long (fits .bytes) gone (omega (arith, whole)) assembly roomy in
       subst (λ (l : Left). Means message l next)
       (add-finished g k s i store part ports assembly (withSlot g k free) free (below s 11) (countOf (s .sizes)) (below s 11 + length part)
-        (laidOver assembly 0 (lower store k s i ++ part ++ upper store k s i)) gone refl h refl t refl refl refl refl)
+      (laidOver assembly 0 (lower store k s i ++ part ++ upper store k s i)) gone refl h refl t refl refl refl refl)
       (record {
         answer = ap gathered shown ∙ ap (λ (n : Next). n .said) (sym e);
         gathering = λ x. freed x ∙ ap (λ (n : Next). n .map x) (sym e);
       })
+
   waits : length part ≤ 1400 - below s 11 → countOf (s .sizes) + 1 < s .total → Means message (addOf g k s i store part ports assembly) next
   waits h t =
       let e = put-waits (mapOf g store) (s .reference) (s .total) filled (omega (arith, bytes-then, whole, fits .bytes)) (omega (arith, have-then)) in
@@ -139,10 +142,10 @@ module _ (g : Gatherer) (store message assembly : List ℕ) (k : ℕ) (s : Slot)
       let set-places = waiting-places s k i store part few (fits .eleven) place long (fits .bytes) gone (omega (arith, whole)) store₁ refl in
       let own : holds s₁ (s .reference) ≡ true = holds-own s used in
       let entry : pick (holds s₁ (s .reference)) (held (s₁ .total) (placesOf (s₁ .sizes) (roomOf store₁ k))) absent ≡ held (s .total) filled =
-        ap (λ (b : Bool). pick b (held (s₁ .total) (placesOf (s₁ .sizes) (roomOf store₁ k))) absent) own ∙ ap (held (s .total)) set-places in
+      ap (λ (b : Bool). pick b (held (s₁ .total) (placesOf (s₁ .sizes) (roomOf store₁ k))) absent) own ∙ ap (held (s .total)) set-places in
       let small = Rattle.gather.proofs.Sums.below-mono s i 11 (omega arith) in
       let upmost : length (upper store k s i) ≡ below s 11 - below s i =
-        length-cut (below s 11 - below s i) (k * 1400 + below s i) store (omega (arith, whole, fits .bytes)) in
+      length-cut (below s 11 - below s i) (k * 1400 + below s i) store (omega (arith, whole, fits .bytes)) in
       subst (λ (l : Left). Means message l next)
       (add-waiting g k s i store part ports assembly (withSlot g k s₁) s₁ (below s 11) (countOf (s .sizes)) store₁ gone refl h refl t refl refl refl)
       (record {
@@ -154,6 +157,7 @@ module _ (g : Gatherer) (store message assembly : List ℕ) (k : ℕ) (s : Slot)
             (λ y n. holds-no s₁ y (λ q. n (sym q))) old others entry x
             ∙ ap (λ (n : Next). n .map x) (sym e);
       })
+
   fitting : length part ≤ 1400 - below s 11 → Means message (addOf g k s i store part ports assembly) next
   fitting h = by-cases (decLe (s .total) (countOf (s .sizes) + 1)) (finished h) (λ l. waits h (omega arith))
 

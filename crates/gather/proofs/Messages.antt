@@ -56,8 +56,8 @@ module _ (s : Slot) (k i n : ℕ) (store : List ℕ) (place : i < 11) (fits : Fi
       place-there (s .sizes) (roomOf store k) i n size
       ∙ (λ j. there (take (width j) (drop (at j) (roomOf store k))))
       ∙ ap there
-        (cut-of-front (below s (i + 1) - below s i) (below s i) 1400 (drop (k * 1400) store) (omega (arith, one-on))
-        ∙ ap (take (below s (i + 1) - below s i)) (drop-drop (below s i) (k * 1400) store))
+      (cut-of-front (below s (i + 1) - below s i) (below s i) 1400 (drop (k * 1400) store) (omega (arith, one-on))
+      ∙ ap (take (below s (i + 1) - below s i)) (drop-drop (below s i) (k * 1400) store))
 
 pub zeros : sumOf (replicate 11 0) ≤ 1400
 unfolding together
@@ -66,9 +66,9 @@ zeros = omega arith
 held-by : (g : Gatherer) (store message assembly : List ℕ) (k : ℕ) (s : Slot) (i : ℕ) (part : List ℕ) (ports : Ports) (b : Bool)
     → (getD (s .sizes) i 0 ≡ 0 → ⊥) → sameBytes (within store k s i) part ≡ b
     → Means message (addOf g k s i store part ports assembly)
-      (pick (sameBytes (within store k s i) part)
-      (record { said = waiting (s .reference) (have (placesOf (s .sizes) (roomOf store k))) (s .total); map = mapOf g store })
-      (record { said = refused R.Differs; map = mapOf g store }))
+    (pick (sameBytes (within store k s i) part)
+    (record { said = waiting (s .reference) (have (placesOf (s .sizes) (roomOf store k))) (s .total); map = mapOf g store })
+    (record { said = refused R.Differs; map = mapOf g store }))
 unfolding addOf againOf
 held-by g store message assembly k s i part ports true h e =
     rw (ne-eqb (getD (s .sizes) i 0) 0 h, e)
@@ -86,18 +86,18 @@ module _ (g : Gatherer) (store message assembly : List ℕ) (long : 5600 ≤ len
       → ((x : ℕ) → (x ≡ s .reference → ⊥) → holds (slotAt g k) x ≡ false)
       → ((j : ℕ) → j < 4 → (j ≡ k → ⊥) → holds (slotAt g j) (s .reference) ≡ false)
       → Means message (addOf g k s i store part ports assembly)
-        (placed (mapOf g store) (s .reference) (s .total) (placesOf (s .sizes) (roomOf store k)) i part (getD (placesOf (s .sizes) (roomOf store k)) i missing))
+      (placed (mapOf g store) (s .reference) (s .total) (placesOf (s .sizes) (roomOf store k)) i part (getD (placesOf (s .sizes) (roomOf store k)) i missing))
   added k s i part ports few place fits used old others =
       by-cases (ℕ-discrete (getD (s .sizes) i 0) 0)
       (λ gone.
-        subst (λ (p : Part). Means message (addOf g k s i store part ports assembly) (placed (mapOf g store) (s .reference) (s .total) (placesOf (s .sizes) (roomOf store k)) i part p))
-        (sym (place-missing (s .sizes) (roomOf store k) i gone))
-        (put-means g store message assembly k s i part ports few place fits used old others long roomy gone))
+      subst (λ (p : Part). Means message (addOf g k s i store part ports assembly) (placed (mapOf g store) (s .reference) (s .total) (placesOf (s .sizes) (roomOf store k)) i part p))
+      (sym (place-missing (s .sizes) (roomOf store k) i gone))
+      (put-means g store message assembly k s i part ports few place fits used old others long roomy gone))
       (λ there-is.
-        let size : getD (s .sizes) i 0 ≡ suc (getD (s .sizes) i 0 - 1) = omega arith in
-        subst (λ (p : Part). Means message (addOf g k s i store part ports assembly) (placed (mapOf g store) (s .reference) (s .total) (placesOf (s .sizes) (roomOf store k)) i part p))
-        (sym (in-place s k i (getD (s .sizes) i 0 - 1) store place fits size))
-        (held-by g store message assembly k s i part ports (sameBytes (within store k s i) part) there-is refl))
+      let size : getD (s .sizes) i 0 ≡ suc (getD (s .sizes) i 0 - 1) = omega arith in
+      subst (λ (p : Part). Means message (addOf g k s i store part ports assembly) (placed (mapOf g store) (s .reference) (s .total) (placesOf (s .sizes) (roomOf store k)) i part p))
+      (sym (in-place s k i (getD (s .sizes) i 0 - 1) store place fits size))
+      (held-by g store message assembly k s i part ports (sameBytes (within store k s i) part) there-is refl))
 
   free-holds : (s : Slot) (x : ℕ) → s .total ≡ 0 → holds s x ≡ false
   free-holds s x e = rw (eq-eqb (s .total) 0 e)
@@ -117,15 +117,15 @@ module _ (g : Gatherer) (store message assembly : List ℕ) (long : 5600 ≤ len
 
     held-means : h < 4 → (b : Bool) → eqb (slotAt g h .total) (p .total) ≡ b
         → Means message (joinOf g store part ports p assembly)
-          (joins (mapOf g store) p part (held (slotAt g h .total) (placesOf (slotAt g h .sizes) (roomOf store h))))
+        (joins (mapOf g store) p part (held (slotAt g h .total) (placesOf (slotAt g h .sizes) (roomOf store h))))
     unfolding joinOf
     held-means few true e =
         let is = owned (slotAt g h) (p .reference) (found g (p .reference) few) in
         rw (lt-ltb h 4 few, e)
         (subst (λ (r : ℕ). Means message (addOf g h (slotAt g h) (p .place - 1) store part ports assembly) (placed (mapOf g store) r (slotAt g h .total) (placesOf (slotAt g h .sizes) (roomOf store h)) (p .place - 1) part (getD (placesOf (slotAt g h .sizes) (roomOf store h)) (p .place - 1) missing)))
-          (is .1)
-          (added h (slotAt g h) (p .place - 1) part ports few (omega arith) (sound .fits h few) (is .0) (λ x n. holds-no (slotAt g h) x (λ q. n (sym q)))
-          (λ j l n. apart g sound h j (slotAt g h .reference) few l (λ q. n (sym q)) (holds-own (slotAt g h) (is .0)))))
+        (is .1)
+        (added h (slotAt g h) (p .place - 1) part ports few (omega arith) (sound .fits h few) (is .0) (λ x n. holds-no (slotAt g h) x (λ q. n (sym q)))
+        (λ j l n. apart g sound h j (slotAt g h .reference) few l (λ q. n (sym q)) (holds-own (slotAt g h) (is .0)))))
     held-means few false e = rw (lt-ltb h 4 few, e) (record { answer = refl; gathering = λ x. refl })
 
     new-means : 4 ≤ h → Means message (joinOf g store part ports p assembly) (joins (mapOf g store) p part absent)
@@ -133,24 +133,24 @@ module _ (g : Gatherer) (store message assembly : List ℕ) (long : 5600 ≤ len
     new-means none =
         by-cases (ℕ-discrete (vacantAt g) 4)
         (λ e.
-          rw (le-ltb h 4 none, eq-eqb (vacantAt g) 4 e, le-leb 4 (heldIn (mapOf g store)) (omega (arith, four-held g store sound e)))
-          (record { answer = refl; gathering = λ x. refl }))
+        rw (le-ltb h 4 none, eq-eqb (vacantAt g) 4 e, le-leb 4 (heldIn (mapOf g store)) (omega (arith, four-held g store sound e)))
+        (record { answer = refl; gathering = λ x. refl }))
         (λ n.
-          let v = vacant g n in
-          let s = begun (p .reference) (p .total) in
-          let fits : Fits s = record { byte = byte; eleven = refl; bytes = zeros } in
-          rw (le-ltb h 4 none, ne-eqb (vacantAt g) 4 n, lt-leb 4 (heldIn (mapOf g store)) (fewer-held g store n))
-          (put-means g store message assembly (vacantAt g) s (p .place - 1) part ports (v .0) (omega arith) fits
-            (ne-eqb (p .total) 0 several) (λ x q. free-holds (slotAt g (vacantAt g)) x (v .1))
-            (λ j l q. none-holds g (p .reference) none j l) long roomy (zero-sizes (p .place - 1))))
+        let v = vacant g n in
+        let s = begun (p .reference) (p .total) in
+        let fits : Fits s = record { byte = byte; eleven = refl; bytes = zeros } in
+        rw (le-ltb h 4 none, ne-eqb (vacantAt g) 4 n, lt-leb 4 (heldIn (mapOf g store)) (fewer-held g store n))
+        (put-means g store message assembly (vacantAt g) s (p .place - 1) part ports (v .0) (omega arith) fits
+        (ne-eqb (p .total) 0 several) (λ x q. free-holds (slotAt g (vacantAt g)) x (v .1))
+        (λ j l q. none-holds g (p .reference) none j l) long roomy (zero-sizes (p .place - 1))))
 
     join-means : Means message (joinOf g store part ports p assembly) (joins (mapOf g store) p part (mapOf g store (p .reference)))
     join-means =
         by-cases (decLe 4 h)
         (λ none. subst (λ (e : Entry). Means message (joinOf g store part ports p assembly) (joins (mapOf g store) p part e)) (sym (map-absent g store (p .reference) none)) (new-means none))
         (λ l.
-          let few : h < 4 = omega arith in
-          subst (λ (e : Entry). Means message (joinOf g store part ports p assembly) (joins (mapOf g store) p part e)) (sym (map-held g store (p .reference) few)) (held-means few (eqb (slotAt g h .total) (p .total)) refl))
+        let few : h < 4 = omega arith in
+        subst (λ (e : Entry). Means message (joinOf g store part ports p assembly) (joins (mapOf g store) p part e)) (sym (map-held g store (p .reference) few)) (held-means few (eqb (slotAt g h .total) (p .total)) refl))
 
   by-means : Sound g → Bytes message → (heading : Heading) → headingOf message ≡ heading
       → Means message (stepBy g store message assembly heading) (messageBy (mapOf g store) message heading)

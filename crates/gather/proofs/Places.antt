@@ -77,7 +77,7 @@ places-front (suc n ∷ s) p t h =
     let l : n ≤ length p = omega arith in
     let first : take n (p ++ t) ≡ take n p = take-append-le n p t l in
     let rest : placesOf s (drop n (p ++ t)) ≡ placesOf s (drop n p) =
-      ap (placesOf s) (drop-append-le n p t l) ∙ places-front s (drop n p) t (omega (arith, length-drop n p)) in
+    ap (placesOf s) (drop-append-le n p t l) ∙ places-front s (drop n p) t (omega (arith, length-drop n p)) in
     λ j. there (first j) ∷ rest j
 
 -- a part put in a place that is missing, its bytes behind those of the lower places and before those of the higher ones
@@ -97,12 +97,12 @@ placed-between (zero ∷ s) x part y (suc i) h e l =
 placed-between (suc n ∷ s) x part y (suc i) h e l =
     let m : n ≤ length x = omega arith in
     let first : take n (x ++ part ++ y) ≡ take n (x ++ y) =
-      ap (take n) (append-assoc x part y) ∙ take-append-le n x (part ++ y) m ∙ sym (take-append-le n x y m) in
+    ap (take n) (append-assoc x part y) ∙ take-append-le n x (part ++ y) m ∙ sym (take-append-le n x y m) in
     let ahead : drop n (x ++ part ++ y) ≡ drop n x ++ part ++ y =
-      ap (drop n) (append-assoc x part y) ∙ drop-append-le n x (part ++ y) m ∙ sym (append-assoc (drop n x) part y) in
+    ap (drop n) (append-assoc x part y) ∙ drop-append-le n x (part ++ y) m ∙ sym (append-assoc (drop n x) part y) in
     let behind : drop n x ++ y ≡ drop n (x ++ y) = sym (drop-append-le n x y m) in
     let rest : placesOf (set s i (length part + 1)) (drop n (x ++ part ++ y)) ≡ set (placesOf s (drop n (x ++ y))) i (there part) =
-      ap (placesOf (set s i (length part + 1))) ahead
-      ∙ placed-between s (drop n x) part y i (omega arith) e (omega (arith, length-drop n x))
-      ∙ ap (λ (q : List ℕ). set (placesOf s q) i (there part)) behind in
+    ap (placesOf (set s i (length part + 1))) ahead
+    ∙ placed-between s (drop n x) part y i (omega arith) e (omega (arith, length-drop n x))
+    ∙ ap (λ (q : List ℕ). set (placesOf s q) i (there part)) behind in
     λ j. there (first j) ∷ rest j

@@ -67,20 +67,20 @@ sound-with g k s sound few fits lone =
           λ i j r hi hj ei ej.
           by-cases (ℕ-discrete i k)
           (λ p.
-            by-cases (ℕ-discrete j k) (λ q. p ∙ sym q)
-            (λ q.
-              absurd
-              (clash (holds (slotAt g j) r) (ap (λ (t : Slot). holds t r) (slot-other g s k j few hj q) ∙ ej)
-              (lone r (ap (λ (t : Slot). holds t r) (slot-same g s k i few hi p) ∙ ei) j hj q))))
+          by-cases (ℕ-discrete j k) (λ q. p ∙ sym q)
+          (λ q.
+          absurd
+          (clash (holds (slotAt g j) r) (ap (λ (t : Slot). holds t r) (slot-other g s k j few hj q) ∙ ej)
+          (lone r (ap (λ (t : Slot). holds t r) (slot-same g s k i few hi p) ∙ ei) j hj q))))
           (λ p.
-            by-cases (ℕ-discrete j k)
-            (λ q.
-              absurd
-              (clash (holds (slotAt g i) r) (ap (λ (t : Slot). holds t r) (slot-other g s k i few hi p) ∙ ei)
-              (lone r (ap (λ (t : Slot). holds t r) (slot-same g s k j few hj q) ∙ ej) i hi p)))
-            (λ q.
-              sound .once i j r hi hj (ap (λ (t : Slot). holds t r) (slot-other g s k i few hi p) ∙ ei)
-              (ap (λ (t : Slot). holds t r) (slot-other g s k j few hj q) ∙ ej)));
+          by-cases (ℕ-discrete j k)
+          (λ q.
+          absurd
+          (clash (holds (slotAt g i) r) (ap (λ (t : Slot). holds t r) (slot-other g s k i few hi p) ∙ ei)
+          (lone r (ap (λ (t : Slot). holds t r) (slot-same g s k j few hj q) ∙ ej) i hi p)))
+          (λ q.
+          sound .once i j r hi hj (ap (λ (t : Slot). holds t r) (slot-other g s k i few hi p) ∙ ei)
+          (ap (λ (t : Slot). holds t r) (slot-other g s k j few hj q) ∙ ej)));
     }
 
 free-fits : Fits free
@@ -119,33 +119,38 @@ module _ (g : Gatherer) (store assembly : List ℕ) (sound : Sound g) where
       whole =
           let all : sumOf (s .sizes) ≡ sumOf (take 11 (s .sizes)) = ap sumOf (sym (lib.Seq.take-all 11 (s .sizes) (omega (arith, fits .eleven)))) in
           sym (all-there s 11 (sumOf (s .sizes)) all (fits .bytes))
+
       seen : (getD (s .sizes) i 0 ≡ 0 → ⊥) → Sound (addOf g k s i store part ports assembly .gatherer)
       seen n =
           subst (λ (l : Left). Sound (l .gatherer)) (add-again g k s i store part ports assembly (againOf g k s i store part ports) n refl)
           (again-sound g k s i store part ports sound)
+
       too-long : getD (s .sizes) i 0 ≡ 0 → (length part ≤ 1400 - below s 11 → ⊥) → Sound (addOf g k s i store part ports assembly .gatherer)
       too-long gone h =
           subst (λ (l : Left). Sound (l .gatherer))
           (add-long g k s i store part ports assembly (withSlot g k free) free (below s 11) gone refl (omega arith) refl refl) (freed-sound g k sound few)
+
       finished : getD (s .sizes) i 0 ≡ 0 → length part ≤ 1400 - below s 11 → s .total ≤ countOf (s .sizes) + 1 → Sound (addOf g k s i store part ports assembly .gatherer)
       finished gone h t =
           subst (λ (l : Left). Sound (l .gatherer))
           (add-finished g k s i store part ports assembly (withSlot g k free) free (below s 11) (countOf (s .sizes)) (below s 11 + length part)
-            (laidOver assembly 0 (lower store k s i ++ part ++ upper store k s i)) gone refl h refl t refl refl refl refl)
+          (laidOver assembly 0 (lower store k s i ++ part ++ upper store k s i)) gone refl h refl t refl refl refl refl)
           (freed-sound g k sound few)
+
       waits : getD (s .sizes) i 0 ≡ 0 → length part ≤ 1400 - below s 11 → countOf (s .sizes) + 1 < s .total → Sound (addOf g k s i store part ports assembly .gatherer)
       waits gone h t =
           let s₁ = sized s i (length part) in
           let fits₁ : Fits s₁ =
-            record {
-              byte = fits .byte;
-              eleven = length-set (s .sizes) i (length part + 1) ∙ fits .eleven;
-              bytes = omega (arith, sum-set (s .sizes) i (length part) (omega (arith, fits .eleven)) gone, whole, fits .bytes);
-            } in
+          record {
+            byte = fits .byte;
+            eleven = length-set (s .sizes) i (length part + 1) ∙ fits .eleven;
+            bytes = omega (arith, sum-set (s .sizes) i (length part) (omega (arith, fits .eleven)) gone, whole, fits .bytes);
+          } in
           subst (λ (l : Left). Sound (l .gatherer))
           (add-waiting g k s i store part ports assembly (withSlot g k s₁) s₁ (below s 11) (countOf (s .sizes))
-            (laidOver store (k * 1400 + below s i) (part ++ upper store k s i)) gone refl h refl t refl refl refl)
+          (laidOver store (k * 1400 + below s i) (part ++ upper store k s i)) gone refl h refl t refl refl refl)
           (sound-with g k s₁ sound few fits₁ (λ x e j l n. ap (holds (slotAt g j)) (sym (owned s₁ x e .1)) ∙ others j l n))
+
       fitting : getD (s .sizes) i 0 ≡ 0 → length part ≤ 1400 - below s 11 → Sound (addOf g k s i store part ports assembly .gatherer)
       fitting gone h = by-cases (decLe (s .total) (countOf (s .sizes) + 1)) (finished gone h) (λ l. waits gone h (omega arith))
 
@@ -155,22 +160,22 @@ module _ (g : Gatherer) (store assembly : List ℕ) (sound : Sound g) where
   join-sound part ports p positive eleven byte =
       by-cases (decLe 4 (heldAt g (p .reference)))
       (λ none.
-        rw (le-ltb (heldAt g (p .reference)) 4 none)
-        (by-cases (ℕ-discrete (vacantAt g) 4) (λ e. rw (eq-eqb (vacantAt g) 4 e) sound)
-        (λ n.
-          let v = vacant g n in
-          rw (ne-eqb (vacantAt g) 4 n)
-          (added-sound (vacantAt g) (begun (p .reference) (p .total)) (p .place - 1) part ports (v .0) (omega arith)
-          (record { byte = byte; eleven = refl; bytes = zeros }) (λ j l q. none-holds g (p .reference) none j l)))))
+      rw (le-ltb (heldAt g (p .reference)) 4 none)
+      (by-cases (ℕ-discrete (vacantAt g) 4) (λ e. rw (eq-eqb (vacantAt g) 4 e) sound)
+      (λ n.
+      let v = vacant g n in
+      rw (ne-eqb (vacantAt g) 4 n)
+      (added-sound (vacantAt g) (begun (p .reference) (p .total)) (p .place - 1) part ports (v .0) (omega arith)
+      (record { byte = byte; eleven = refl; bytes = zeros }) (λ j l q. none-holds g (p .reference) none j l)))))
       (λ l.
-        let few : heldAt g (p .reference) < 4 = omega arith in
-        let sl = slotAt g (heldAt g (p .reference)) in
-        let is = owned sl (p .reference) (found g (p .reference) few) in
-        rw (lt-ltb (heldAt g (p .reference)) 4 few)
-        (either-way Left (λ q. Sound (q .gatherer)) (eqb (sl .total) (p .total)) _ _
-        (added-sound (heldAt g (p .reference)) sl (p .place - 1) part ports few (omega arith) (sound .fits (heldAt g (p .reference)) few)
-        (λ j h n. apart g sound (heldAt g (p .reference)) j (sl .reference) few h (λ q. n (sym q)) (holds-own sl (is .0))))
-        sound))
+      let few : heldAt g (p .reference) < 4 = omega arith in
+      let sl = slotAt g (heldAt g (p .reference)) in
+      let is = owned sl (p .reference) (found g (p .reference) few) in
+      rw (lt-ltb (heldAt g (p .reference)) 4 few)
+      (either-way Left (λ q. Sound (q .gatherer)) (eqb (sl .total) (p .total)) _ _
+      (added-sound (heldAt g (p .reference)) sl (p .place - 1) part ports few (omega arith) (sound .fits (heldAt g (p .reference)) few)
+      (λ j h n. apart g sound (heldAt g (p .reference)) j (sl .reference) few h (λ q. n (sym q)) (holds-own sl (is .0))))
+      sound))
 
   by-sound : (message : List ℕ) → Bytes message → (h : Heading) → headingOf message ≡ h → Sound (stepBy g store message assembly h .gatherer)
   by-sound message bytes H.Refused e = sound
@@ -200,16 +205,16 @@ unfolding dropOf
 drop-means g store r sound x =
     by-cases (ℕ-discrete (heldAt g r) 4)
     (λ e.
-      rw (eq-eqb (heldAt g r) 4 e)
-      (by-cases (ℕ-discrete x r)
-      (λ same.
-        ap (mapOf g store) same ∙ map-absent g store r (omega arith)
-        ∙ sym (ap (λ (b : Bool). pick b absent (mapOf g store x)) (eq-eqb x r same)))
-      (λ n. sym (ap (λ (b : Bool). pick b absent (mapOf g store x)) (ne-eqb x r n)))))
+    rw (eq-eqb (heldAt g r) 4 e)
+    (by-cases (ℕ-discrete x r)
+    (λ same.
+    ap (mapOf g store) same ∙ map-absent g store r (omega arith)
+    ∙ sym (ap (λ (b : Bool). pick b absent (mapOf g store x)) (eq-eqb x r same)))
+    (λ n. sym (ap (λ (b : Bool). pick b absent (mapOf g store x)) (ne-eqb x r n)))))
     (λ n.
-      let few : heldAt g r < 4 = omega (arith, most-four g r) in
-      let is = owned (slotAt g (heldAt g r)) r (found g r few) in
-      rw (ne-eqb (heldAt g r) 4 n)
-      (updated g store store (heldAt g r) r free absent few (λ m q. refl) (λ y q. refl)
-      (λ y q. holds-no (slotAt g (heldAt g r)) y (λ z. q (sym z ∙ is .1)))
-      (λ j l q. apart g sound (heldAt g r) j r few l (λ z. q (sym z)) (found g r few)) refl x))
+    let few : heldAt g r < 4 = omega (arith, most-four g r) in
+    let is = owned (slotAt g (heldAt g r)) r (found g r few) in
+    rw (ne-eqb (heldAt g r) 4 n)
+    (updated g store store (heldAt g r) r free absent few (λ m q. refl) (λ y q. refl)
+    (λ y q. holds-no (slotAt g (heldAt g r)) y (λ z. q (sym z ∙ is .1)))
+    (λ j l q. apart g sound (heldAt g r) j r few l (λ z. q (sym z)) (found g r few)) refl x))

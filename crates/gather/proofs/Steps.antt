@@ -39,8 +39,11 @@ module _ (g : Gatherer) (k : ℕ) (s : Slot) (i : ℕ) (store part : List ℕ) (
   unfolding addOf
   add-finished h f n have size a z e l eh t es ea ef eg =
       let whole : h ≡ withSlot g k free = eg ∙ ap (withSlot g k) ef in
-      rw (eq-eqb (getD (s .sizes) i 0) 0 z, le-ltb (1400 - below s 11) (length part) (rw e at l),
-        le-leb (s .total) (countOf (s .sizes) + 1) (rw eh at t))
+      rw (
+        eq-eqb (getD (s .sizes) i 0) 0 z,
+        le-ltb (1400 - below s 11) (length part) (rw e at l),
+        le-leb (s .total) (countOf (s .sizes) + 1) (rw eh at t),
+      )
       (λ j. said (whole j) (Gathered ports (es j)) store (ea j))
 
   pub add-waiting : (h : Gatherer) (f : Slot) (n have : ℕ) (d : List ℕ) → getD (s .sizes) i 0 ≡ 0 → n ≡ below s 11
@@ -50,8 +53,11 @@ module _ (g : Gatherer) (k : ℕ) (s : Slot) (i : ℕ) (store part : List ℕ) (
   unfolding addOf
   add-waiting h f n have d z e l eh t ed ef eg =
       let whole : h ≡ withSlot g k (sized s i (length part)) = eg ∙ ap (withSlot g k) ef in
-      rw (eq-eqb (getD (s .sizes) i 0) 0 z, le-ltb (1400 - below s 11) (length part) (rw e at l),
-        lt-leb (s .total) (countOf (s .sizes) + 1) (rw eh at t))
+      rw (
+        eq-eqb (getD (s .sizes) i 0) 0 z,
+        le-ltb (1400 - below s 11) (length part) (rw e at l),
+        lt-leb (s .total) (countOf (s .sizes) + 1) (rw eh at t),
+      )
       (λ j. said (whole j) (Waiting ports (s .reference) (eh j + 1) (s .total)) (ed j) assembly)
 
 module _ (g : Gatherer) (store part : List ℕ) (ports : Ports) (p : Place) (assembly : List ℕ) where

@@ -78,14 +78,17 @@ below-mono s m n h = go (sumOf (take m (s .sizes))) (sumOf (take n (s .sizes))) 
   where
     cut : ℕ → ℕ
     cut x = Rattle.digest.specs.Pick.pick (lib.Dec.ltb 1400 x) 1400 x
+
     small : (x : ℕ) → x ≤ 1400 → cut x ≡ x
     small x h = rw (borrow.Author.Tests.le-ltb 1400 x h)
+
     large : (x : ℕ) → 1400 < x → cut x ≡ 1400
     large x h = rw (borrow.Author.Tests.lt-ltb 1400 x h)
+
     go : (x y : ℕ) → x ≤ y → cut x ≤ cut y
     go x y h =
         mathlib.Core.Logic.by-cases (native.Mathlib.Decide.decLe y 1400)
         (λ k. omega (arith, small x (omega arith), small y k))
         (λ k. mathlib.Core.Logic.by-cases (native.Mathlib.Decide.decLe x 1400)
-          (λ l. omega (arith, small x l, large y (omega arith)))
-          (λ l. omega (arith, large x (omega arith), large y (omega arith))))
+        (λ l. omega (arith, small x l, large y (omega arith)))
+        (λ l. omega (arith, large x (omega arith), large y (omega arith))))

@@ -83,7 +83,7 @@ module _ (h : List ℕ) (n : Noted) (at : ℕ) (w : Walking h n at) where
       let body : drop 2 (drop at h) ≡ drop (at + 2) h = drop-drop 2 at h in
       let end : at + (2 + size) ≡ at + 2 + size = omega arith in
       let next : drop (2 + size) (drop at h) ≡ drop (at + 2 + size) h =
-        drop-drop (2 + size) at h ∙ ap (λ (x : ℕ). drop x h) end in
+      drop-drop (2 + size) at h ∙ ap (λ (x : ℕ). drop x h) end in
       on (omega arith)
       ∙ one-more (w .most - 1) n (drop at h) (omega (arith, left)) (omega (arith, left, second))
       ∙ ap (λ (x : ℕ). onward (elementOf n x (take (getD (drop at h) 1 0) (drop 2 (drop at h)))) (λ m. elementsFrom (w .most - 1) m (drop (2 + getD (drop at h) 1 0) (drop at h)))) first

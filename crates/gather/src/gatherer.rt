@@ -196,15 +196,7 @@ fn add(
 }
 
 // A part whose place is held: the same bytes, or others.
-fn again(
-    g: Gatherer,
-    k: usize,
-    s: Slot,
-    i: usize,
-    store: &[u8],
-    part: &[u8],
-    ports: Ports,
-) -> Step
+fn again(g: Gatherer, k: usize, s: Slot, i: usize, store: &[u8], part: &[u8], ports: Ports) -> Step
     requires { ⌜ (5600 ≤ length (now store)) × (k < 4) × (i < 11) ⌝ }
     ensures { λ r. ⌜ r ≡ againOf g k s i (now (store .entry)) (now (part .entry)) ports ⌝ }
 {
@@ -221,14 +213,7 @@ fn again(
 }
 
 // The parts of slot k and this one, by place, at the front of the assembly buffer. Answers how many bytes they are.
-fn assemble(
-    k: usize,
-    s: Slot,
-    i: usize,
-    store: &[u8],
-    part: &[u8],
-    assembly: &mut [u8],
-) -> usize
+fn assemble(k: usize, s: Slot, i: usize, store: &[u8], part: &[u8], assembly: &mut [u8]) -> usize
     requires { ⌜ (5600 ≤ length (now store)) × (1400 ≤ length (now assembly)) × (k < 4) × (i < 11) × (length (now part) ≤ 1400 - below s 11) ⌝ }
     ensures { λ r. ⌜ r ≡ below s 11 + length (now (part .entry)) ⌝ }
     ensures { λ _. ⌜ now (assembly .exit) ≡ laidOver (now (assembly .entry)) 0 (lower (now (store .entry)) k s i ++ now (part .entry) ++ upper (now (store .entry)) k s i) ⌝ }
