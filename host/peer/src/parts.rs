@@ -90,21 +90,32 @@ fn in_header(rng: &mut Rng, mut message: Vec<u8>) -> Vec<u8> {
 
 /// Few references, so that they meet, and all four places fill.
 fn reference(rng: &mut Rng) -> u8 {
-    rng.pick(&[1, 2, 3, 4, 5, 6, 255])
+    rng.pick(&[1, 2, 3, 4, 5, 255])
+}
+
+/// The total that a reference mostly has.
+fn usual_total(reference: u8) -> u8 {
+    [2, 2, 3, 3, 4, 11][usize::from(reference % 6)]
+}
+
+/// The bytes that a place of a reference mostly has: of reference 4 and 5 so many that they pass 1,400 together.
+fn usual_part(reference: u8, place: u8) -> Vec<u8> {
+    let length = if matches!(reference, 4 | 5) { 480 } else { usize::from(place % 4) * 9 };
+    vec![place ^ reference; length]
 }
 
 /// A header with elements in any order, some alike, and a part.
 fn sound(rng: &mut Rng) -> Vec<u8> {
+    let reference = reference(rng);
     let any = rng.under(14) as u8;
-    let total = rng.weigh(&[(6, 2), (6, 3), (2, 5), (1, 1), (2, 11), (1, any)]);
-    let above = usize::from(rng.percent(4));
+    let total = rng.weigh(&[(40, usual_total(reference)), (1, any), (1, 1)]);
+    let above = usize::from(rng.percent(3));
     let place = rng.between(usize::from(total > 0), usize::from(total) + above) as u8;
-    let concatenation = [0, 3, reference(rng), total, place];
     let mut elements: Vec<Vec<u8>> = Vec::new();
-    for _ in 0..rng.weigh(&[(12, 1), (2, 2), (1, 0)]) {
+    for _ in 0..rng.weigh(&[(20, 1), (2, 2), (1, 0)]) {
         elements.push([vec![5, 4], rng.bytes(4)].concat());
     }
-    for _ in 0..rng.weigh(&[(2, 0), (1, 2)]) {
+    for _ in 0..rng.weigh(&[(4, 0), (1, 2)]) {
         elements.push(vec![0, 3, rng.byte(), rng.under(14) as u8, rng.under(14) as u8]);
     }
     for _ in 0..rng.weigh(&[(8, 0), (2, 1), (1, 3)]) {
@@ -116,14 +127,13 @@ fn sound(rng: &mut Rng) -> Vec<u8> {
         let j = rng.under(i + 1);
         elements.swap(i, j);
     }
-    if rng.percent(85) {
-        elements.push(concatenation.to_vec());
+    if rng.percent(88) {
+        elements.push(vec![0, 3, reference, total, place]);
     }
     let header = elements.concat();
-    // so few bytes that the same place often comes with the same ones
-    let length = rng.weigh(&[(8, 2), (4, 20), (1, 700), (1, 1390)]);
+    let length = rng.weigh(&[(8, 20), (1, 700), (1, 1500)]);
     let length = rng.under(length + 1);
-    let part = if rng.percent(60) { vec![place; length.min(3)] } else { rng.bytes(length) };
+    let part = if rng.percent(92) { usual_part(reference, place) } else { rng.bytes(length) };
     [vec![header.len() as u8], header, part].concat()
 }
 
