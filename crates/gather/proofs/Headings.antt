@@ -6,7 +6,7 @@ use Prim.Native.Nat.{ℕ, _+_, _-_, _≤_, _<_}
 use native.Mathlib.Omega.{arith}
 use lib.ListN.{length, getD, take, drop}
 use lib.Dec.{eqb, ltb}
-use borrow.Author.Tests.{ltb-false, eqb-false, eq-eqb, ne-eqb, le-ltb}
+use borrow.Author.Tests.{ltb-false, eqb-false, eq-eqb, ne-eqb, le-ltb, lt-ltb}
 use Rattle.digest.specs.Pick.{pick}
 use Rattle.digest.proofs.Picks.{pick-yes}
 use Rattle.gather.specs.Header.{pairAt, withPorts, withPlace, elementOf, placedOf, judgedOf, headingBy, headingOf, walkedOf}
@@ -100,3 +100,13 @@ read-on m w x h l e ex =
     let all : w ≡ walkedOf (take (getD m 0 0) (drop 1 m)) = sym e ∙ ap (λ (n : ℕ). walkedOf (take n (drop 1 m))) one in
     rw (ne-eqb (length m) 0 h, le-ltb (length m) (getD m 0 0 + 1) l)
     (ex ∙ ap (λ (v : Elements). headingBy v (getD m 0 0 + 1)) all)
+
+-- ---- two faults
+
+pub place-wrong : (n : Noted) (number : ℕ) (b : List ℕ) → number ≡ 0 → (length b ≡ 3 → ⊥) → Fault ≡ elementOf n number b
+unfolding elementOf
+place-wrong n number b e l = rw (ne-eqb number 5 (λ q. omega arith), eq-eqb number 0 e, ne-eqb (length b) 3 l)
+
+pub total-over : (ports : Ports) (start : ℕ) (p : Place) → 11 < p .total → Refused ≡ placedOf ports start p
+unfolding placedOf
+total-over ports start p h = rw (lt-ltb 11 (p .total) h)

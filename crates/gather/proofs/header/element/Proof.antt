@@ -1,6 +1,6 @@
 -- `element`: by its number, and its length.
 use borrow.Author.Tests.{not-true, not-false}
-use Rattle.gather.proofs.Headings.{ports-noted}
+use Rattle.gather.proofs.Headings.{ports-noted, place-wrong}
 use Rattle.digest.proofs.Picks.{picks}
 use Rattle.gather.specs.Header.{elementOf}
 use borrow.Author.Needs.{needs}
@@ -36,8 +36,7 @@ returns-2 : tie.Need-returns-2
 returns-2 c = ports-noted _ _ _ _ _ (c .before .before .before .before .before .before .before .before .if1 .taken) (c .before .before .before .before .before .before .before .if2 .left) (c .before .before .before .before .pair .ensures) (c .before .pair2 .ensures)
 
 returns-3 : tie.Need-returns-3
-unfolding elementOf
-returns-3 c = search picks
+returns-3 c = place-wrong _ _ _ (c .before .if3 .taken) (c .if4 .taken)
 
 shared-slice-read-t25 : tie.Need-shared-slice-read-t25
 shared-slice-read-t25 c = search needs

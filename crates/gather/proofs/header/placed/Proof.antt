@@ -1,4 +1,5 @@
 -- `placed`: the tests are the definition's.
+use Rattle.gather.proofs.Headings.{total-over}
 use Rattle.digest.proofs.Picks.{picks}
 use Rattle.gather.specs.Header.{placedOf}
 use Rattle.gather.proofs.header.placed.Statement.{statement}
@@ -7,8 +8,7 @@ use Rattle.gather.proofs.header.placed.Reads as reads
 use Rattle.gather.proofs.header.placed.Lts as lts
 
 returns : tie.Need-returns
-unfolding placedOf
-returns c = search picks
+returns c = total-over _ _ _ (c .if1 .taken)
 
 returns-2 : tie.Need-returns-2
 unfolding placedOf
