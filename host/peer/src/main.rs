@@ -3,7 +3,7 @@
 use std::io::{self, BufWriter, Read, Write};
 use std::process::ExitCode;
 
-use peer::{console, dayconsole, dayfiles, days, handshakes, lists, rng, stored, wire};
+use peer::{console, dayconsole, dayfiles, days, handshakes, lists, parts, rng, stored, wire};
 
 const USAGE: &str = "\
 peer console                       the lines that the console must write for those on stdin
@@ -20,6 +20,8 @@ peer days --seed S --calls N [--spent K] [--keep FILE] --console PROGRAM [ARGUME
                                    FILE gets the few lines that make a difference
 peer lists --seed S --count N --lister PROGRAM [ARGUMENT ..]
                                    random datagrams through a frame lister
+peer parts --seed S --count N --gatherer PROGRAM [ARGUMENT ..]
+                                   random short messages, sound and damaged, through a gatherer
 ";
 
 fn main() -> ExitCode {
@@ -36,7 +38,10 @@ fn main() -> ExitCode {
         ["daycuts", "--seed", seed, "--count", count] => day_files(seed, count, dayfiles::cuts),
         ["days", ..] => return run_days(&words[1..]),
         ["lists", "--seed", seed, "--count", count, "--lister", ..] => {
-            return run_lists(seed.parse().ok(), count.parse().ok(), &words[6..])
+            return run_many(lists::run, seed.parse().ok(), count.parse().ok(), &words[6..])
+        }
+        ["parts", "--seed", seed, "--count", count, "--gatherer", ..] => {
+            return run_many(parts::run, seed.parse().ok(), count.parse().ok(), &words[6..])
         }
         _ => {
             eprint!("{USAGE}");
@@ -91,12 +96,15 @@ fn run_days(words: &[&str]) -> ExitCode {
     }
 }
 
-fn run_lists(seed: Option<u64>, count: Option<u64>, program: &[&str]) -> ExitCode {
+/// A comparison of many random inputs.
+type Run = fn(u64, u64, &[&str]) -> Result<String, String>;
+
+fn run_many(run: Run, seed: Option<u64>, count: Option<u64>, program: &[&str]) -> ExitCode {
     let (Some(seed), Some(count), false) = (seed, count, program.is_empty()) else {
         eprint!("{USAGE}");
         return ExitCode::from(2);
     };
-    match lists::run(seed, count, program) {
+    match run(seed, count, program) {
         Ok(report) => {
             print!("{report}");
             ExitCode::SUCCESS
