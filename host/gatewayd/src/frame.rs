@@ -6,8 +6,13 @@
 //! mark 4, length of the body 4, body, SHA-1 over all of these 20
 //! body: time 8, place in the list (day 4, text 8, JSON 8), changes until its end
 //! change: identifier 8, planting 20, connection 457, tally 16, route 19, name 2 + n,
-//!         reports 2, and for each number 2, bytes 2 + n
+//!         reports 2, and for each number 2, bytes 2 + n,
+//!         hello 2 + n, handshakes 2, and for each hello 2 + n, connection 457,
+//!         senders 2, and for each 19
 //! ```
+//!
+//! Before handshakes were kept beside the connection, a change ended with its reports, and the mark
+//! was another one; such records are still read.
 
 use crate::clock::{Day, Moment};
 use crate::fleet::Report;
@@ -17,8 +22,9 @@ use gateway::{STATE_SIZE, TALLY_SIZE};
 use peer::sha1::sha1;
 use std::net::{IpAddr, SocketAddr};
 
-/// "GWJ", and 1 for this layout.
-const MARK: [u8; 4] = *b"GWJ\x01";
+/// "GWJ", and 2 for this layout, 1 for the one before.
+const MARK: [u8; 4] = *b"GWJ\x02";
+const EARLIER_MARK: [u8; 4] = *b"GWJ\x01";
 const HEAD: usize = 8;
 const DIGEST: usize = 20;
 
@@ -41,6 +47,17 @@ pub struct Change {
     /// The ship's name at that time, for the list.
     pub ship: String,
     pub reports: Vec<Report>,
+    /// The hello from which the connection came.
+    pub hello: Vec<u8>,
+    pub started: Vec<Started>,
+}
+
+/// A handshake under way.
+#[derive(Clone, PartialEq, Eq, Debug)]
+pub struct Started {
+    pub hello: Vec<u8>,
+    pub connection: [u8; STATE_SIZE],
+    pub senders: Vec<SocketAddr>,
 }
 
 impl Frame {
@@ -68,7 +85,8 @@ impl Frame {
     /// The record at the front, and its size; nothing if it is cut or damaged.
     pub fn read(bytes: &[u8]) -> Option<(Frame, usize)> {
         let mut head = Bytes { left: bytes };
-        if head.array()? != MARK {
+        let mark = head.array()?;
+        if mark != MARK && mark != EARLIER_MARK {
             return None;
         }
         let length = u32::from_be_bytes(head.array()?) as usize;
@@ -84,7 +102,7 @@ impl Frame {
         let json = u64::from_be_bytes(body.array()?);
         let mut changes = Vec::new();
         while !body.left.is_empty() {
-            changes.push(Change::take(&mut body)?);
+            changes.push(Change::take(&mut body, mark == MARK)?);
         }
         Some((Frame { time, place: Place { day, text, json }, changes }, size))
     }
@@ -103,9 +121,14 @@ impl Change {
             bytes.extend(report.number.to_be_bytes());
             put_counted(bytes, &report.bytes);
         }
+        put_counted(bytes, &self.hello);
+        bytes.extend((self.started.len() as u16).to_be_bytes());
+        for started in &self.started {
+            started.put(bytes);
+        }
     }
 
-    fn take(bytes: &mut Bytes) -> Option<Change> {
+    fn take(bytes: &mut Bytes, with_handshakes: bool) -> Option<Change> {
         let id = bytes.array()?;
         let planting = bytes.array()?;
         let connection = bytes.array()?;
@@ -118,7 +141,35 @@ impl Change {
             let number = bytes.two()?;
             reports.push(Report { number, bytes: bytes.counted()?.to_vec() });
         }
-        Some(Change { id, planting, connection, tally, route, ship, reports })
+        let (mut hello, mut started) = (Vec::new(), Vec::new());
+        if with_handshakes {
+            hello = bytes.counted()?.to_vec();
+            for _ in 0..bytes.two()? {
+                started.push(Started::take(bytes)?);
+            }
+        }
+        Some(Change { id, planting, connection, tally, route, ship, reports, hello, started })
+    }
+}
+
+impl Started {
+    fn put(&self, bytes: &mut Vec<u8>) {
+        put_counted(bytes, &self.hello);
+        bytes.extend(self.connection);
+        bytes.extend((self.senders.len() as u16).to_be_bytes());
+        for sender in &self.senders {
+            bytes.extend(route_bytes(Some(*sender)));
+        }
+    }
+
+    fn take(bytes: &mut Bytes) -> Option<Started> {
+        let hello = bytes.counted()?.to_vec();
+        let connection = bytes.array()?;
+        let mut senders = Vec::new();
+        for _ in 0..bytes.two()? {
+            senders.push(route_in(bytes.array()?)??);
+        }
+        Some(Started { hello, connection, senders })
     }
 }
 
@@ -199,10 +250,18 @@ mod tests {
                 Report { number: 65535, bytes: vec![5; 1300] },
                 Report { number: 1, bytes: vec![6] },
             ],
+            hello: vec![7; 40],
+            started: vec![],
+        };
+        let started = Started {
+            hello: vec![8; 256],
+            connection: [9; STATE_SIZE],
+            senders: vec!["192.0.2.8:1".parse().unwrap(), "[2001:db8::2]:2".parse().unwrap()],
         };
         let other = Change {
             route: Some("[2001:db8::1]:65535".parse().unwrap()),
             reports: vec![],
+            started: vec![started.clone(), Started { hello: vec![], ..started }],
             ..change.clone()
         };
         let third = Change { route: None, ..change.clone() };
@@ -216,6 +275,22 @@ mod tests {
         assert_eq!(Frame::read(&bytes), Some((frame(), bytes.len())));
         let followed = [&bytes[..], b"GWJ"].concat();
         assert_eq!(Frame::read(&followed), Some((frame(), bytes.len())));
+    }
+
+    /// A record of the layout before: without the last four bytes of a change that has no hello
+    /// and no handshakes.
+    #[test]
+    fn the_earlier_layout() {
+        let mut frame = frame();
+        frame.changes.truncate(1);
+        frame.changes[0].hello.clear();
+        let mut bytes = frame.bytes();
+        bytes.truncate(bytes.len() - DIGEST - 4);
+        bytes[..4].copy_from_slice(&EARLIER_MARK);
+        let length = (bytes.len() - HEAD) as u32;
+        bytes[4..HEAD].copy_from_slice(&length.to_be_bytes());
+        bytes.extend(sha1(&[&bytes]));
+        assert_eq!(Frame::read(&bytes), Some((frame, bytes.len())));
     }
 
     #[test]

@@ -66,12 +66,13 @@ fn barred_for_good() {
     assert!(!tallies.contains("\tbarred\tship 1\n"), "{tallies}");
 }
 
-/// A hello ends no open connection, unless `--reopen-after` lets it; then the old address is told.
+/// A hello is answered beside an open connection that has been silent for `--reopen-after`; the open
+/// one goes on until the new one is open.
 #[test]
 fn a_rebooted_ship() {
     let place = Place::new("rebooted");
     place.plant(1);
-    let gatewayd = Gatewayd::start(&place, ANY, &[]);
+    let gatewayd = Gatewayd::start(&place, ANY, &["--reopen-after", "3600"]);
     let address = gatewayd.address;
     let mut ship = Ship::new(0, address);
     ship.open(1);
@@ -85,10 +86,13 @@ fn a_rebooted_ship() {
 
     let gatewayd = Gatewayd::start(&place, &address.to_string(), &["--reopen-after", "0"]);
     rebooted.shake_hands(2);
-    ship.hear(NO_ANSWER);
-    assert_eq!(ship.notices, 1);
+    ship.send(&ship.data(2));
+    wait_for("the second report", || place.listed(0).len() == 2);
+    gatewayd.end();
+    // A handshake under way outlives the gateway, too.
+    let gatewayd = Gatewayd::start(&place, &address.to_string(), &[]);
     rebooted.send(&rebooted.data_behind_finished(1));
-    wait_for("the report of the rebooted ship", || place.listed(0).len() == 2);
+    wait_for("the report of the rebooted ship", || place.listed(0).len() == 3);
     gatewayd.end();
 }
 

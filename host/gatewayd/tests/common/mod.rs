@@ -90,7 +90,9 @@ pub fn identifier(ship: usize) -> [u8; 8] {
 }
 
 pub fn secret(ship: usize) -> [u8; 20] {
-    [ship as u8 + 1; 20]
+    let mut secret = [ship as u8 + 1; 20];
+    secret[..8].copy_from_slice(&identifier(ship));
+    secret
 }
 
 fn session_line(ship: usize) -> String {
@@ -204,6 +206,14 @@ impl Ship {
             warnings: 0,
             notices: 0,
         }
+    }
+
+    /// The same ship with another socket: a modem that registers again, another port of a
+    /// translator.
+    pub fn move_to(&mut self, address: &str) {
+        let to = self.socket.peer_addr().unwrap();
+        self.socket = UdpSocket::bind(address).unwrap();
+        self.socket.connect(to).unwrap();
     }
 
     pub fn hello(&mut self, random: u8) -> Vec<u8> {

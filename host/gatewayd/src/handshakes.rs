@@ -1,0 +1,168 @@
+//! Room for handshakes under way. A hello has no code, so anybody can start one for any ship whose
+//! identifier he knows: the room is bounded, and divided so that a stranger cannot take it all.
+
+use crate::ship::{Handshake, Ship};
+use crate::way;
+use std::collections::{HashMap, VecDeque};
+use std::net::{IpAddr, SocketAddr};
+use std::time::{Duration, Instant};
+
+/// Handshakes of one ship, and of all.
+pub const OF_A_SHIP: usize = 8;
+pub const OF_ALL: usize = 4096;
+/// So long one is kept, whoever else says hello: some round trips of a slow link.
+pub const HOLD: Duration = Duration::from_secs(8);
+
+/// Where the handshakes of all ships are to be found. They themselves are with their ships.
+#[derive(Default)]
+pub struct Handshakes {
+    next: u64,
+    /// Ship and serial, the oldest first; those that have ended are still in it for a while.
+    order: VecDeque<(usize, u64)>,
+    count: usize,
+    by_sender: HashMap<SocketAddr, Vec<usize>>,
+}
+
+impl Handshakes {
+    /// The ships for which this sender has a handshake under way.
+    pub fn at(&self, sender: SocketAddr) -> &[usize] {
+        self.by_sender.get(&sender).map_or(&[], |ships| ships)
+    }
+
+    /// All handshakes, the newest first: ship and serial.
+    pub fn all(&self) -> impl Iterator<Item = (usize, u64)> + '_ {
+        self.order.iter().rev().copied()
+    }
+
+    /// Makes room for a newcomer, and adds it; false if there is none.
+    pub fn start(&mut self, ships: &mut [Ship], ship: usize, newcomer: Handshake) -> bool {
+        let Some(sender) = newcomer.senders.first().copied() else { return false };
+        if !self.make_room(ships, ship, sender, newcomer.at) {
+            return false;
+        }
+        self.add(ships, ship, newcomer);
+        true
+    }
+
+    /// Adds one; there is room.
+    pub fn add(&mut self, ships: &mut [Ship], ship: usize, newcomer: Handshake) {
+        let serial = self.next;
+        self.next += 1;
+        self.count += 1;
+        self.order.push_back((ship, serial));
+        for sender in &newcomer.senders {
+            self.note_sender(*sender, ship);
+        }
+        ships[ship].started.push(Handshake { serial, ..newcomer });
+    }
+
+    /// Somebody else said the hello of a handshake.
+    pub fn said_again(&mut self, ships: &mut [Ship], ship: usize, place: usize, by: SocketAddr) {
+        let pushed_out = ships[ship].started[place].add_sender(by);
+        self.note_sender(by, ship);
+        if let Some(sender) = pushed_out {
+            self.forget_sender(sender, &ships[ship], ship);
+        }
+    }
+
+    /// Ends one.
+    pub fn end(&mut self, ships: &mut [Ship], ship: usize, place: usize) -> Handshake {
+        let ended = ships[ship].started.remove(place);
+        self.count -= 1;
+        for sender in &ended.senders {
+            self.forget_sender(*sender, &ships[ship], ship);
+        }
+        if self.order.len() > 2 * self.count + OF_A_SHIP {
+            let is_there =
+                |(ship, serial): &(usize, u64)| place_of(&ships[*ship], *serial).is_some();
+            self.order.retain(is_there);
+        }
+        ended
+    }
+
+    pub fn end_all_of(&mut self, ships: &mut [Ship], ship: usize) {
+        while !ships[ship].started.is_empty() {
+            self.end(ships, ship, 0);
+        }
+    }
+
+    fn make_room(
+        &mut self,
+        ships: &mut [Ship],
+        ship: usize,
+        sender: SocketAddr,
+        now: Instant,
+    ) -> bool {
+        if ships[ship].started.len() >= OF_A_SHIP {
+            let Some(place) = gives_way(&ships[ship], sender, now) else { return false };
+            self.end(ships, ship, place);
+        } else if self.count >= OF_ALL {
+            let Some((other, place)) = self.oldest(ships) else { return false };
+            let held = now.saturating_duration_since(ships[other].started[place].at) < HOLD;
+            if held && !is_home(&ships[ship], way::host(sender)) {
+                return false;
+            }
+            self.end(ships, other, place);
+        }
+        true
+    }
+
+    fn oldest(&mut self, ships: &[Ship]) -> Option<(usize, usize)> {
+        loop {
+            let (ship, serial) = *self.order.front()?;
+            match place_of(&ships[ship], serial) {
+                Some(place) => return Some((ship, place)),
+                None => self.order.pop_front(),
+            };
+        }
+    }
+
+    fn note_sender(&mut self, sender: SocketAddr, ship: usize) {
+        let ships = self.by_sender.entry(sender).or_default();
+        if !ships.contains(&ship) {
+            ships.push(ship);
+        }
+    }
+
+    fn forget_sender(&mut self, sender: SocketAddr, left: &Ship, ship: usize) {
+        if left.started.iter().any(|handshake| handshake.senders.contains(&sender)) {
+            return;
+        }
+        if let Some(ships) = self.by_sender.get_mut(&sender) {
+            ships.retain(|other| *other != ship);
+            if ships.is_empty() {
+                self.by_sender.remove(&sender);
+            }
+        }
+    }
+}
+
+/// Where in its ship a handshake stands.
+pub fn place_of(ship: &Ship, serial: u64) -> Option<usize> {
+    ship.started.iter().position(|handshake| handshake.serial == serial)
+}
+
+/// Whether the ship's last genuine new record came from this host.
+pub fn is_home(ship: &Ship, host: IpAddr) -> bool {
+    ship.route.is_some_and(|route| way::host(route) == host)
+}
+
+/// Which handshake of a ship gives way to a newcomer: the oldest, if it has had its time; for one
+/// from the ship's own host the oldest from elsewhere, until half of the room is its own; else the
+/// oldest from the host with most of them, if that has two more than the newcomer's.
+fn gives_way(ship: &Ship, sender: SocketAddr, now: Instant) -> Option<usize> {
+    let host = way::host(sender);
+    let hosts: Vec<IpAddr> = ship.started.iter().map(|one| way::host(one.senders[0])).collect();
+    let count = |of: IpAddr| hosts.iter().filter(|other| **other == of).count();
+    if now.saturating_duration_since(ship.started[0].at) >= HOLD {
+        return Some(0);
+    }
+    if is_home(ship, host) && count(host) < OF_A_SHIP / 2 {
+        return hosts.iter().position(|other| *other != host);
+    }
+    let most = hosts.iter().map(|other| count(*other)).max()?;
+    if count(host) + 1 < most {
+        return hosts.iter().position(|other| count(*other) == most);
+    }
+    None
+}
