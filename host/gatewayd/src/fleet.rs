@@ -1,7 +1,7 @@
 //! All ships, and what a datagram does to them. Nothing here touches the disk or the network: what
 //! is to be saved, listed, sent and logged comes back, and the caller does it in that order.
 
-use crate::budget::{Budget, Shares};
+use crate::budget::Shares;
 use crate::datagram;
 use crate::handshakes::{self, Handshakes};
 use crate::hints::Hints;
@@ -25,8 +25,9 @@ const TRIED_AT_ONCE: usize = 4;
 /// that datagrams which fit nobody cannot keep a ship that has moved from being tried at all.
 const NEAR: usize = 4;
 const NEAR_EACH_SECOND: u32 = 16_000;
-const NEAR_OF_A_SHARE: u32 = 4_000;
+const NEAR_OF_A_SHARE: u32 = 1_000;
 const FAR_EACH_SECOND: u32 = 8_000;
+const FAR_OF_A_SHARE: u32 = 1_000;
 /// Hellos answered for one share of the hosts, and for all.
 const HELLOS_OF_A_SHARE: u32 = 50;
 const HELLOS_EACH_SECOND: u32 = 4_000;
@@ -50,7 +51,7 @@ pub struct Fleet {
     hints: Option<Hints>,
     hellos: Shares,
     near: Shares,
-    far: Budget,
+    far: Shares,
 }
 
 #[derive(Clone, PartialEq, Eq, Debug)]
@@ -106,7 +107,7 @@ impl Fleet {
             hints: rules.hint_every.map(Hints::new),
             hellos: Shares::new(HELLOS_EACH_SECOND, HELLOS_OF_A_SHARE),
             near: Shares::new(NEAR_EACH_SECOND, NEAR_OF_A_SHARE),
-            far: Budget::new(FAR_EACH_SECOND),
+            far: Shares::new(FAR_EACH_SECOND, FAR_OF_A_SHARE),
         };
         for index in 0..fleet.ships.len() {
             fleet.set_route(index);
@@ -171,6 +172,10 @@ impl Fleet {
 
     /// A new hello: a handshake of its own, beside all others.
     fn start(&mut self, index: usize, hello: &datagram::Hello, arrival: &Arrival) -> Taken {
+        let sender = arrival.way.sender;
+        let Some(room) = self.handshakes.room(&self.ships, index, sender, arrival.now) else {
+            return noted(Some(index), Note::HelloPassedOver);
+        };
         let ship = &self.ships[index];
         let Some(connection) = ship.base() else { return Taken::default() };
         let trial = match trial::on(&connection, ship.tally, arrival.datagram, arrival.random) {
@@ -178,24 +183,19 @@ impl Fleet {
             Err(refused) => return noted(Some(index), refused_whole(refused)),
         };
         let mut taken = Taken { ship: Some(index), ..Taken::default() };
-        if trial.has_reply() {
+        tell(arrival, &trial, &mut taken);
+        // Nothing is kept of a hello that is refused, or that is taken back by what follows it.
+        if trial.has_reply() && trial.connection.state() == State::Replied {
             let newcomer = Handshake {
                 serial: 0,
                 hello: hello.message.to_vec(),
-                senders: vec![arrival.way.sender],
-                connection: trial.connection.clone(),
+                senders: vec![sender],
+                connection: trial.connection,
                 at: arrival.now,
             };
-            if !self.handshakes.start(&mut self.ships, index, newcomer) {
-                return noted(Some(index), Note::HelloPassedOver);
-            }
+            self.handshakes.start(&mut self.ships, index, room, newcomer);
             taken.changed = true;
             taken.notes.push(Note::Answered);
-        }
-        tell(arrival, &trial, &mut taken);
-        if trial.connection.state() == State::Closed {
-            let place = self.ships[index].started.len() - 1;
-            self.handshakes.end(&mut self.ships, index, place);
         }
         taken
     }
@@ -237,7 +237,7 @@ impl Fleet {
                 near += 1;
                 near_left.spend(way::host(sender), arrival.now)
             } else {
-                far_left.spend(arrival.now)
+                far_left.spend(way::host(sender), arrival.now)
             };
             if !may {
                 break;

@@ -23,6 +23,13 @@ pub struct Handshakes {
     by_sender: HashMap<SocketAddr, Vec<usize>>,
 }
 
+/// Room for a newcomer.
+pub enum Room {
+    Free,
+    /// In the place of this one: a ship, and its place there.
+    Instead(usize, usize),
+}
+
 impl Handshakes {
     /// The ships for which this sender has a handshake under way.
     pub fn at(&self, sender: SocketAddr) -> &[usize] {
@@ -34,14 +41,32 @@ impl Handshakes {
         self.order.iter().rev().copied()
     }
 
-    /// Makes room for a newcomer, and adds it; false if there is none.
-    pub fn start(&mut self, ships: &mut [Ship], ship: usize, newcomer: Handshake) -> bool {
-        let Some(sender) = newcomer.senders.first().copied() else { return false };
-        if !self.make_room(ships, ship, sender, newcomer.at) {
-            return false;
+    /// Whether there is room for a handshake of a ship, and which one gives way to it.
+    pub fn room(
+        &mut self,
+        ships: &[Ship],
+        ship: usize,
+        sender: SocketAddr,
+        now: Instant,
+    ) -> Option<Room> {
+        if ships[ship].started.len() >= OF_A_SHIP {
+            return Some(Room::Instead(ship, gives_way(&ships[ship], sender, now)?));
+        }
+        if self.count < OF_ALL {
+            return Some(Room::Free);
+        }
+        let (other, place) = self.oldest(ships)?;
+        let had_its_time = is_held_no_more(&ships[other].started[place], now);
+        let may = had_its_time || is_home(&ships[ship], way::host(sender));
+        may.then_some(Room::Instead(other, place))
+    }
+
+    /// Starts one, in its room.
+    pub fn start(&mut self, ships: &mut [Ship], ship: usize, room: Room, newcomer: Handshake) {
+        if let Room::Instead(other, place) = room {
+            self.end(ships, other, place);
         }
         self.add(ships, ship, newcomer);
-        true
     }
 
     /// Adds one; there is room.
@@ -86,27 +111,6 @@ impl Handshakes {
         }
     }
 
-    fn make_room(
-        &mut self,
-        ships: &mut [Ship],
-        ship: usize,
-        sender: SocketAddr,
-        now: Instant,
-    ) -> bool {
-        if ships[ship].started.len() >= OF_A_SHIP {
-            let Some(place) = gives_way(&ships[ship], sender, now) else { return false };
-            self.end(ships, ship, place);
-        } else if self.count >= OF_ALL {
-            let Some((other, place)) = self.oldest(ships) else { return false };
-            let held = now.saturating_duration_since(ships[other].started[place].at) < HOLD;
-            if held && !is_home(&ships[ship], way::host(sender)) {
-                return false;
-            }
-            self.end(ships, other, place);
-        }
-        true
-    }
-
     fn oldest(&mut self, ships: &[Ship]) -> Option<(usize, usize)> {
         loop {
             let (ship, serial) = *self.order.front()?;
@@ -147,6 +151,10 @@ pub fn is_home(ship: &Ship, host: IpAddr) -> bool {
     ship.route.is_some_and(|route| way::host(route) == host)
 }
 
+fn is_held_no_more(handshake: &Handshake, now: Instant) -> bool {
+    now.saturating_duration_since(handshake.at) >= HOLD
+}
+
 /// Which handshake of a ship gives way to a newcomer: the oldest, if it has had its time; for one
 /// from the ship's own host the oldest from elsewhere, until half of the room is its own; else the
 /// oldest from the host with most of them, if that has two more than the newcomer's.
@@ -154,7 +162,7 @@ fn gives_way(ship: &Ship, sender: SocketAddr, now: Instant) -> Option<usize> {
     let host = way::host(sender);
     let hosts: Vec<IpAddr> = ship.started.iter().map(|one| way::host(one.senders[0])).collect();
     let count = |of: IpAddr| hosts.iter().filter(|other| **other == of).count();
-    if now.saturating_duration_since(ship.started[0].at) >= HOLD {
+    if is_held_no_more(&ship.started[0], now) {
         return Some(0);
     }
     if is_home(ship, host) && count(host) < OF_A_SHIP / 2 {

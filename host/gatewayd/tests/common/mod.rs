@@ -8,6 +8,7 @@ use std::collections::HashMap;
 use std::fs;
 use std::io::{BufRead, BufReader, Read};
 use std::net::{SocketAddr, UdpSocket};
+use std::os::fd::OwnedFd;
 use std::os::unix::fs::PermissionsExt;
 use std::path::{Path, PathBuf};
 use std::process::{Child, ChildStdout, Command, Stdio};
@@ -137,6 +138,31 @@ impl Gatewayd {
         command.args(["-c", &limits, "sh"]).arg(plain.get_program()).args(plain.get_args());
         command.stdout(Stdio::piped()).stderr(log);
         Gatewayd::begin(place, command)
+    }
+
+    /// With a socket that outlives it, as systemd hands one over.
+    pub fn start_with(place: &Place, socket: &OwnedFd) -> Gatewayd {
+        let plain = Gatewayd::command(place, "127.0.0.1:1", &[]);
+        let over = "exec 3<&0 </dev/null; LISTEN_FDS=1 LISTEN_PID=$$ exec \"$@\"";
+        let log = fs::OpenOptions::new().append(true).open(place.path.join("log")).unwrap();
+        let mut command = Command::new("sh");
+        command.args(["-c", over, "sh"]).arg(plain.get_program()).args(plain.get_args());
+        command.stdin(socket.try_clone().unwrap()).stdout(Stdio::piped()).stderr(log);
+        Gatewayd::begin(place, command)
+    }
+
+    /// Ended by one signal or the other, whichever the turn.
+    pub fn end_at(&mut self, turn: usize) {
+        signal(&self.child, if turn % 4 == 0 { "TERM" } else { "INT" });
+        assert_eq!(self.child.wait().unwrap().code(), Some(0));
+    }
+
+    /// SIGHUP; waits until it listens again.
+    pub fn start_anew(&mut self) {
+        signal(&self.child, "HUP");
+        let mut line = String::new();
+        self.out.read_line(&mut line).unwrap();
+        assert!(line.contains(&format!(" listens on {}:", self.address)), "{line}");
     }
 
     fn begin(place: &Place, mut command: Command) -> Gatewayd {
