@@ -5,13 +5,13 @@ mod common;
 
 use common::{identifier, signal, text, wait_for, Gatewayd, Place, Ship};
 use std::ffi::OsString;
-use std::fs::{self, File};
+use std::fs;
 use std::io::{BufRead, BufReader, Read};
 use std::net::UdpSocket;
 use std::os::fd::OwnedFd;
 use std::os::unix::ffi::OsStringExt;
 use std::os::unix::fs::PermissionsExt;
-use std::process::{Command, Stdio};
+use std::process::{Child, Command, Stdio};
 use std::sync::atomic::{AtomicBool, Ordering};
 use std::thread;
 use std::time::{Duration, Instant};
@@ -57,50 +57,9 @@ fn what_the_system_drops_is_told() {
     gatewayd.end();
 }
 
-/// Standard error and standard output are pipes that nobody reads: the listing goes on, and the end
-/// is clean.
-#[test]
-fn a_log_that_nobody_reads() {
-    let place = Place::new("unread");
-    place.plant(1);
-    let mut child = Command::new(env!("CARGO_BIN_EXE_gatewayd"))
-        .args(["--listen", ANY, "--log-every", "0", "--sessions"])
-        .arg(place.sessions())
-        .arg("--state")
-        .arg(place.state())
-        .stdout(Stdio::piped())
-        .stderr(Stdio::piped())
-        .spawn()
-        .unwrap();
-    let mut out = BufReader::new(child.stdout.take().unwrap());
-    let mut line = String::new();
-    out.read_line(&mut line).unwrap();
-    let address = line.split_whitespace().nth(4).unwrap().trim_end_matches(':').parse().unwrap();
-    let mut ship = Ship::new(0, address);
-    ship.open(1);
-    // Each is a line of some 80 bytes; a pipe holds 64 kB, and 1,024 lines wait.
-    let mut forged = ship.data(1);
-    *forged.last_mut().unwrap() ^= 1;
-    for number in 1..=40 {
-        for _ in 0..100 {
-            ship.send(&forged);
-        }
-        ship.send(&ship.data(number));
-        wait_for("the report", || place.listed(0).len() == usize::from(number));
-    }
-    signal(&child, "TERM");
-    let start = Instant::now();
-    assert_eq!(child.wait().unwrap().code(), Some(0));
-    assert!(start.elapsed() < Duration::from_secs(5));
-    let mut log = String::new();
-    child.stderr.take().unwrap().read_to_string(&mut log).unwrap();
-    assert!(log.lines().count() < 2500, "{} lines", log.lines().count());
-}
-
-/// Lines that were dropped are counted when somebody reads again.
-#[test]
-fn dropped_lines_are_counted() {
-    let place = Place::new("read-again");
+/// A gateway whose standard error is a pipe that nobody reads. 4,000 lines are said, of some 80 bytes
+/// each; the pipe holds 64 kB, and 1,024 lines wait. The listing goes on.
+fn with_unread_log(place: &Place) -> (Child, Ship, Vec<u8>) {
     place.plant(1);
     let mut child = Command::new(env!("CARGO_BIN_EXE_gatewayd"))
         .args(["--listen", ANY, "--log-every", "0", "--sessions"])
@@ -125,17 +84,32 @@ fn dropped_lines_are_counted() {
         ship.send(&ship.data(number));
         wait_for("the report", || place.listed(0).len() == usize::from(number));
     }
-    let mut log = BufReader::new(child.stderr.take().unwrap());
-    let mut told = false;
-    for _ in 0..5000 {
+    (child, ship, forged)
+}
+
+#[test]
+fn a_log_that_nobody_reads() {
+    let place = Place::new("unread");
+    let (mut child, ..) = with_unread_log(&place);
+    signal(&child, "TERM");
+    let start = Instant::now();
+    assert_eq!(child.wait().unwrap().code(), Some(0));
+    assert!(start.elapsed() < Duration::from_secs(5));
+    let mut log = String::new();
+    child.stderr.take().unwrap().read_to_string(&mut log).unwrap();
+    assert!(log.lines().count() < 2500, "{} lines", log.lines().count());
+}
+
+/// Lines that were dropped are counted when somebody reads again.
+#[test]
+fn dropped_lines_are_counted() {
+    let place = Place::new("read-again");
+    let (mut child, ship, forged) = with_unread_log(&place);
+    let mut log = BufReader::new(child.stderr.take().unwrap()).lines();
+    let told = (0..5000).any(|_| {
         ship.send(&forged);
-        let mut line = String::new();
-        log.read_line(&mut line).unwrap();
-        told |= line.contains(" lines dropped: nobody read the log");
-        if told {
-            break;
-        }
-    }
+        log.next().unwrap().unwrap().contains(" lines dropped: nobody read the log")
+    });
     assert!(told);
     child.kill().unwrap();
     child.wait().unwrap();
@@ -296,5 +270,4 @@ fn many_sessions() {
     ship.send(&ship.data(1));
     wait_for("the report", || place.listed(99_999).len() == 1);
     gatewayd.kill();
-    drop(File::open(place.sessions()));
 }

@@ -85,6 +85,11 @@ fn a_rebooted_ship() {
     gatewayd.end();
 
     let gatewayd = Gatewayd::start(&place, &address.to_string(), &["--reopen-after", "0"]);
+    // The hello from which the open connection came starts nothing.
+    let mut old = Ship::new(0, address);
+    let hello = old.hello(1);
+    old.send(&hello);
+    assert!(!old.hear(NO_ANSWER));
     rebooted.shake_hands(2);
     ship.send(&ship.data(2));
     wait_for("the second report", || place.listed(0).len() == 2);
@@ -94,6 +99,29 @@ fn a_rebooted_ship() {
     rebooted.send(&rebooted.data_behind_finished(1));
     wait_for("the report of the rebooted ship", || place.listed(0).len() == 3);
     gatewayd.end();
+}
+
+/// A datagram that is nobody's is answered by no_connection if the operator wants it, and else not.
+#[test]
+fn a_hint() {
+    for (more, hints) in [(&[][..], 0), (&["--hint-every", "60"], 1)] {
+        let place = Place::new(&format!("hint-{hints}"));
+        place.plant(1);
+        let gatewayd = Gatewayd::start(&place, ANY, more);
+        let ship = Ship::new(0, gatewayd.address);
+        ship.socket.set_read_timeout(Some(NO_ANSWER)).unwrap();
+        let mut got = 0;
+        for _ in 0..3 {
+            ship.send(&[0x64, 0, 1, 1, 2, 3, 4, 5, 6, 7, 8, 9, 10, 11, 12]);
+            let mut buffer = [0; 100];
+            if let Ok(size) = ship.socket.recv(&mut buffer) {
+                assert_eq!((size, &buffer[..5]), (9, &[0x42, 0xff, 0xff, 2, 5][..]));
+                got += 1;
+            }
+        }
+        assert_eq!(got, hints);
+        gatewayd.end();
+    }
 }
 
 /// A server random is the system's, new for each reply and each life.

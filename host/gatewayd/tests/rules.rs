@@ -174,7 +174,10 @@ fn an_overheard_hello() {
         if relayed {
             assert!(world.take(2, &flight, 0).changed);
             assert_eq!((world.route(0), world.state(0)), (Some(address(2)), State::Open));
-            assert_eq!(refusals(&world.take(1, &flight, 0)), [8, 11]);
+            // The Finished from the ship itself is a repeated one. The warning goes to the route.
+            let repeated = world.take(1, &flight, 0);
+            assert_eq!(refusals(&repeated), [8, 11]);
+            assert_eq!(repeated.send[0].0, way(address(2)));
         } else {
             assert!(world.take(1, &flight, 0).changed);
         }
@@ -185,6 +188,43 @@ fn an_overheard_hello() {
         assert_eq!((refusals(&late), late.changed), (vec![18], false));
         assert_eq!(world.take(1, &unit.data(2), 1_000_000).reports.len(), 1);
     }
+}
+
+/// A ship whose address changes between its hello and its Finished.
+#[test]
+fn a_ship_that_moves_in_its_handshake() {
+    let mut world = World::new(3);
+    let (mut unit, mut other) = (ship(0), ship(1));
+    world.greet(&mut other, 1, 8, 0);
+    world.greet(&mut unit, 1, 1, 0);
+    world.greet(&mut ship(2), 1, 9, 0);
+    let taken = world.take(2, &unit.data_behind_finished(1), 0);
+    assert_eq!((taken.ship, taken.reports.len()), (Some(0), 1));
+    assert_eq!((world.route(0), world.state(0)), (Some(address(2)), State::Open));
+    assert_eq!(world.fleet.ships[1].started.len(), 1);
+}
+
+/// Change cipher spec and Finished in datagrams of their own; a clear alert ends only the handshake
+/// of its own sender.
+#[test]
+fn clear_records_touch_the_handshake_of_their_sender_only() {
+    let mut world = World::new(1);
+    let mut unit = ship(0);
+    world.greet(&mut unit, 1, 1, 0);
+    let mut stranger = ship(0);
+    let hello = stranger.hello(2);
+    let reply = world.take(2, &hello, 0).send.remove(0).1;
+    let last = &reply[reply.len() - 28..];
+    assert_eq!(last[0], 0x63);
+    let alert = [&[0x42, 0, 2, 2, 0][..], &peer::alert::checksum(last)].concat();
+    let taken = world.take(2, &alert, 0);
+    assert!(taken.notes.contains(&Note::ClosedByAlert { description: 0 }), "{:?}", taken.notes);
+    assert_eq!(world.fleet.ships[0].started.len(), 1);
+    assert_eq!(world.take(3, &alert, 0).notes, [Note::Stranger]);
+    let change = unit.unit.clear(Content::ChangeCipherSpec, true, 1, &[1]);
+    assert!(world.take(1, &change, 0).changed);
+    assert!(world.take(1, &unit.unit.finished(false, 0).unwrap(), 0).changed);
+    assert_eq!(world.state(0), State::Open);
 }
 
 /// Many others say the same hello: the ship's own address is not pushed out by them.
