@@ -38,7 +38,7 @@ pub struct Shares {
     hasher: RandomState,
 }
 
-const SHARES: u64 = 256;
+const SHARES: u64 = 4096;
 
 impl Shares {
     pub fn new(each_second: u32, of_a_share: u32) -> Shares {

@@ -26,8 +26,8 @@ const TRIED_AT_ONCE: usize = 4;
 const NEAR: usize = 4;
 const NEAR_EACH_SECOND: u32 = 16_000;
 const NEAR_OF_A_SHARE: u32 = 1_000;
-const FAR_EACH_SECOND: u32 = 8_000;
-const FAR_OF_A_SHARE: u32 = 1_000;
+const FAR_EACH_SECOND: u32 = 16_000;
+const FAR_OF_A_SHARE: u32 = 2_000;
 /// Hellos answered for one share of the hosts, and for all.
 const HELLOS_OF_A_SHARE: u32 = 50;
 const HELLOS_EACH_SECOND: u32 = 4_000;

@@ -7,8 +7,8 @@
 //! body: time 8, place in the list (day 4, text 8, JSON 8), changes until its end
 //! change: identifier 8, planting 20, connection 457, tally 16, route 19, name 2 + n,
 //!         reports 2, and for each number 2, bytes 2 + n,
-//!         hello 2 + n, handshakes 2, and for each hello 2 + n, connection 457,
-//!         senders 2, and for each 19
+//!         highest number 2, hello 2 + n, handshakes 2, and for each hello 2 + n,
+//!         connection 457, senders 2, and for each 19
 //! ```
 //!
 //! Before handshakes were kept beside the connection, a change ended with its reports, and the mark
@@ -47,6 +47,8 @@ pub struct Change {
     /// The ship's name at that time, for the list.
     pub ship: String,
     pub reports: Vec<Report>,
+    /// The highest number of the connection.
+    pub newest: u16,
     /// The hello from which the connection came.
     pub hello: Vec<u8>,
     pub started: Vec<Started>,
@@ -121,6 +123,7 @@ impl Change {
             bytes.extend(report.number.to_be_bytes());
             put_counted(bytes, &report.bytes);
         }
+        bytes.extend(self.newest.to_be_bytes());
         put_counted(bytes, &self.hello);
         bytes.extend((self.started.len() as u16).to_be_bytes());
         for started in &self.started {
@@ -141,14 +144,26 @@ impl Change {
             let number = bytes.two()?;
             reports.push(Report { number, bytes: bytes.counted()?.to_vec() });
         }
-        let (mut hello, mut started) = (Vec::new(), Vec::new());
+        let (mut newest, mut hello, mut started) = (0, Vec::new(), Vec::new());
         if with_handshakes {
+            newest = bytes.two()?;
             hello = bytes.counted()?.to_vec();
             for _ in 0..bytes.two()? {
                 started.push(Started::take(bytes)?);
             }
         }
-        Some(Change { id, planting, connection, tally, route, ship, reports, hello, started })
+        Some(Change {
+            id,
+            planting,
+            connection,
+            tally,
+            route,
+            ship,
+            reports,
+            newest,
+            hello,
+            started,
+        })
     }
 }
 
@@ -250,6 +265,7 @@ mod tests {
                 Report { number: 65535, bytes: vec![5; 1300] },
                 Report { number: 1, bytes: vec![6] },
             ],
+            newest: 0x1234,
             hello: vec![7; 40],
             started: vec![],
         };
@@ -277,15 +293,16 @@ mod tests {
         assert_eq!(Frame::read(&followed), Some((frame(), bytes.len())));
     }
 
-    /// A record of the layout before: without the last four bytes of a change that has no hello
+    /// A record of the layout before: without the last six bytes of a change that has no hello
     /// and no handshakes.
     #[test]
     fn the_earlier_layout() {
         let mut frame = frame();
         frame.changes.truncate(1);
         frame.changes[0].hello.clear();
+        frame.changes[0].newest = 0;
         let mut bytes = frame.bytes();
-        bytes.truncate(bytes.len() - DIGEST - 4);
+        bytes.truncate(bytes.len() - DIGEST - 6);
         bytes[..4].copy_from_slice(&EARLIER_MARK);
         let length = (bytes.len() - HEAD) as u32;
         bytes[4..HEAD].copy_from_slice(&length.to_be_bytes());

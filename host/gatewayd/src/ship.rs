@@ -22,7 +22,7 @@ pub struct Ship {
     pub route: Option<SocketAddr>,
     /// Which of our addresses that record came to.
     pub ours: Option<IpAddr>,
-    /// The highest number of the open connection, as far as this life of the gateway knows it.
+    /// The highest number of the open connection.
     pub newest: u16,
     /// Barred sessions never come back; the library says so of its own, the gateway of those that
     /// were barred in an earlier life.

@@ -118,6 +118,7 @@ pub fn change(ship: &Ship, reports: Vec<Report>) -> Change {
         route: ship.route,
         ship: ship.session.ship.clone(),
         reports,
+        newest: ship.newest,
         hello: ship.hello.clone(),
         started: ship.started.iter().map(started).collect(),
     }
@@ -171,6 +172,7 @@ fn restore(
     }
     ship.tally = Tally::load(change.tally);
     ship.route = change.route.map(way::plain);
+    ship.newest = change.newest;
     ship.hello = change.hello.clone();
     for started in &change.started {
         let connection = Connection::load(&started.connection)

@@ -248,17 +248,19 @@ fn an_overheard_hello_said_by_many() {
 fn handshakes_under_fire() {
     let mut world = World::new(1);
     let mut unit = ship(0);
-    // One stranger, as often as he likes, before and behind the ship's hello.
+    // A stranger on seven hosts, as often as he likes, before and behind the ship's hello.
     let stranger = |world: &mut World, from: u8, second: u64| {
         for random in 100..200 {
             world.take(from, &ship(0).hello(random), second);
         }
     };
-    stranger(&mut world, 2, 0);
+    for from in [2, 2, 3, 4, 5, 6, 7, 8] {
+        stranger(&mut world, from, 0);
+    }
     world.greet(&mut unit, 1, 1, 0);
-    stranger(&mut world, 2, 0);
-    stranger(&mut world, 3, 0);
-    stranger(&mut world, 4, 0);
+    for from in 2..9 {
+        stranger(&mut world, from, 1);
+    }
     assert_eq!(world.fleet.ships[0].started.len(), 8);
     assert!(world.take(1, &unit.unit.flight().unwrap(), 7).changed);
     assert_eq!((world.state(0), world.route(0)), (State::Open, Some(address(1))));
