@@ -7,6 +7,7 @@ use crate::handshakes::{self, Handshakes};
 use crate::hints::Hints;
 use crate::note::Note;
 use crate::routes::Routes;
+use crate::search::{self, Arrival, Found, Known, Target, Trials};
 use crate::sessions::Identifier;
 use crate::ship::{Handshake, Ship};
 use crate::throttle::Throttle;
@@ -19,15 +20,6 @@ use std::time::{Duration, Instant};
 const WARNING: u32 = 1;
 const DUPLICATE_FINISHED_RECEIVED: u32 = 57;
 
-/// A datagram is tried on so many ships at its sender's address, whatever else is going on.
-const TRIED_AT_ONCE: usize = 4;
-/// Beyond them trials are budgeted. The first few of each datagram have a budget of their own, so
-/// that datagrams which fit nobody cannot keep a ship that has moved from being tried at all.
-const NEAR: usize = 4;
-const NEAR_EACH_SECOND: u32 = 16_000;
-const NEAR_OF_A_SHARE: u32 = 1_000;
-const FAR_EACH_SECOND: u32 = 16_000;
-const FAR_OF_A_SHARE: u32 = 2_000;
 /// Hellos answered for one share of the hosts, and for all.
 const HELLOS_OF_A_SHARE: u32 = 50;
 const HELLOS_EACH_SECOND: u32 = 4_000;
@@ -50,8 +42,7 @@ pub struct Fleet {
     warnings: Throttle<usize>,
     hints: Option<Hints>,
     hellos: Shares,
-    near: Shares,
-    far: Shares,
+    trials: Trials,
 }
 
 #[derive(Clone, PartialEq, Eq, Debug)]
@@ -70,21 +61,6 @@ pub struct Taken {
     pub reports: Vec<Report>,
     pub send: Vec<(Way, Vec<u8>)>,
     pub notes: Vec<Note>,
-}
-
-/// A datagram with all that is needed to take it.
-struct Arrival<'a> {
-    way: Way,
-    datagram: &'a [u8],
-    random: &'a [u8; 16],
-    now: Instant,
-}
-
-/// A connection of a ship: the settled one, or a handshake under way by its place.
-#[derive(Clone, Copy, PartialEq, Eq)]
-enum Target {
-    Settled(usize),
-    Started(usize, usize),
 }
 
 impl Fleet {
@@ -106,8 +82,7 @@ impl Fleet {
             warnings: Throttle::new(rules.warn_every),
             hints: rules.hint_every.map(Hints::new),
             hellos: Shares::new(HELLOS_EACH_SECOND, HELLOS_OF_A_SHARE),
-            near: Shares::new(NEAR_EACH_SECOND, NEAR_OF_A_SHARE),
-            far: Shares::new(FAR_EACH_SECOND, FAR_OF_A_SHARE),
+            trials: Trials::default(),
         };
         for index in 0..fleet.ships.len() {
             fleet.set_route(index);
@@ -185,7 +160,8 @@ impl Fleet {
         let mut taken = Taken { ship: Some(index), ..Taken::default() };
         tell(arrival, &trial, &mut taken);
         // Nothing is kept of a hello that is refused, or that is taken back by what follows it.
-        if trial.has_reply() && trial.connection.state() == State::Replied {
+        let under_way = matches!(trial.connection.state(), State::Replied | State::Spec);
+        if trial.has_reply() && under_way {
             let newcomer = Handshake {
                 serial: 0,
                 hello: hello.message.to_vec(),
@@ -204,68 +180,15 @@ impl Fleet {
 /// Everything else. It is for the ship whose keys made it.
 impl Fleet {
     fn take_records(&mut self, arrival: &Arrival) -> Taken {
-        let (found, refused) = match self.find(arrival) {
-            Ok(found) => found,
-            Err((ship, refused)) => return noted(ship, refused_whole(refused)),
-        };
-        match (found, refused) {
-            (Some((target, trial)), _) | (None, Some((target, trial))) => {
+        let known =
+            Known { ships: &self.ships, routes: &self.routes, handshakes: &self.handshakes };
+        match search::find(&known, &mut self.trials, arrival) {
+            Found::Genuine(target, trial) | Found::Refused(target, trial) => {
                 self.settle(target, trial, arrival)
             }
-            (None, None) => self.pass_over(arrival),
+            Found::RefusedWhole(ship, refused) => noted(ship, refused_whole(refused)),
+            Found::Nobodys => self.pass_over(arrival),
         }
-    }
-
-    /// The connection whose keys made a record of the datagram, with what comes of it there; and
-    /// beside it the one that has to count it, if it is nobody's.
-    #[allow(clippy::type_complexity)]
-    fn find<'d>(
-        &mut self,
-        arrival: &Arrival<'d>,
-    ) -> Result<(Option<(Target, Trial<'d>)>, Option<(Target, Trial<'d>)>), (Option<usize>, Refused)>
-    {
-        let sender = arrival.way.sender;
-        let owner = self.owner(sender);
-        let mut refused = None;
-        let (mut at_once, mut near) = (0, 0);
-        let (near_left, far_left) = (&mut self.near, &mut self.far);
-        for (target, is_here) in candidates(&self.ships, &self.routes, &self.handshakes, arrival) {
-            let may = if is_here && at_once < TRIED_AT_ONCE {
-                at_once += 1;
-                true
-            } else if near < NEAR {
-                near += 1;
-                near_left.spend(way::host(sender), arrival.now)
-            } else {
-                far_left.spend(way::host(sender), arrival.now)
-            };
-            if !may {
-                break;
-            }
-            let index = target.ship();
-            let trial = arrival
-                .tried_on(&self.ships[index], target)
-                .map_err(|whole| (owner.map(Target::ship), whole))?;
-            if trial.worth != Worth::Nothing {
-                return Ok((Some((target, trial)), None));
-            }
-            if owner == Some(target) {
-                refused = Some((target, trial));
-            }
-        }
-        Ok((None, refused))
-    }
-
-    /// Who has to count what is nobody's, and see its clear records: a handshake that this sender
-    /// started, or the only ship that has its route here. Of several nobody can tell which.
-    fn owner(&self, sender: std::net::SocketAddr) -> Option<Target> {
-        let newest = self.handshakes.at(sender).last().copied();
-        let started = newest.and_then(|index| {
-            let theirs = |handshake: &Handshake| handshake.senders.contains(&sender);
-            let place = self.ships[index].started.iter().rposition(theirs)?;
-            Some(Target::Started(index, place))
-        });
-        started.or_else(|| self.routes.at(sender).only().map(Target::Settled))
     }
 
     /// Nobody's. The sender may be told, if the operator wants it.
@@ -382,65 +305,6 @@ impl Fleet {
         let route = ship.route.filter(|_| ship.is_open()).map(|route| (route, ship.newest));
         self.routes.set(index, route);
     }
-}
-
-impl Target {
-    fn ship(self) -> usize {
-        match self {
-            Target::Settled(index) | Target::Started(index, _) => index,
-        }
-    }
-}
-
-impl<'d> Arrival<'d> {
-    fn tried_on(&self, ship: &Ship, target: Target) -> Result<Trial<'d>, Refused> {
-        let connection = match target {
-            Target::Settled(_) => &ship.connection,
-            Target::Started(_, place) => &ship.started[place].connection,
-        };
-        trial::on(connection, ship.tally, self.datagram, self.random)
-    }
-}
-
-/// The connections on which a datagram may be tried, the likeliest first, each with whether its
-/// sender is where that ship, or the hello of that handshake, was last heard: ships with their
-/// route here; handshakes of this sender; and, for a datagram with a protected record, ships on the
-/// same host, all handshakes if there is a Finished in it, and all ships.
-fn candidates<'a>(
-    ships: &'a [Ship],
-    routes: &'a Routes,
-    handshakes: &'a Handshakes,
-    arrival: &Arrival,
-) -> impl Iterator<Item = (Target, bool)> + 'a {
-    let sender = arrival.way.sender;
-    let host = way::host(sender);
-    let records = datagram::records(arrival.datagram);
-    let number = records.iter().rfind(|record| datagram::is_protected(record));
-    let number = number.and_then(|record| datagram::number(record));
-    let finished = records.iter().any(|record| datagram::is_protected_handshake(record));
-    let near = number.unwrap_or(0);
-
-    let here = routes.at(sender).nearest(near).map(Target::Settled);
-    let begun = handshakes.at(sender).iter().flat_map(move |index| {
-        let theirs = move |place: &usize| ships[*index].started[*place].senders.contains(&sender);
-        let places = 0..ships[*index].started.len();
-        places.filter(theirs).map(|place| Target::Started(*index, place))
-    });
-    let elsewhere = move |index: &usize| ships[*index].route != Some(sender);
-    let neighbours = routes.on(host).nearest(near).filter(elsewhere).map(Target::Settled);
-    let others =
-        move |index: &usize| !ships[*index].route.is_some_and(|route| way::host(route) == host);
-    let others = routes.all().nearest(near).filter(others).map(Target::Settled);
-    let started = handshakes.all().filter_map(move |(index, serial)| {
-        let place = handshakes::place_of(&ships[index], serial)?;
-        let theirs = ships[index].started[place].senders.contains(&sender);
-        (!theirs).then_some(Target::Started(index, place))
-    });
-    let moved = neighbours
-        .chain(started.take_while(move |_| finished))
-        .chain(others)
-        .take_while(move |_| number.is_some());
-    here.chain(begun).map(|target| (target, true)).chain(moved.map(|target| (target, false)))
 }
 
 fn noted(ship: Option<usize>, note: Note) -> Taken {

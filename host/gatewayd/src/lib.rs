@@ -19,6 +19,7 @@ pub mod options;
 pub mod randoms;
 pub mod routes;
 pub mod run;
+pub mod search;
 pub mod sessions;
 pub mod ship;
 pub mod signals;

@@ -20,7 +20,7 @@ impl Randoms {
     }
 
     /// Bytes that nobody has had before.
-    pub fn next(&mut self) -> io::Result<[u8; EACH]> {
+    pub fn fresh(&mut self) -> io::Result<[u8; EACH]> {
         if self.used == SIZE {
             self.source.read_exact(&mut self.bytes)?;
             self.used = 0;

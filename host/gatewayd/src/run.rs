@@ -137,7 +137,7 @@ impl Gateway {
         let mut barred = Vec::new();
         let mut notes = Vec::new();
         for Datagram { way, bytes } in run {
-            let random = self.randoms.next()?;
+            let random = self.randoms.fresh()?;
             let taken = self.fleet.take(*way, bytes, &random, now);
             let ship = taken.ship.map(|index| (index, &self.fleet.ships[index]));
             if let Some((index, ship)) = ship.filter(|_| taken.changed) {

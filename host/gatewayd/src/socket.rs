@@ -66,6 +66,8 @@ impl Socket {
     }
 
     fn prepare(&self) -> io::Result<()> {
+        // systemd's sockets do not wait.
+        self.socket.set_nonblocking(false)?;
         self.socket.set_read_timeout(Some(WAIT))?;
         if self.set(SOL_SOCKET, SO_RCVBUFFORCE, BUFFER).is_err() {
             self.set(SOL_SOCKET, SO_RCVBUF, BUFFER)?;

@@ -154,6 +154,7 @@ fn ten_restarts_without_a_report_lost() {
     let place = Place::new("restarts");
     place.plant(2);
     let socket = UdpSocket::bind(ANY).unwrap();
+    socket.set_nonblocking(true).unwrap();
     let address = socket.local_addr().unwrap();
     let held: OwnedFd = socket.into();
     let mut gatewayd = Gatewayd::start_with(&place, &held);

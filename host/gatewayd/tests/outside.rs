@@ -192,7 +192,7 @@ fn a_full_disk() {
     assert!(listed.len() < 20 && expected.starts_with(&listed), "{listed:?}");
 
     let gatewayd = Gatewayd::start(&place, &gatewayd.address.to_string(), &[]);
-    assert!(log().contains("are no whole record and are dropped"), "{}", log());
+    wait_for("the remark", || log().contains("are no whole record and are dropped"));
     assert_eq!(place.listed(0), listed);
     for number in 1..=20 {
         ship.send(&ship.data(number));

@@ -204,6 +204,20 @@ fn a_ship_that_moves_in_its_handshake() {
     assert_eq!(world.fleet.ships[1].started.len(), 1);
 }
 
+/// A hello with change cipher spec behind it.
+#[test]
+fn a_hello_with_more_behind_it() {
+    let mut world = World::new(1);
+    let mut unit = ship(0);
+    unit.hello(1);
+    let hello = unit.unit.clear(Content::Handshake, true, 0, unit.unit.last_hello());
+    let change = unit.unit.clear(Content::ChangeCipherSpec, true, 1, &[1]);
+    let taken = world.take(1, &[hello, change].concat(), 0);
+    unit.unit.hear_reply(&taken.send[0].1).unwrap();
+    assert!(world.take(1, &unit.unit.finished(false, 0).unwrap(), 0).changed);
+    assert_eq!(world.state(0), State::Open);
+}
+
 /// Change cipher spec and Finished in datagrams of their own; a clear alert ends only the handshake
 /// of its own sender.
 #[test]
