@@ -30,15 +30,13 @@ pub fn hello(datagram: &[u8]) -> Option<Hello<'_>> {
 
 /// The records of a datagram that the library found soundly framed, each from its type byte to its
 /// end.
-pub fn records(datagram: &[u8]) -> Vec<&[u8]> {
-    let mut records = Vec::new();
+pub fn records(datagram: &[u8]) -> impl Iterator<Item = &[u8]> {
     let mut left = datagram;
-    while !left.is_empty() {
+    std::iter::from_fn(move || {
         let record = first_record(left);
-        records.push(record);
         left = &left[record.len()..];
-    }
-    records
+        (!record.is_empty()).then_some(record)
+    })
 }
 
 fn first_record(left: &[u8]) -> &[u8] {
@@ -106,17 +104,17 @@ mod tests {
     #[test]
     fn records_of_a_datagram() {
         let datagram = [0xc1, 0, 1, 0, 1, 1, 0x63, 0, 0, 7, 7];
-        let found = records(&datagram);
+        let found: Vec<&[u8]> = records(&datagram).collect();
         assert_eq!(found, [&datagram[..6], &datagram[6..]]);
         assert!(!is_protected_handshake(found[0]));
         assert!(is_protected_handshake(found[1]));
         assert!(is_protected_handshake(&[0xe3]));
         assert!(is_protected(found[1]) && !is_protected(found[0]));
         assert_eq!((number(found[0]), number(found[1]), number(&[1, 2])), (Some(1), Some(0), None));
-        assert!(records(&[]).is_empty());
+        assert_eq!(records(&[]).count(), 0);
         // No bytes make it pass an end.
         for length in 0..6 {
-            assert_eq!(records(&[0xff; 6][..length]).concat().len(), length);
+            assert_eq!(records(&[0xff; 6][..length]).flatten().count(), length);
         }
     }
 }

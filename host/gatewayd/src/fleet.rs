@@ -21,7 +21,7 @@ const WARNING: u32 = 1;
 const DUPLICATE_FINISHED_RECEIVED: u32 = 57;
 
 /// Hellos answered for one share of the hosts, and for all.
-const HELLOS_OF_A_SHARE: u32 = 50;
+const HELLOS_OF_A_SHARE: u32 = 100;
 const HELLOS_EACH_SECOND: u32 = 4_000;
 
 pub struct Rules {
@@ -194,8 +194,8 @@ impl Fleet {
     /// Nobody's. The sender may be told, if the operator wants it.
     fn pass_over(&mut self, arrival: &Arrival) -> Taken {
         let mut taken = noted(None, Note::Stranger);
-        let records = datagram::records(arrival.datagram);
-        let protected = records.first().filter(|record| datagram::is_protected(record));
+        let first = datagram::records(arrival.datagram).next();
+        let protected = first.filter(|record| datagram::is_protected(record));
         if let (Some(hints), Some(record)) = (&mut self.hints, protected) {
             if let Some(hint) = hints.answer(arrival.way.sender, record, arrival.now) {
                 taken.send.push((arrival.way, hint));

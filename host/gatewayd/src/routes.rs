@@ -30,22 +30,45 @@ impl Routes {
     pub fn set(&mut self, ship: usize, route: Option<(SocketAddr, u16)>) {
         let route = route.map(|(sender, newest)| Route { sender, newest });
         let before = self.ships.get(&ship).copied();
-        if before == route {
-            return;
+        match (before, route) {
+            (before, route) if before == route => {}
+            (Some(before), Some(route)) if before.sender == route.sender => {
+                self.renumber(ship, before, route);
+            }
+            _ => {
+                self.leave(ship, before);
+                self.enter(ship, route);
+            }
         }
-        if let Some(Route { sender, newest }) = before {
-            remove(&mut self.at, sender, (newest, ship));
-            remove(&mut self.on, way::host(sender), (newest, ship));
-            self.all.0.remove(&(newest, ship));
-            self.ships.remove(&ship);
+    }
+
+    /// The common case: the next number at the same address.
+    fn renumber(&mut self, ship: usize, before: Route, route: Route) {
+        let (old, new) = ((before.newest, ship), (route.newest, ship));
+        let at = self.at.get_mut(&route.sender);
+        let on = self.on.get_mut(&way::host(route.sender));
+        for set in [at, on, Some(&mut self.all)].into_iter().flatten() {
+            set.0.remove(&old);
+            set.0.insert(new);
         }
-        if let Some(route) = route {
-            let entry = (route.newest, ship);
-            self.at.entry(route.sender).or_default().0.insert(entry);
-            self.on.entry(way::host(route.sender)).or_default().0.insert(entry);
-            self.all.0.insert(entry);
-            self.ships.insert(ship, route);
-        }
+        self.ships.insert(ship, route);
+    }
+
+    fn leave(&mut self, ship: usize, route: Option<Route>) {
+        let Some(Route { sender, newest }) = route else { return };
+        remove(&mut self.at, sender, (newest, ship));
+        remove(&mut self.on, way::host(sender), (newest, ship));
+        self.all.0.remove(&(newest, ship));
+        self.ships.remove(&ship);
+    }
+
+    fn enter(&mut self, ship: usize, route: Option<Route>) {
+        let Some(route) = route else { return };
+        let entry = (route.newest, ship);
+        self.at.entry(route.sender).or_default().0.insert(entry);
+        self.on.entry(way::host(route.sender)).or_default().0.insert(entry);
+        self.all.0.insert(entry);
+        self.ships.insert(ship, route);
     }
 
     /// The ships with this route.

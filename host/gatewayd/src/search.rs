@@ -148,10 +148,10 @@ impl Known<'_> {
         let (ships, routes, handshakes) = (self.ships, self.routes, self.handshakes);
         let sender = arrival.way.sender;
         let host = way::host(sender);
-        let records = datagram::records(arrival.datagram);
-        let number = records.iter().rfind(|record| datagram::is_protected(record));
-        let number = number.and_then(|record| datagram::number(record));
-        let finished = records.iter().any(|record| datagram::is_protected_handshake(record));
+        let protected =
+            || datagram::records(arrival.datagram).filter(|record| datagram::is_protected(record));
+        let number = protected().last().and_then(datagram::number);
+        let finished = protected().any(datagram::is_protected_handshake);
         let near = number.unwrap_or(0);
 
         let here = routes.at(sender).nearest(near).map(Target::Settled);

@@ -147,50 +147,53 @@ fn handed_over() -> io::Result<Option<UdpSocket>> {
     }
 }
 
-/// Room for the datagrams of one call.
+/// Room for the datagrams of one call. Its parts do not move, since the system is told where they
+/// are once.
 pub struct Batch {
     bytes: Box<[[u8; LARGEST]; BATCH]>,
-    names: [Name; BATCH],
-    controls: [Control; BATCH],
+    names: Box<[Name; BATCH]>,
+    controls: Box<[Control; BATCH]>,
+    _parts: Box<[Part; BATCH]>,
+    messages: Box<[Arrived; BATCH]>,
     /// How many the system has dropped since the socket was made, modulo 2^32.
     pub dropped: Option<u32>,
 }
 
 impl Default for Batch {
     fn default() -> Batch {
-        Batch {
-            bytes: Box::new([[0; LARGEST]; BATCH]),
-            names: [Name::default(); BATCH],
-            controls: [Control::default(); BATCH],
-            dropped: None,
+        let mut bytes = Box::new([[0; LARGEST]; BATCH]);
+        let mut names = Box::new([Name::default(); BATCH]);
+        let mut controls = Box::new([Control::default(); BATCH]);
+        let mut parts =
+            Box::new([const { Part { base: std::ptr::null_mut(), size: LARGEST } }; BATCH]);
+        let mut messages = Box::new([const { Arrived::EMPTY }; BATCH]);
+        for place in 0..BATCH {
+            parts[place].base = bytes[place].as_mut_ptr().cast();
+            let message = &mut messages[place].message;
+            message.name = (&raw mut names[place]).cast();
+            message.parts = &raw mut parts[place];
+            message.part_count = 1;
+            message.control = (&raw mut controls[place]).cast();
         }
+        Batch { bytes, names, controls, _parts: parts, messages, dropped: None }
     }
 }
 
 impl Batch {
     /// The datagrams that have arrived; waits for the first.
     pub fn receive(&mut self, socket: &Socket) -> io::Result<Vec<Datagram>> {
-        let mut parts = [const { Part { base: std::ptr::null_mut(), size: LARGEST } }; BATCH];
-        let mut messages = [const { Arrived::EMPTY }; BATCH];
-        for (place, arrived) in messages.iter_mut().enumerate() {
-            parts[place].base = self.bytes[place].as_mut_ptr().cast();
-            arrived.message = Message {
-                name: (&raw mut self.names[place]).cast(),
-                name_size: NAME as u32,
-                parts: &raw mut parts[place],
-                part_count: 1,
-                control: (&raw mut self.controls[place]).cast(),
-                control_size: size_of::<Control>(),
-                flags: 0,
-            };
+        for arrived in self.messages.iter_mut() {
+            arrived.message.name_size = NAME as u32;
+            arrived.message.control_size = size_of::<Control>();
         }
-        let most = BATCH as u32;
-        let count = check(unsafe {
-            recvmmsg(socket.fd(), messages.as_mut_ptr(), most, MSG_WAITFORONE, std::ptr::null_mut())
-        } as isize)?;
+        let (to, most) = (self.messages.as_mut_ptr(), BATCH as u32);
+        let count =
+            check(
+                unsafe { recvmmsg(socket.fd(), to, most, MSG_WAITFORONE, std::ptr::null_mut()) }
+                    as isize,
+            )?;
         let mut datagrams = Vec::with_capacity(count);
-        for (place, arrived) in messages[..count].iter().enumerate() {
-            self.names[place].size = arrived.message.name_size;
+        for (place, arrived) in self.messages[..count].iter().enumerate() {
             let told = self.controls[place].read(arrived.message.control_size);
             self.dropped = told.dropped.or(self.dropped);
             let Some(sender) = self.names[place].address() else { continue };
