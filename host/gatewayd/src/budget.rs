@@ -17,16 +17,16 @@ impl Budget {
         Budget { each_second: each_second.into(), left: each_second.into(), at: None }
     }
 
-    /// Spends one; false if there is none left.
-    pub fn spend(&mut self, now: Instant) -> bool {
+    /// Spends so many; false if there are not so many left.
+    pub fn spend(&mut self, count: u32, now: Instant) -> bool {
         let since = now.saturating_duration_since(self.at.unwrap_or(now));
         self.left = self.each_second.min(self.left + since.as_secs_f64() * self.each_second);
         self.at = Some(now);
-        let some = self.left >= 1.0;
-        if some {
-            self.left -= 1.0;
+        let enough = self.left >= count.into();
+        if enough {
+            self.left -= f64::from(count);
         }
-        some
+        enough
     }
 }
 
@@ -46,9 +46,9 @@ impl Shares {
         Shares { all: Budget::new(each_second), shares, hasher: RandomState::new() }
     }
 
-    pub fn spend(&mut self, host: IpAddr, now: Instant) -> bool {
+    pub fn spend(&mut self, host: IpAddr, count: u32, now: Instant) -> bool {
         let share = (self.hasher.hash_one(host) % SHARES) as usize;
-        self.shares[share].spend(now) && self.all.spend(now)
+        self.shares[share].spend(count, now) && self.all.spend(count, now)
     }
 }
 
@@ -61,10 +61,12 @@ mod tests {
     fn no_more_than_its_rate() {
         let start = Instant::now();
         let mut budget = Budget::new(100);
-        let spent = |budget: &mut Budget, now| (0..1000).filter(|_| budget.spend(now)).count();
+        let spent = |budget: &mut Budget, now| (0..1000).filter(|_| budget.spend(1, now)).count();
         assert_eq!(spent(&mut budget, start), 100);
         assert_eq!(spent(&mut budget, start + Duration::from_millis(500)), 50);
         assert_eq!(spent(&mut budget, start + Duration::from_secs(60)), 100);
+        let later = start + Duration::from_secs(90);
+        assert!(budget.spend(60, later) && !budget.spend(60, later) && budget.spend(40, later));
     }
 
     #[test]
@@ -72,8 +74,8 @@ mod tests {
         let start = Instant::now();
         let mut shares = Shares::new(100, 10);
         let host = |n: u32| IpAddr::from(n.to_be_bytes());
-        let one = (0..1000).filter(|_| shares.spend(host(1), start)).count();
-        let all = (0..100_000).filter(|n| shares.spend(host(*n), start)).count();
+        let one = (0..1000).filter(|_| shares.spend(host(1), 1, start)).count();
+        let all = (0..100_000).filter(|n| shares.spend(host(*n), 1, start)).count();
         assert_eq!((one, all), (10, 90));
     }
 }

@@ -129,8 +129,8 @@ impl Fleet {
     fn may_answer(&mut self, index: usize, arrival: &Arrival) -> bool {
         let host = way::host(arrival.way.sender);
         match handshakes::is_home(&self.ships[index], host) {
-            true => self.ships[index].hellos.spend(arrival.now),
-            false => self.hellos.spend(host, arrival.now),
+            true => self.ships[index].hellos.spend(1, arrival.now),
+            false => self.hellos.spend(host, 1, arrival.now),
         }
     }
 
@@ -226,6 +226,10 @@ impl Fleet {
         };
         taken.changed = moved || differs || !taken.reports.is_empty();
         self.put(target, &trial, &mut taken);
+        // Who is heard on the open connection has not rebooted: what strangers began beside it goes.
+        if matches!((target, trial.worth), (Target::Settled(_), Worth::New(_))) {
+            self.handshakes.end_old_of(&mut self.ships, index, arrival.now);
+        }
         self.warn_of_repeated(index, arrival, &trial, &mut taken);
         self.set_route(index);
         taken

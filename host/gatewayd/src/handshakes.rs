@@ -105,6 +105,13 @@ impl Handshakes {
         ended
     }
 
+    /// Ends those of a ship that have had their time.
+    pub fn end_old_of(&mut self, ships: &mut [Ship], ship: usize, now: Instant) {
+        while ships[ship].started.first().is_some_and(|first| is_held_no_more(first, now)) {
+            self.end(ships, ship, 0);
+        }
+    }
+
     pub fn end_all_of(&mut self, ships: &mut [Ship], ship: usize) {
         while !ships[ship].started.is_empty() {
             self.end(ships, ship, 0);

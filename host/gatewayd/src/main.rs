@@ -2,6 +2,7 @@
 
 use gatewayd::options::{self, Command, HELP};
 use gatewayd::run::{self, Ended, Failure};
+use gatewayd::signals;
 use gatewayd::socket::Socket;
 use std::os::unix::process::CommandExt;
 use std::process::ExitCode;
@@ -36,7 +37,10 @@ fn start_anew(socket: Socket) -> Failure {
     let mut command = std::process::Command::new(program);
     command.args(words);
     let error = match socket.hand_over(&mut command) {
-        Ok(()) => command.exec(),
+        Ok(()) => {
+            signals::ignore_new_start();
+            command.exec()
+        }
         Err(error) => error,
     };
     Failure { status: 6, what: format!("no new start: {error}") }

@@ -48,6 +48,7 @@ struct Gateway {
 }
 
 pub fn run(options: &Options) -> Result<Ended, Failure> {
+    signals::listen();
     let failure = |status: u8| move |what: String| Failure { status, what };
     let sessions = sessions::load(&options.sessions).map_err(failure(3))?;
     let opened = Store::open(&options.state, &options.lists, sessions).map_err(failure(4))?;
@@ -56,7 +57,6 @@ pub fn run(options: &Options) -> Result<Ended, Failure> {
     let socket = Socket::open(options.listen).map_err(listen)?;
     let address = socket.address().map_err(listen)?;
     let randoms = Randoms::open().map_err(failure(6))?;
-    signals::listen();
 
     let Opened { store, ships, remarks } = opened;
     let mut log = Log::new(options.log_every);

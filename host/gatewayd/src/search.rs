@@ -14,8 +14,9 @@ use std::time::Instant;
 
 /// A datagram is tried on so many ships at its sender's address, whatever else is going on.
 const TRIED_AT_ONCE: usize = 4;
-/// Beyond them trials are budgeted. The first few of each datagram have a budget of their own, so
-/// that datagrams which fit nobody cannot keep a ship that has moved from being tried at all.
+/// Beyond them trials are budgeted, by the codes that are compared in them. The first few trials of
+/// each datagram have a budget of their own, so that datagrams which fit nobody cannot keep a ship
+/// that has moved from being tried at all.
 const NEAR: usize = 4;
 const NEAR_EACH_SECOND: u32 = 16_000;
 const NEAR_OF_A_SHARE: u32 = 1_000;
@@ -63,7 +64,9 @@ pub enum Found<'d> {
 pub fn find<'d>(known: &Known, trials: &mut Trials, arrival: &Arrival<'d>) -> Found<'d> {
     let owner = known.owner(arrival.way.sender);
     let mut refused = Found::Nobodys;
-    let mut spent = Spent::default();
+    let protected =
+        datagram::records(arrival.datagram).filter(|record| datagram::is_protected(record));
+    let mut spent = Spent { codes: protected.count() as u32, at_once: 0, near: 0 };
     for (target, is_here) in known.candidates(arrival) {
         if !trials.may(is_here, &mut spent, arrival) {
             break;
@@ -78,9 +81,9 @@ pub fn find<'d>(known: &Known, trials: &mut Trials, arrival: &Arrival<'d>) -> Fo
     refused
 }
 
-/// How many trials a datagram has had.
-#[derive(Default)]
+/// How many trials a datagram has had, and how many codes are compared in each.
 struct Spent {
+    codes: u32,
     at_once: usize,
     near: usize,
 }
@@ -102,9 +105,9 @@ impl Trials {
             true
         } else if spent.near < NEAR {
             spent.near += 1;
-            self.near.spend(host, arrival.now)
+            self.near.spend(host, spent.codes, arrival.now)
         } else {
-            self.far.spend(host, arrival.now)
+            self.far.spend(host, spent.codes, arrival.now)
         }
     }
 }

@@ -8,8 +8,11 @@ const SIGHUP: i32 = 1;
 const SIGINT: i32 = 2;
 const SIGTERM: i32 = 15;
 
+/// What a signal does if it is to do nothing.
+const IGNORE: usize = 1;
+
 extern "C" {
-    fn signal(number: i32, handler: extern "C" fn(i32)) -> usize;
+    fn signal(number: i32, handler: usize) -> usize;
     fn geteuid() -> u32;
 }
 
@@ -26,11 +29,17 @@ extern "C" fn ask(number: i32) {
 
 pub fn listen() {
     // Storing to an atomic is allowed in a handler.
+    let handler: extern "C" fn(i32) = ask;
     unsafe {
-        signal(SIGHUP, ask);
-        signal(SIGINT, ask);
-        signal(SIGTERM, ask);
+        signal(SIGHUP, handler as usize);
+        signal(SIGINT, handler as usize);
+        signal(SIGTERM, handler as usize);
     }
+}
+
+/// For the successor, until it listens: what asks for a new start once more must not be its end.
+pub fn ignore_new_start() {
+    unsafe { signal(SIGHUP, IGNORE) };
 }
 
 /// What was asked for; the end outweighs a new start.

@@ -135,7 +135,10 @@ fn a_new_start() {
     wait_for("the second report", || place.listed(0).len() == 2);
     fs::write(place.sessions(), good).unwrap();
     place.plant(2);
-    signal(&gatewayd.child, "HUP");
+    // Asked for many times: some of them come while it starts.
+    for _ in 0..30 {
+        signal(&gatewayd.child, "HUP");
+    }
     ship.send(&ship.data(3));
     wait_for("the third report", || place.listed(0).len() == 3);
     let mut new = Ship::new(1, gatewayd.address);

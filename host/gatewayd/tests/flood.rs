@@ -25,6 +25,7 @@ fn floods() {
     withstands("unknown hellos", unknown_hello, false);
     withstands("hellos of planted ships", hello, false);
     withstands("protected garbage", protected, false);
+    withstands("protected garbage, eight records each", eight_records, false);
     withstands("protected garbage at the ship's address", protected, true);
 }
 
@@ -105,8 +106,9 @@ impl Flood {
         let made: Vec<Vec<u8>> = (0..20_000).map(|_| (self.datagram)(&mut rng)).collect();
         let start = Instant::now();
         thread::scope(|scope| {
-            // At full speed by two: one alone sends too little.
-            for _ in 0..if each_second.is_some() { 1 } else { 2 } {
+            // At full speed by two, or FLOOD_SENDERS: one alone sends too little.
+            let senders = std::env::var("FLOOD_SENDERS").ok().and_then(|count| count.parse().ok());
+            for _ in 0..if each_second.is_some() { 1 } else { senders.unwrap_or(2) } {
                 scope.spawn(|| self.send(&made, each_second, &sent));
             }
             other();
@@ -169,6 +171,12 @@ fn protected(rng: &mut Rng) -> Vec<u8> {
     let size = rng.between(20, 100);
     let kind = rng.pick(&[0x64, 0x64, 0x63]);
     [&[kind, 0, rng.under(200) as u8][..], &rng.bytes(size)].concat()
+}
+
+/// The same with as many records as a datagram may have.
+fn eight_records(rng: &mut Rng) -> Vec<u8> {
+    let mut record = || peer::wire::write(0xe4, rng.under(200) as u16, &rng.bytes(20));
+    (0..8).flat_map(|_| record()).collect()
 }
 
 /// What the gateway has used so far.

@@ -380,6 +380,20 @@ fn a_silent_ship_comes_back_with_a_hello() {
     assert_eq!(world.take(2, &rebooted.data(2), 150).reports.len(), 1);
 }
 
+/// What was begun beside an open connection ends when that is heard, but not before its time.
+#[test]
+fn handshakes_beside_an_open_connection() {
+    let mut world = World::new(1);
+    let (mut unit, mut rebooted) = (ship(0), ship(0));
+    world.open(&mut unit, 1);
+    world.greet(&mut rebooted, 9, 2, 100);
+    for (second, left) in [(100, 1), (107, 1), (108, 0)] {
+        assert_eq!(world.take(1, &unit.data(second as u16), second).reports.len(), 1);
+        assert_eq!(world.fleet.ships[0].started.len(), left);
+    }
+    assert_eq!(world.take(2, &rebooted.data_behind_finished(1), 108).notes, [Note::Stranger]);
+}
+
 /// A fleet behind one relay: each datagram finds its ship, and counts nothing for the others.
 #[test]
 fn many_ships_behind_one_address() {
@@ -442,6 +456,25 @@ fn trials_are_budgeted() {
     let at = Duration::from_millis(1100);
     assert_eq!(world.take_at(address(200), &late, at).reports.len(), 1);
 }
+
+/// A datagram of eight records costs eight times as much.
+#[test]
+fn trials_are_counted_by_codes() {
+    for (records, left) in [(1, true), (8, false)] {
+        let mut world = World::new(2);
+        let mut unit = ship(0);
+        world.open(&mut unit, 1);
+        let record = peer::wire::write(0xe4, 1, &[7; 20]);
+        for _ in 0..300 {
+            world.take(2, &record.repeat(records), 1);
+        }
+        // Of the stranger's own share, from which the ship's record is to be tried, too.
+        let taken = world.take_at(SocketAddr::from(([192, 0, 2, 2], 5)), &unit.data(1), SECOND);
+        assert_eq!(taken.reports.len() == 1, left);
+    }
+}
+
+const SECOND: Duration = Duration::from_secs(1);
 
 /// One stranger's garbage uses up his own share only.
 #[test]
