@@ -230,7 +230,9 @@ impl Fleet {
         if matches!((target, trial.worth), (Target::Settled(_), Worth::New(_))) {
             self.handshakes.end_old_of(&mut self.ships, index, arrival.now);
         }
-        self.warn_of_repeated(index, arrival, &trial, &mut taken);
+        if matches!(target, Target::Settled(_)) || trial.opens() {
+            self.warn_of_repeated(index, arrival, &trial, &mut taken);
+        }
         self.set_route(index);
         taken
     }

@@ -91,7 +91,7 @@ pub fn identifier(ship: usize) -> [u8; 8] {
 }
 
 pub fn secret(ship: usize) -> [u8; 20] {
-    let mut secret = [ship as u8 + 1; 20];
+    let mut secret = [(ship as u8).wrapping_add(1); 20];
     secret[..8].copy_from_slice(&identifier(ship));
     secret
 }
