@@ -170,6 +170,7 @@ fn an_overheard_hello() {
                 (&vec![(way(address(2)), reply.clone())], false)
             );
         }
+        assert_eq!(world.route(0), None);
         let flight = unit.unit.flight().unwrap();
         if relayed {
             assert!(world.take(2, &flight, 0).changed);
