@@ -11,5 +11,7 @@ bench-laws =
       unmasked = masking.unmasked;
       swapped = swapping.swapped;
       apart = joining.apart;
+      masked-odd = masking.masked-odd;
+      either-order = swapping.either-order;
       one-order = swapping.one-order;
     }

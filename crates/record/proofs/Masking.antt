@@ -12,7 +12,7 @@ use lib.Seq.{paste, paste-suc, drop-paste, length-take-le, take-all, drop-length
 use Rattle.digest.specs.Bytes.{bytes2}
 use Rattle.record.specs.Checksum.{xorBlock}
 use Rattle.record.specs.Mask.{times, numbersOver, maskOf}
-use Rattle.record.specs.Bench.{Unmasked}
+use Rattle.record.specs.Bench.{Unmasked, MaskedOdd}
 use Rattle.record.proofs.Joining.{xor-assoc}
 
 -- ---- the number, as often as needed
@@ -98,6 +98,10 @@ unmasked iv number =
     let s : List ℕ = numbersOver number (length iv) in
     ap (λ (n : ℕ). xorBlock (xorBlock iv s) (numbersOver number n)) (length-xor iv s (numbers-reach iv number))
     ∙ xor-twice iv s (numbers-reach iv number)
+
+pub masked-odd : MaskedOdd
+unfolding maskOf numbersOver times xorBlock
+masked-odd = (refl, refl)
 
 -- ---- the loop: a byte is masked in its place, and those behind it are as they were
 

@@ -12,7 +12,7 @@ use lib.Pow.{pow-add, pow-lt, pow-pos}
 use borrow.Author.Tests.{eq-eqb, ne-eqb, le-leb, lt-leb, le-ltb, eqb-true, leb-true, leb-false, ltb-true, ltb-false}
 use Rattle.digest.specs.Pick.{pick}
 use Rattle.record.specs.Window.{Held, heldWidth, windowWidth, freshWindow, acceptBy, acceptWithin, acceptOf, arrivedAt}
-use Rattle.record.specs.Bench.{Swapped, OneOrder}
+use Rattle.record.specs.Bench.{Swapped, EitherOrder, OneOrder}
 use Rattle.record.specs.declared.window.Window.{Window}
 use Rattle.record.specs.declared.window.Acceptance.{Acceptance}
 use Rattle.record.specs.declared.window.Acceptance.the-variants.{New, TooOld, Repeated}
@@ -211,6 +211,11 @@ swapped v a b va ab vb ba i j k l ea eab eb eba =
     both-fresh w n m a b i j va ab held z ea eab ∙ alike-fresh w a b ∙ sym (both-fresh w n m b a k l vb ba held z eb eba))
     (λ e. let z : m ≡ 0 → ⊥ = eqb-false m 0 e in
     both w n m a b i j va ab held z small ea eab ∙ alike w n m a b ∙ sym (both w n m b a k l vb ba held z small eb eba))
+
+-- both orders, of width 40
+pub either-order : EitherOrder
+unfolding acceptBy heldWidth
+either-order = (refl, refl, refl, refl)
 
 -- only one order
 pub one-order : OneOrder

@@ -1,7 +1,7 @@
 -- The laws of the test bench (02, P12): "The bench joins and reorders traffic."
 use mathlib.Core.Path.{_≡_}
 use mathlib.Core.List.{List, [], _∷_, _++_}
-use Prim.Native.Nat.{ℕ, _%_}
+use Prim.Native.Nat.{ℕ, _+_, _%_, _^_}
 use lib.ListN.{length}
 use Rattle.record.specs.Checksum.{checksumOf, xorBlock}
 use Rattle.record.specs.Mask.{maskOf}
@@ -21,6 +21,10 @@ Apart = checksumOf ((1 ∷ []) ++ (1 ∷ [])) ≡ xorBlock (checksumOf (1 ∷ []
 abbrev pub Unmasked : Type 0
 Unmasked = (iv : List ℕ) (number : ℕ) → maskOf (maskOf iv number) number ≡ iv
 
+-- number 0x1234 over three bytes, and over none
+abbrev pub MaskedOdd : Type 0
+MaskedOdd = (maskOf (0x01 ∷ 0x02 ∷ 0x03 ∷ []) 0x1234 ≡ 0x13 ∷ 0x36 ∷ 0x11 ∷ []) × (maskOf [] 0x1234 ≡ [])
+
 -- "Two different numbers that are both accepted in either order leave the same window": a and then b leave `ab`, b and then
 -- a leave `ba`; for every value of a window, whatever its width and its marks. (i, j, k, l are the counts that come with an
 -- acceptance. That a and b differ need not be asked: of two equal numbers the second is not accepted.)
@@ -32,6 +36,14 @@ Swapped =
     → acceptOf w b ≡ New wb k
     → acceptOf wb a ≡ New ba l
     → ab ≡ ba
+
+-- such numbers there are, and the marks are cut for both: of width 40, with 0 accepted, 30 and 60
+abbrev pub EitherOrder : Type 0
+EitherOrder =
+    (acceptOf record { width = 40; highest = 0; marks = 1 } 30 ≡ arrivedAt 40 30 (1 + 2 ^ 30))
+    × (acceptOf record { width = 40; highest = 30; marks = 1 + 2 ^ 30 } 60 ≡ arrivedAt 40 60 (1 + 2 ^ 30))
+    × (acceptOf record { width = 40; highest = 0; marks = 1 } 60 ≡ arrivedAt 40 60 1)
+    × (acceptOf record { width = 40; highest = 60; marks = 1 } 30 ≡ arrivedAt 40 60 (1 + 2 ^ 30))
 
 -- "in either order" is needed: at a fresh window 0 and then 32 are both accepted, but after 32 number 0 is too old
 abbrev pub OneOrder : Type 0
@@ -46,4 +58,6 @@ pub record BenchLaws : Type 0 where
   pub unmasked : Unmasked
   pub swapped : Swapped
   pub apart : Apart
+  pub masked-odd : MaskedOdd
+  pub either-order : EitherOrder
   pub one-order : OneOrder

@@ -54,7 +54,9 @@ fn join(rng: &mut Rng, seen: &mut Seen) -> Result<(), String> {
     } else if is_xor {
         seen.joined += 1;
     } else {
-        return Err(format!("{first:02x?} and {second:02x?}: joined {whole:02x?}, apart {a:02x?} and {b:02x?}"));
+        return Err(format!(
+            "{first:02x?} and {second:02x?}: joined {whole:02x?}, apart {a:02x?} and {b:02x?}"
+        ));
     }
     Ok(())
 }
@@ -63,7 +65,10 @@ fn join(rng: &mut Rng, seen: &mut Seen) -> Result<(), String> {
 fn checksum(stretch: &[u8]) -> [u8; 4] {
     let mut link = Link::in_state(State::Replied, Kind::Sha80);
     let mut out = [0; gateway::SEND_ROOM];
-    let alert = link.connection.send_alert(Sense::Clear, 1, 0, stretch, &mut out).expect("an alert can be sent");
+    let alert = link
+        .connection
+        .send_alert(Sense::Clear, 1, 0, stretch, &mut out)
+        .expect("an alert can be sent");
     alert[alert.len() - 4..].try_into().expect("four bytes")
 }
 
@@ -73,7 +78,8 @@ fn swap(rng: &mut Rng, seen: &mut Seen) -> Result<(), String> {
     let mut highest = 0;
     for _ in 0..rng.under(12) {
         let number = near(rng, highest);
-        if arrive(&mut link.connection, &data(&link, number)) {
+        let datagram = data(&link, number);
+        if arrive(&mut link.connection, &datagram) {
             highest = highest.max(number);
         }
     }
@@ -87,7 +93,11 @@ fn swap(rng: &mut Rng, seen: &mut Seen) -> Result<(), String> {
     let swapped = arrive(&mut other, &second) & arrive(&mut other, &first);
     match (in_order, swapped) {
         (true, true) if window(&one) != window(&other) => {
-            return Err(format!("{a} then {b}: {:02x?}, swapped {:02x?}", window(&one), window(&other)))
+            return Err(format!(
+                "{a} then {b}: {:02x?}, swapped {:02x?}",
+                window(&one),
+                window(&other)
+            ))
         }
         (true, true) => seen.swapped += 1,
         (true, false) | (false, true) => seen.one_order += 1,
@@ -113,12 +123,14 @@ fn data(link: &Link, number: u16) -> Vec<u8> {
 /// Whether the datagram's one record was handed out.
 fn arrive(connection: &mut Connection, datagram: &[u8]) -> bool {
     let (mut out, mut tally) = ([0; gateway::REPLY_ROOM], Tally::default());
-    let received = connection.receive(&mut tally, datagram, &RANDOM, &mut out).expect("it is soundly framed");
+    let received =
+        connection.receive(&mut tally, datagram, &RANDOM, &mut out).expect("it is soundly framed");
     let handed_out = matches!(received.answers().next(), Some(Answer::Data { .. }));
     handed_out
 }
 
-/// The window among the saved bytes: highest number and marks (crates/lent/specs/Saved.antt has the places).
-fn window(connection: &Connection) -> &[u8] {
-    &connection.save()[435..445]
+/// The window among the saved bytes: highest number, marks and width (crates/lent/specs/Saved.antt has the places).
+fn window(connection: &Connection) -> Vec<u8> {
+    let saved = connection.save();
+    [&saved[435..445], &saved[457..]].concat()
 }
