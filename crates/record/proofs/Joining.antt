@@ -2,7 +2,7 @@
 -- XORed with their own sum; and where four divides the first length, the blocks of the two are the blocks of the whole.
 use mathlib.Core.Path.{_≡_, refl, sym, ap, ap₂, _∙_}
 use mathlib.Core.List.{List, [], _∷_, _++_}
-use Prim.Native.Nat.{ℕ, zero, suc, _+_, _*_, _/_, _%_, _≤_, _<_}
+use Prim.Native.Nat.{ℕ, zero, suc, _+_, _*_, _/_, _%_, _<_}
 use native.Mathlib.Nat.{mod-lt, mod-eq-sub-mod}
 use native.Mathlib.Omega.{arith}
 use lib.Arith.{bin-ind}

@@ -7,7 +7,7 @@ use native.Mathlib.Numerals.{add-one}
 use native.Mathlib.Omega.{arith}
 use lib.Bits.{bitXor, xor-self, xor-zero-r}
 use lib.Dec.{lit<}
-use lib.ListN.{length, getD, set, take, drop}
+use lib.ListN.{length, getD, set, drop}
 use lib.Seq.{paste, paste-suc, drop-paste, length-take-le, take-all, drop-length, getD-take, getD-drop}
 use Rattle.digest.specs.Bytes.{bytes2}
 use Rattle.record.specs.Checksum.{xorBlock}

@@ -6,22 +6,16 @@ use mathlib.Core.Bool.{Bool, true, false}
 use Prim.Native.Nat.{ℕ, zero, suc, _+_, _-_, _*_, _/_, _%_, _^_, _≤_, _<_, max}
 use native.Mathlib.Nat.{add-mul, mul-assoc, mul-one, mod-lt, mod-mod, mod-eq-of-lt, mod-add-mod, mod-add-div', add-mul-mod-self-right, add-right-comm, mul-right-comm}
 use native.Mathlib.Omega.{arith}
-use lib.Bits.{bitOr, or-lt}
+use lib.Bits.{or-lt}
 use lib.Dec.{lit≤, eqb, leb, ltb}
 use lib.Pow.{pow-add, pow-lt, pow-pos}
-use borrow.Author.Tests.{eq-eqb, ne-eqb, le-leb, lt-leb, le-ltb, eqb-true, leb-true, leb-false, ltb-true, ltb-false}
-use Rattle.digest.specs.Pick.{pick}
-use Rattle.record.specs.Window.{Held, heldWidth, windowWidth, freshWindow, acceptBy, acceptWithin, acceptOf, arrivedAt}
+use borrow.Author.Tests.{eq-eqb, ne-eqb, lt-ltb, le-ltb, eqb-true, leb-false, ltb-true, ltb-false}
+use Rattle.record.specs.Window.{Held, heldWidth, acceptBy, acceptWithin, acceptOf, arrivedAt}
 use Rattle.record.specs.Bench.{Swapped, EitherOrder, OneOrder}
 use Rattle.record.specs.declared.window.Window.{Window}
-use Rattle.record.specs.declared.window.Acceptance.{Acceptance}
 use Rattle.record.specs.declared.window.Acceptance.the-variants.{New, TooOld, Repeated}
-use Rattle.record.proofs.Histories.{held-is, held-some}
+use Rattle.record.proofs.Histories.{decide, held-is, held-some}
 use Rattle.record.proofs.Marks.{lowest-set, mark-added}
-
-decide : {P : Type 0} (b : Bool) → (b ≡ true → P) → (b ≡ false → P) → P
-decide true y n = y refl
-decide false y n = n refl
 
 eqb-false : (a b : ℕ) → eqb a b ≡ false → a ≡ b → ⊥
 eqb-false a b e f = let z : _≡_ {A = ℕ} 0 1 = cc (sym (eq-eqb a b f) ∙ e) in absurd (omega arith)
@@ -35,10 +29,7 @@ module _ (w n m s : ℕ) where
 
   newer-when : (m ≡ 0 → ⊥) → n < s → acceptBy w n m s ≡ arrivedAt w s (m * 2 ^ (s - n) % 2 ^ w + 1)
   unfolding acceptBy
-  newer-when z l = rw (ne-eqb m 0 z, ltb-yes) refl
-    where
-      ltb-yes : ltb n s ≡ true
-      ltb-yes = decide (ltb n s) (λ e. e) (λ e. absurd (omega (arith, ltb-false n s e)))
+  newer-when z l = rw (ne-eqb m 0 z, lt-ltb n s l)
 
   old-when : (m ≡ 0 → ⊥) → s ≤ n → leb (s + w) n ≡ true → acceptBy w n m s ≡ TooOld
   unfolding acceptBy
@@ -73,12 +64,9 @@ newer-marks w n m s p l =
     sym (mod-eq-of-lt small) ∙ mod-add-mod x (2 ^ w) 1 ∙ ap (λ (k : ℕ). (x + 2 ^ k) % 2 ^ w) (sym own)
 
 free : (d : ℕ) → d < 2 → (d ≡ 1 → ⊥) → d ≡ 0
-free d h f = decide (eqb d 1) (λ e. absurd (f (eqb-true d 1 e))) (λ e. other d h (eqb-false d 1 e))
-  where
-    other : (d : ℕ) → d < 2 → (d ≡ 1 → ⊥) → d ≡ 0
-    other zero h f = refl
-    other (suc zero) h f = absurd (f refl)
-    other (suc (suc d)) h f = absurd (omega arith)
+free zero h f = refl
+free (suc zero) h f = absurd (f refl)
+free (suc (suc d)) h f = absurd (omega arith)
 
 older-marks : (w n m s : ℕ) → m < 2 ^ w → s ≤ n → n < s + w → m / 2 ^ (n - s) % 2 ≡ 0 → m + 2 ^ (n - s) ≡ marksAt n n m s % 2 ^ w
 older-marks w n m s b l q e =

@@ -45,7 +45,7 @@ EitherOrder =
     × (acceptOf record { width = 40; highest = 0; marks = 1 } 60 ≡ arrivedAt 40 60 1)
     × (acceptOf record { width = 40; highest = 60; marks = 1 } 30 ≡ arrivedAt 40 60 (1 + 2 ^ 30))
 
--- "in either order" is needed: at a fresh window 0 and then 32 are both accepted, but after 32 number 0 is too old
+-- one order does not give the other: at a fresh window 0 and then 32 are both accepted, but after 32 number 0 is too old
 abbrev pub OneOrder : Type 0
 OneOrder =
     (acceptOf (freshWindow windowWidth) 0 ≡ arrivedAt windowWidth 0 1)
