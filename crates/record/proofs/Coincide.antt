@@ -28,6 +28,7 @@ use Rattle.record.proofs.code.write_protected as code-write-protected
 use Rattle.record.proofs.written.write_clear as written-write-clear
 use Rattle.record.proofs.written.type_byte as written-type-byte
 use Rattle.record.proofs.checksum.checksum as checksum-checksum
+use Rattle.record.proofs.mask.mask as mask-mask
 
 pub header-split-one : OneOutcome header-split.ended header-split.Reads.Learnt
 header-split-one κs a x y s u e f = (e ∙ sym f, refl)
@@ -103,3 +104,6 @@ protection-protection-write-one κs a x y s u e f =
 
 pub protection-protection-with-window-one : OneOutcome protection-protection-with-window.ended protection-protection-with-window.Reads.Learnt
 protection-protection-with-window-one κs a x y s u e f = (e ∙ sym f, refl)
+
+pub mask-mask-one : OneOutcome mask-mask.ended mask-mask.Reads.Learnt
+mask-mask-one κs a x y s u e f = (refl, ap (λ w. (w, (tt, tt))) (e ∙ sym f))
