@@ -27,11 +27,11 @@ there : (b : List ℕ) → Bytes b → length b ≡ 16 → tallyBytes (tallyIn b
 unfolding tallyBytes tallyIn cuts total
 there b bytes size =
     (λ i. joined (
-      four-there b 0 bytes (omega arith) i
-      ∷ four-there b 4 bytes (omega arith) i
-      ∷ four-there b 8 bytes (omega arith) i
-      ∷ four-there b 12 bytes (omega arith) i
-      ∷ []
+    four-there b 0 bytes (omega arith) i
+    ∷ four-there b 4 bytes (omega arith) i
+    ∷ four-there b 8 bytes (omega arith) i
+    ∷ four-there b 12 bytes (omega arith) i
+    ∷ []
     ))
     ∙ cut-joined (4 ∷ 4 ∷ 4 ∷ 4 ∷ []) 0 b
     ∙ take-all 16 b (omega arith)
