@@ -6,7 +6,7 @@ use lib.ListN.{length, take}
 use lib.Dec.{eqb}
 use Rattle.digest.specs.Pick.{pick}
 use Rattle.digest.specs.Mac.{sameBytes}
-use Rattle.record.specs.Window.{freshWindow}
+use Rattle.record.specs.Window.{emptied}
 use Rattle.message.specs.Acceptance.{heardOf}
 use Rattle.message.specs.Alert.{alertOf}
 use Rattle.message.specs.Change.{isChange}
@@ -51,7 +51,7 @@ greetedAgain h random m = pick (isKept (h .kept) m) (judged (Resent (keptSize (h
 -- "Replied: clear change cipher spec (one byte 1): Spec, window empty"
 unfoldable pub changedBy : Handshake → List ℕ → Judged
 changedBy h fragment =
-    pick (isChange fragment) (judged Spec (withState (withWindow h freshWindow) S.Spec)) (refusing Malformed h)
+    pick (isChange fragment) (judged Spec (withState (withWindow h (emptied (h .window))) S.Spec)) (refusing Malformed h)
 
 -- "Level alone decides": "warning changes nothing beyond the mark of a protected one's number, critical closes the connection". "A
 -- clear fatal alert closes only" (house rules)

@@ -4,7 +4,7 @@ use Prim.Native.Nat.{ℕ}
 use lib.ListN.{take, replicate}
 use Rattle.digest.specs.declared.mac.Mac.{Mac}
 use Rattle.digest.specs.declared.mac.Mac.the-variants.{Sha80}
-use Rattle.record.specs.Window.{freshWindow}
+use Rattle.record.specs.Window.{windowWidth, freshWindow, emptied}
 use Rattle.record.specs.declared.window.Window.{Window}
 use Rattle.connection.specs.declared.state.State.{State}
 use Rattle.connection.specs.declared.state.State.the-variants.{Idle, Barred}
@@ -31,7 +31,7 @@ nothingSent = record { protected = 0; clear = 0; last = 0 }
 -- a handshake of a session in which nothing has happened
 abbrev pub newHandshake : Session → State → Handshake
 newHandshake session state =
-    record { state = state; session = session; agreed = nothingAgreed Sha80 0; kept = nothingKept; window = freshWindow; sending = nothingSent }
+    record { state = state; session = session; agreed = nothingAgreed Sha80 0; kept = nothingKept; window = freshWindow windowWidth; sending = nothingSent }
 
 -- what stands beside a refused fresh
 abbrev pub blankHandshake : Handshake
@@ -54,7 +54,7 @@ withSending h sending =
 -- record stay until the next reply.
 abbrev pub reopened : Handshake → Handshake
 reopened h =
-    record { state = Idle; session = h .session; agreed = h .agreed; kept = nothingKept; window = freshWindow; sending = h .sending }
+    record { state = Idle; session = h .session; agreed = h .agreed; kept = nothingKept; window = emptied (h .window); sending = h .sending }
 
 -- Barred: "required to forget any session identifiers, keys, and secrets" (002 10.2.2). The window, the sending numbers
 -- and the last record stay, and so do the MAC kind and the refresh, which are no secrets.

@@ -99,5 +99,5 @@ contentIn h fragment = take (length fragment - sizeOf (h .agreed .mac)) fragment
 unfoldable pub unsealedBy : Handshake → Kind → ℕ → ℕ → ℕ → List ℕ → Judged
 unsealedBy h kind byte number at fragment =
     pick (genuineIn h byte number fragment)
-    (windowedTo h kind number at (contentIn h fragment) (acceptOf 32 (h .window) number))
+    (windowedTo h kind number at (contentIn h fragment) (acceptOf (h .window) number))
     (refusing Forged h)

@@ -16,7 +16,6 @@ use message::acceptance::hear;
 use message::alert;
 use message::alert::Level;
 use message::change::is_change;
-use record::window::Window;
 
 // A ClientHello: a new reply if it is acceptable.
 pub(crate) fn greet(h: Handshake, random: [u8; 16], m: &[u8]) -> Judged
@@ -84,9 +83,10 @@ pub(crate) fn change(h: Handshake, fragment: &[u8]) -> Judged
     if !is_change(fragment) {
         return refuse(h, Refusal::Malformed);
     }
+    let window = h.window;
     Judged {
         answer: Answer::Spec,
-        handshake: h.with_window(Window::fresh()).with_state(State::Spec),
+        handshake: h.with_window(window.emptied()).with_state(State::Spec),
     }
 }
 

@@ -90,13 +90,14 @@ impl Handshake {
     {
         let session = self.session;
         let agreed = self.agreed;
+        let window = self.window;
         let sending = self.sending;
         Handshake {
             state: State::Idle,
             session,
             agreed,
             kept: nothing_kept(),
-            window: Window::fresh(),
+            window: window.emptied(),
             sending,
         }
     }

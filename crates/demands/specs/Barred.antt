@@ -26,7 +26,7 @@ use Rattle.connection.specs.declared.calls.Connection.{Connection}
 use Rattle.connection.specs.declared.calls.Outcome.the-variants as O
 use Rattle.connection.specs.declared.receive.Taken.the-variants as T
 use Rattle.connection.specs.declared.handshake.Handshake.{Handshake}
-use Rattle.demands.specs.Runs.{Call, receive, send-data, send-alert, close, start, Result, received, sent, called, Step, Gateway, stepOf, lastOf}
+use Rattle.demands.specs.Runs.{Call, receive, send-data, send-alert, close, start, Result, received, sent, called, Step, Gateway, stepOf, finalOf}
 use Rattle.demands.specs.Genuine.{Genuine, keysOf}
 use Rattle.demands.specs.Events.{Event, took, Sound, next}
 use Rattle.demands.specs.Refusals.{lentBy}
@@ -68,5 +68,5 @@ AnswersSeven g c =
 unfoldable pub BarredForGood : Type 0
 BarredForGood =
     (c : Connection) → c .handshake .state ≡ Barred
-    → ((calls : List Call) → lastOf stepOf c calls ≡ c) × ((call : Call) → stepOf c call .output ≡ lentBy call)
+    → ((calls : List Call) → finalOf stepOf c calls ≡ c) × ((call : Call) → stepOf c call .output ≡ lentBy call)
     × AnswersSeven stepOf c

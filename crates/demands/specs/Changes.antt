@@ -9,7 +9,7 @@ use Prim.Native.Nat.{ℕ, _+_}
 use lib.ListN.{length, take}
 use Rattle.digest.specs.Bytes.{wordAt}
 use Rattle.record.specs.Checksum.{checksumOf}
-use Rattle.record.specs.Window.{freshWindow}
+use Rattle.record.specs.Window.{emptied}
 use Rattle.record.specs.declared.reader.Record.{Record}
 use Rattle.message.specs.Acceptance.{heardOf}
 use Rattle.message.specs.declared.acceptance.Plan.{Plan}
@@ -34,7 +34,7 @@ Leaves h random m protected s then (Reply size) =
     (plan : Plan) × (heardOf m (h .session .id) ≡ Accepted plan) × (then ≡ answeredWith h random m plan)
     × (then .state ≡ S.Replied) × (then .window ≡ h .window) × (then .session ≡ h .session)
 Leaves h random m protected s then (Resent size) = then ≡ h
-Leaves h random m protected s then Spec = then ≡ withState (withWindow h freshWindow) S.Spec
+Leaves h random m protected s then Spec = then ≡ withState (withWindow h (emptied (h .window))) S.Spec
 Leaves h random m protected s then Open = then ≡ withState (marked h s) S.Open
 Leaves h random m protected s then Again = then ≡ marked h s
 Leaves h random m protected s then (Data number start size) = then ≡ marked h s
@@ -90,6 +90,6 @@ StartChangesOnly =
       session = c .handshake .session;
       agreed = c .handshake .agreed;
       kept = nothingKept;
-      window = freshWindow;
+      window = emptied (c .handshake .window);
       sending = c .handshake .sending;
     }

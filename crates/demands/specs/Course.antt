@@ -22,11 +22,13 @@ use Rattle.message.specs.declared.alert.Reading.the-variants as R
 use Rattle.message.specs.declared.finished.Verified.{Verified}
 use Rattle.message.specs.declared.finished.Verified.the-variants as F
 use Rattle.connection.specs.Judge.{fragmentOf}
-use Rattle.demands.specs.Genuine.{Keys, Genuine, unitKey}
+use Rattle.record.specs.declared.keys.Keys.{Keys}
+use Rattle.demands.specs.Genuine.{Genuine, unitKey}
 use Rattle.demands.specs.Events.{Event, took, sending, alerting, closing, starting}
 
--- the numbers accepted, the latest first, and whether a genuine record closed
+-- the width of the window, the numbers accepted, the latest first, and whether a genuine record closed
 pub record Course : Type 0 where
+  pub width : ℕ
   pub numbers : List ℕ
   pub shut : Bool
 
@@ -39,9 +41,9 @@ genuineBytes k d r =
 abbrev pub contentBytes : Keys → List ℕ → Record → List ℕ
 contentBytes k d r = take (length (fragmentOf d r) - sizeOf (k .mac)) (fragmentOf d r)
 
--- "whose number was not accepted before and is above the highest accepted less 32"
-abbrev pub isNew : List ℕ → ℕ → Bool
-isNew numbers s = pick (tooOld 32 (highestOf numbers) s) false (pick (accepted numbers s) false true)
+-- "whose number was not accepted before and is above the highest accepted less 32": less the width
+abbrev pub isNew : ℕ → List ℕ → ℕ → Bool
+isNew width numbers s = pick (tooOld width (highestOf numbers) s) false (pick (accepted numbers s) false true)
 
 -- a record that closes: an alert of level critical or fatal, or a Finished with other contents than the expected ones
 abbrev pub levelShuts : Level → Bool
@@ -69,8 +71,8 @@ abbrev pub withRecord : Keys → List ℕ → Course → List ℕ → Record →
 withRecord k expected course d r =
     pick (course .shut) course
     (pick (genuineBytes k d r)
-    (pick (isNew (course .numbers) (r .number))
-    (record { numbers = r .number ∷ course .numbers; shut = contentShuts (r .content) (contentBytes k d r) expected })
+    (pick (isNew (course .width) (course .numbers) (r .number))
+    (record { width = course .width; numbers = r .number ∷ course .numbers; shut = contentShuts (r .content) (contentBytes k d r) expected })
     course)
     course)
 
@@ -102,4 +104,4 @@ pub record Due (k : Keys) (course : Course) (d : List ℕ) (r : Record) (c : Lis
   pub is-data : r .content ≡ C.Data
   pub some : 0 < length c
   pub not-before : accepted (course .numbers) (r .number) ≡ false
-  pub recent : (n : ℕ) → accepted (course .numbers) n ≡ true → n < r .number + 32
+  pub recent : (n : ℕ) → accepted (course .numbers) n ≡ true → n < r .number + course .width

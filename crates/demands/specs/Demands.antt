@@ -1,4 +1,4 @@
--- The three demands, each sentence with the statements that render it. `proofs/Demanded.antt` has all of them at once.
+-- The three demands, each sentence with the statements that render it. `proofs/Demands.antt` has all of them at once.
 use Rattle.demands.specs.Runs.{stepOf}
 use Rattle.demands.specs.Table.{TableHolds}
 use Rattle.demands.specs.Calls.{CallsHold, FreshHolds}

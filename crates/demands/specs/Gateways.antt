@@ -23,7 +23,7 @@ use Rattle.connection.specs.declared.calls.Connection.{Connection}
 use Rattle.connection.specs.declared.receive.Taken.the-variants as T
 use Rattle.connection.specs.declared.tally.Tally.{Tally}
 use Rattle.connection.specs.declared.handshake.Handshake.{Handshake}
-use Rattle.demands.specs.Runs.{Call, receive, send-data, send-alert, close, start, Result, received, Step, Gateway, stepOf, lastOf}
+use Rattle.demands.specs.Runs.{Call, receive, send-data, send-alert, close, start, Result, received, Step, Gateway, stepOf, finalOf}
 use Rattle.demands.specs.Calls.{Chain, CallRow, notTaken, notSent, notCalled}
 use Rattle.demands.specs.Refusals.{lentBy}
 use Rattle.demands.specs.Events.{Event, took, AllSound, eventsOf, connectionOf, after, history}
@@ -67,7 +67,7 @@ HandsOut g =
     → let past = history (freshWith id secret) es [] in
     let session = sessionOf id secret in
     let course = courseFrom session past (eventsOf calls ++ map (took random d) before) in
-    let answer = answerOf g (lastOf g (connectionOf (after (freshWith id secret) es)) calls) d random out before in
+    let answer = answerOf g (finalOf g (connectionOf (after (freshWith id secret) es)) calls) d random out before in
     ((isData answer ≡ true) ↔ ((c : List ℕ) × Due (keysIn session past) course d r c))
     × ((c : List ℕ) → Due (keysIn session past) course d r c → handedOf d answer ≡ c)
 

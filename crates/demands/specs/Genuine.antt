@@ -5,26 +5,19 @@ use mathlib.Core.Bool.{true}
 use mathlib.Core.List.{List, [], _∷_, _++_}
 use Prim.Native.Nat.{ℕ}
 use Rattle.digest.specs.Hmac.{hmac}
-use Rattle.digest.specs.Mac.{sizeOf, clientExpansion}
-use Rattle.digest.specs.declared.mac.Mac.{Mac}
-use Rattle.record.specs.Keys.{keyNumber, macSecret}
+use Rattle.digest.specs.Mac.{sizeOf}
+use Rattle.record.specs.Keys.{secretFor}
+use Rattle.record.specs.declared.keys.Keys.{Keys}
+use Rattle.record.specs.declared.keys.Sense.the-variants.{FromUnit}
 use Rattle.record.specs.Code.{fragmentBy}
 use Rattle.record.specs.Datagram.{framed, framingOf}
 use Rattle.record.specs.declared.reader.Record.{Record}
 use Rattle.connection.specs.Judge.{fragmentOf}
 use Rattle.connection.specs.declared.handshake.Handshake.{Handshake}
 
--- what the keys of a connection are made of
-pub record Keys : Type 0 where
-  pub secret : List ℕ
-  pub mac : Mac
-  pub refresh : ℕ
-  pub server : List ℕ
-  pub client : List ℕ
-
 -- "the key for its number": the unit's MAC secret for number s
 abbrev pub unitKey : Keys → ℕ → List ℕ
-unitKey k s = macSecret (k .secret) clientExpansion (keyNumber (k .refresh) s) (k .server) (k .client)
+unitKey k s = secretFor k FromUnit s
 
 -- r is a record of the datagram d, which is soundly framed
 pub record RecordOf (d : List ℕ) (r : Record) : Type 0 where

@@ -6,6 +6,7 @@ use mathlib.Core.Bool.{Bool, true, false}
 use mathlib.Core.List.{List, [], _∷_, _++_}
 use Prim.Native.Nat.{ℕ}
 use lib.ListN.{length}
+use Rattle.record.specs.Window.{windowWidth}
 use Rattle.record.specs.declared.reader.Record.{Record}
 use Rattle.connection.specs.Answer.{handedOf}
 use Rattle.connection.specs.Calls.{sessionOf}
@@ -22,7 +23,7 @@ use Rattle.demands.specs.Runs.{freshWith}
 -- the course from a place of a run on: the numbers accepted up to there, and nothing closed
 abbrev pub courseFrom : Session → List Happened → List Event → Course
 courseFrom session past es =
-    courseOf (keysIn session past) (expectedIn session past) (record { numbers = acceptedIn past; shut = false }) es
+    courseOf (keysIn session past) (expectedIn session past) (record { width = windowWidth; numbers = acceptedIn past; shut = false }) es
 
 -- the answer to a record at a place of a run
 abbrev pub answerAt : Handshake → List ℕ → List ℕ → Record → Answer

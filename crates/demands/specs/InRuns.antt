@@ -30,26 +30,27 @@ use Rattle.demands.specs.Table.{Guarded, Hears}
 use Rattle.demands.specs.Events.{Event, AllSound, Happened, connectionOf, after, history}
 use Rattle.demands.specs.Past.{keysIn, expectedIn, acceptedIn, lastWritten}
 use Rattle.demands.specs.LeftOut.{LeftOut, SameWithout}
+use Rattle.record.specs.Window.{windowWidth}
 
 -- "a number at most n - 32 is too old", with n an accepted number
-pub record TooOldFor (numbers : List ℕ) (s : ℕ) : Type 0 where
+pub record TooOldFor (width : ℕ) (numbers : List ℕ) (s : ℕ) : Type 0 where
   pub n : ℕ
   pub was-accepted : accepted numbers n ≡ true
-  pub far : s + 32 ≤ n
+  pub far : s + width ≤ n
 
 -- "A number accepted before is repeated", unless it is too old
-pub record RepeatedIn (numbers : List ℕ) (s : ℕ) : Type 0 where
+pub record RepeatedIn (width : ℕ) (numbers : List ℕ) (s : ℕ) : Type 0 where
   pub was-accepted : accepted numbers s ≡ true
-  pub recent : (n : ℕ) → accepted numbers n ≡ true → n < s + 32
+  pub recent : (n : ℕ) → accepted numbers n ≡ true → n < s + width
 
 -- a protected record of an allowed kind, by its history
 pub record ProtectedExactly (session : Session) (past : List Happened) (d : List ℕ) (r : Record)
     (answer : Answer) : Type 0 where
   pub exactly-9 : (answer ≡ Refused X.Forged) ↔ ((c : List ℕ) → Genuine (keysIn session past) d r c → ⊥)
   pub exactly-10 : (answer ≡ Refused X.TooOld)
-      ↔ (((c : List ℕ) × Genuine (keysIn session past) d r c) × TooOldFor (acceptedIn past) (r .number))
+      ↔ (((c : List ℕ) × Genuine (keysIn session past) d r c) × TooOldFor windowWidth (acceptedIn past) (r .number))
   pub exactly-11 : (answer ≡ Refused X.Repeated)
-      ↔ (((c : List ℕ) × Genuine (keysIn session past) d r c) × RepeatedIn (acceptedIn past) (r .number))
+      ↔ (((c : List ℕ) × Genuine (keysIn session past) d r c) × RepeatedIn windowWidth (acceptedIn past) (r .number))
 
 unfoldable pub ProtectedInRuns : Type 0
 ProtectedInRuns =

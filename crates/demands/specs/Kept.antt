@@ -16,6 +16,7 @@ use Rattle.connection.specs.declared.handshake.Session.{Session}
 use Rattle.connection.specs.declared.state.State.the-variants.{Barred}
 use Rattle.demands.specs.Events.{Event, Happened, after, history}
 use Rattle.demands.specs.Past.{lastReply, keptGreeting, agreedFor, helloAs, replyFor, nextSealed, nextClearNumber, lastWritten, acceptedIn, barredIn}
+use Rattle.record.specs.Window.{windowWidth}
 
 pub record KeptAs (session : Session) (past : List Happened) (h : Handshake) : Type 0 where
   -- the session is the planted one, until it is barred
@@ -31,7 +32,7 @@ pub record KeptAs (session : Session) (past : List Happened) (h : Handshake) : T
   -- "the checksum of the last record that we sent, a resent reply not counted"
   pub last-is : h .sending .last ≡ wordAt (checksumOf (lastWritten session past)) 0
   -- the window holds exactly the numbers accepted since the last change cipher spec that was taken
-  pub window-is : h .window ≡ windowOf 32 (acceptedIn past)
+  pub window-is : h .window ≡ windowOf windowWidth (acceptedIn past)
   -- "required to forget any session identifiers, keys, and secrets" (002 10.2.2)
   pub barred-is : barredIn past ≡ true
       → (h .state ≡ Barred) × (h .session ≡ noSession) × (h .kept ≡ nothingKept) × (h .agreed ≡ nothingAgreed (h .agreed .mac) (h .agreed .refresh))

@@ -13,8 +13,9 @@ use Rattle.connection.specs.declared.answer.Slot.{Slot}
 use Rattle.connection.specs.declared.calls.Connection.{Connection}
 use Rattle.connection.specs.declared.state.State.the-variants.{Open}
 use Rattle.connection.specs.declared.tally.Tally.{Tally}
-use Rattle.demands.specs.Runs.{Call, receive, send-data, send-alert, close, start, Result, received, sent, called, Step, Gateway, stepsOf, lastOf}
-use Rattle.demands.specs.Genuine.{Keys, Genuine, keysOf}
+use Rattle.demands.specs.Runs.{Call, receive, send-data, send-alert, close, start, Result, received, sent, called, Step, Gateway, stepsOf, finalOf}
+use Rattle.record.specs.declared.keys.Keys.{Keys}
+use Rattle.demands.specs.Genuine.{Genuine, keysOf}
 use Rattle.demands.specs.Past.{isData}
 
 -- a datagram without a genuine record
@@ -88,7 +89,7 @@ pub record ButForged (t u : Tally) : Type 0 where
 -- the same result and writes the same bytes
 pub record SameWithout (g : Gateway) (k : Keys) (c : Connection) (calls rest : List Call)
     (out : LeftOut k calls rest) : Type 0 where
-  pub same-connection : lastOf g c calls ≡ lastOf g c rest
+  pub same-connection : finalOf g c calls ≡ finalOf g c rest
   pub same-handed : handedBy g c calls ≡ handedBy g c rest
   pub same-steps : stepsLeft out (stepsOf g c calls) ≡ stepsOf g c rest
   pub same-tally : (t : Tally) → ButForged (talliedBy g t c calls) (talliedBy g t c rest)

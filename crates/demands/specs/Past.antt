@@ -19,7 +19,7 @@ use Rattle.connection.specs.declared.handshake.Agreed.{Agreed}
 use Rattle.connection.specs.declared.handshake.Session.{Session}
 use Rattle.connection.specs.declared.refusal.Refusal.{Refusal}
 use Rattle.connection.specs.declared.refusal.Refusal.the-variants as X
-use Rattle.demands.specs.Genuine.{Keys}
+use Rattle.record.specs.declared.keys.Keys.{Keys}
 use Rattle.demands.specs.Events.{Happened, answered, wrote, closed, started, refused}
 
 -- ---- answers

@@ -11,14 +11,14 @@ use Rattle.connection.specs.Receive.{slot}
 use Rattle.connection.specs.declared.answer.Answer.{Answer}
 use Rattle.connection.specs.declared.answer.Answer.the-variants.{Nothing}
 use Rattle.connection.specs.declared.calls.Connection.{Connection}
-use Rattle.demands.specs.Runs.{Call, receive, Gateway, stepOf, lastOf}
+use Rattle.demands.specs.Runs.{Call, receive, Gateway, stepOf, finalOf}
 use Rattle.demands.specs.Events.{took, AllSound, eventsOf, after}
 use Rattle.demands.specs.LeftOut.{answersIn}
 
 unfoldable pub RunsAreEvents : Type 0
 RunsAreEvents =
     (c : Connection) (calls : List Call)
-    → (lastOf stepOf c calls .handshake ≡ after (c .handshake) (eventsOf calls)) × AllSound (eventsOf calls)
+    → (finalOf stepOf c calls .handshake ≡ after (c .handshake) (eventsOf calls)) × AllSound (eventsOf calls)
 
 -- the answer that a gateway gives to the record behind `before` in its datagram
 abbrev pub answerOf : Gateway → Connection → List ℕ → List ℕ → List ℕ → List Record → Answer

@@ -68,9 +68,9 @@ unfoldable pub stepsOf : Gateway → Connection → List Call → List Step
 stepsOf g c [] = []
 stepsOf g c (call ∷ calls) = g c call ∷ stepsOf g (g c call .connection) calls
 
-unfoldable pub lastOf : Gateway → Connection → List Call → Connection
-lastOf g c [] = c
-lastOf g c (call ∷ calls) = lastOf g (g c call .connection) calls
+unfoldable pub finalOf : Gateway → Connection → List Call → Connection
+finalOf g c [] = c
+finalOf g c (call ∷ calls) = finalOf g (g c call .connection) calls
 
 -- a connection fresh from a planted session
 abbrev pub freshWith : List ℕ → List ℕ → Handshake

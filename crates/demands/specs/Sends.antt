@@ -6,9 +6,10 @@ use mathlib.Core.List.{List, []}
 use Prim.Native.Nat.{ℕ, _+_, _≤_}
 use lib.ListN.{length, take, drop}
 use Rattle.digest.specs.Hmac.{hmac}
-use Rattle.digest.specs.Mac.{sizeOf, serverExpansion}
+use Rattle.digest.specs.Mac.{sizeOf}
 use Rattle.record.specs.Reader.{readOf}
-use Rattle.record.specs.Keys.{keyNumber, macSecret}
+use Rattle.record.specs.Keys.{secretFor}
+use Rattle.record.specs.declared.keys.Sense.the-variants.{FromShore}
 use Rattle.record.specs.Code.{fragmentBy}
 use Rattle.record.specs.declared.reader.Record.{Record}
 use Rattle.record.specs.declared.reader.Reading.the-variants as Q
@@ -22,14 +23,14 @@ use Rattle.message.specs.declared.alert.Description.{Description}
 use Rattle.message.specs.declared.alert.Graded.the-variants as G
 use Rattle.message.specs.declared.alert.Sorted.the-variants as D
 use Rattle.connection.specs.declared.calls.Outcome.the-variants as O
-use Rattle.demands.specs.Genuine.{Keys}
+use Rattle.record.specs.declared.keys.Keys.{Keys}
 use Rattle.demands.specs.Events.{Event, AllSound, Happened, connectionOf, after, history}
 use Rattle.demands.specs.Past.{keysIn, nextSealed, nextClearNumber}
 use Rattle.demands.specs.Runs.{freshWith}
 
 -- our MAC secret for number s
 abbrev pub ourKey : Keys → ℕ → List ℕ
-ourKey k s = macSecret (k .secret) serverExpansion (keyNumber (k .refresh) s) (k .server) (k .client)
+ourKey k s = secretFor k FromShore s
 
 -- the bytes are one record without a length that reads back: its number, its content, and a right code under our key
 -- for the number

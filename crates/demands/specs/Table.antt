@@ -9,7 +9,7 @@ use Prim.Native.Nat.{ℕ, _+_, _<_}
 use lib.ListN.{length, getD}
 use lib.Dec.{eqb}
 use Rattle.digest.specs.Pick.{pick}
-use Rattle.record.specs.Window.{freshWindow, acceptOf}
+use Rattle.record.specs.Window.{acceptOf, emptied}
 use Rattle.record.specs.declared.header.Content.{Content}
 use Rattle.record.specs.declared.header.Content.the-variants as C
 use Rattle.record.specs.declared.window.Window.{Window}
@@ -122,7 +122,7 @@ pub record New (h : Handshake) (d : List ℕ) (r : Record) (c : List ℕ) (w : W
   pub guarded : Guarded h r
   pub coded : Sealed (keysOf h) d r c
   pub arrived : ℕ
-  pub accepted : acceptOf 32 (h .window) (r .number) ≡ A.New w arrived
+  pub accepted : acceptOf (h .window) (r .number) ≡ A.New w arrived
 
 -- a clear ClientHello that is first in its datagram, in a state that hears it
 pub record Greets (h : Handshake) (d : List ℕ) (r : Record) : Type 0 where
@@ -170,7 +170,7 @@ pub data Row (h : Handshake) (random d : List ℕ) (r : Record) : Judged → Typ
   -- one byte 1"
   row-change : h .state ≡ Replied → r .protected ≡ false → r .content ≡ C.ChangeCipherSpec
       → isChange (fragmentOf d r) ≡ true
-      → Row h random d r (judged W.Spec (withState (withWindow h freshWindow) Spec))
+      → Row h random d r (judged W.Spec (withState (withWindow h (emptied (h .window))) Spec))
   row-change-malformed : h .state ≡ Replied → r .protected ≡ false → r .content ≡ C.ChangeCipherSpec
       → isChange (fragmentOf d r) ≡ false
       → Row h random d r (refusing X.Malformed h)
@@ -192,9 +192,9 @@ pub data Row (h : Handshake) (random d : List ℕ) (r : Record) : Judged → Typ
       → Row h random d r (judged (W.Fatal (a .description)) (withState h Closed))
   -- 9: "code not right"; 10: "too old"; 11: "repeated"
   row-forged : Guarded h r → ((c : List ℕ) → Sealed (keysOf h) d r c → ⊥) → Row h random d r (refusing X.Forged h)
-  row-old : (c : List ℕ) → Guarded h r → Sealed (keysOf h) d r c → acceptOf 32 (h .window) (r .number) ≡ A.TooOld
+  row-old : (c : List ℕ) → Guarded h r → Sealed (keysOf h) d r c → acceptOf (h .window) (r .number) ≡ A.TooOld
       → Row h random d r (refusing X.TooOld h)
-  row-repeated : (c : List ℕ) → Guarded h r → Sealed (keysOf h) d r c → acceptOf 32 (h .window) (r .number) ≡ A.Repeated
+  row-repeated : (c : List ℕ) → Guarded h r → Sealed (keysOf h) d r c → acceptOf (h .window) (r .number) ≡ A.Repeated
       → Row h random d r (refusing X.Repeated h)
   -- "A genuine new record marks its number even if its content is then refused."
   row-malformed : (c : List ℕ) (w : Window) → New h d r c w → MalformedAs (r .content) c (h .agreed .expected)

@@ -25,8 +25,10 @@ use Rattle.connection.specs.declared.refusal.Refusal.the-variants as X
 use Rattle.connection.specs.declared.calls.Connection.{Connection}
 use Rattle.connection.specs.declared.receive.Taken.the-variants as T
 use Rattle.demands.specs.Runs.{receive, Result, received, Gateway}
-use Rattle.demands.specs.Genuine.{Keys, unitKey, keysOf}
+use Rattle.record.specs.declared.keys.Keys.{Keys}
+use Rattle.demands.specs.Genuine.{unitKey, keysOf}
 use Rattle.record.specs.declared.window.Window.{Window}
+use Rattle.record.specs.Window.{windowWidth}
 
 -- a protected record of the unit with a length, so that another may stand behind it; and one without
 abbrev pub longSealed : Keys → Content → ℕ → List ℕ → List ℕ
@@ -38,7 +40,7 @@ lastSealed k content s body = protectedBy (hmac (unitKey k s)) (sizeOf (k .mac))
 -- an Open connection behind the unit's Finished, whose number was 0
 pub record JustOpen (c : Connection) : Type 0 where
   pub is-open : c .handshake .state ≡ Open
-  pub window-is : c .handshake .window ≡ record { highest = 0; marks = 1 }
+  pub window-is : c .handshake .window ≡ record { width = windowWidth; highest = 0; marks = 1 }
 
 -- empty data 7, then data 7: 12, 11
 unfoldable pub EmptyThenData : Gateway → Type 0

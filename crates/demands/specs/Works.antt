@@ -27,7 +27,8 @@ use Rattle.connection.specs.declared.answer.Answer.the-variants as W
 use Rattle.connection.specs.declared.calls.Connection.{Connection}
 use Rattle.connection.specs.declared.receive.Taken.the-variants as T
 use Rattle.demands.specs.Runs.{Call, receive, Result, received, Step, Gateway, stepsOf}
-use Rattle.demands.specs.Genuine.{Keys, unitKey}
+use Rattle.record.specs.declared.keys.Keys.{Keys}
+use Rattle.demands.specs.Genuine.{unitKey}
 use Rattle.demands.specs.Events.{connectionOf}
 use Rattle.demands.specs.Runs.{freshWith}
 

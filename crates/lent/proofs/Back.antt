@@ -19,7 +19,7 @@ use Rattle.connection.specs.declared.state.State.the-variants.{Idle, Replied, S
 use Rattle.connection.specs.declared.handshake.Handshake.{Handshake}
 use Rattle.connection.specs.declared.calls.Connection.{Connection}
 use Rattle.lent.specs.Fields.{joined, bytesIn, twoIn, eightIn}
-use Rattle.lent.specs.Saved.{mark, stateNumber, savedHandshake, savedOf, isSaved, stateNumbered, macNumbered, sessionIn, agreedIn, keptIn, windowIn, sendingIn, handshakeIn, connectionIn, Is, No, loaded, Ranged, Bytes}
+use Rattle.lent.specs.Saved.{stateSize, mark, stateNumber, savedHandshake, savedOf, isSaved, stateNumbered, macNumbered, sessionIn, agreedIn, keptIn, windowIn, sendingIn, handshakeIn, connectionIn, Is, No, loaded, Ranged, Bytes}
 use Rattle.lent.proofs.Laying.{joined-append, joined-one, joined-none, length-eight}
 use Rattle.lent.proofs.Reading.{part-length}
 use Rattle.lent.proofs.Calling.{both-true}
@@ -90,7 +90,8 @@ record Placed (h : Handshake) (b : List ℕ) : Type 0 where
   protected : bytesIn b 445 4 ≡ bytes4 (h .sending .protected)
   clear : bytesIn b 449 4 ≡ bytes4 (h .sending .clear)
   last : bytesIn b 453 4 ≡ bytes4 (h .sending .last)
-  all : length b ≡ 457
+  width : bytesIn b 457 1 ≡ (h .window .width ∷ [])
+  all : length b ≡ stateSize
 
 places : (c : Connection) → Ranged c → Placed (c .handshake) (savedOf c)
 unfolding savedHandshake
@@ -115,26 +116,28 @@ places c r =
     let n16 = longer (bytes4 mark ∷ (stateNumber (h .state) ∷ []) ∷ h .session .id ∷ h .session .secret ∷ h .agreed .server ∷ h .agreed .client ∷ (numberOf (h .agreed .mac) ∷ []) ∷ (h .agreed .refresh ∷ []) ∷ h .agreed .expected ∷ h .kept .hello ∷ bytes8 (h .kept .heard) ∷ h .kept .reply ∷ bytes8 (h .kept .size) ∷ bytes2 (h .window .highest) ∷ bytes8 (h .window .marks) ∷ []) (bytes4 (h .sending .protected)) 445 4 n15 (refl) in
     let n17 = longer (bytes4 mark ∷ (stateNumber (h .state) ∷ []) ∷ h .session .id ∷ h .session .secret ∷ h .agreed .server ∷ h .agreed .client ∷ (numberOf (h .agreed .mac) ∷ []) ∷ (h .agreed .refresh ∷ []) ∷ h .agreed .expected ∷ h .kept .hello ∷ bytes8 (h .kept .heard) ∷ h .kept .reply ∷ bytes8 (h .kept .size) ∷ bytes2 (h .window .highest) ∷ bytes8 (h .window .marks) ∷ bytes4 (h .sending .protected) ∷ []) (bytes4 (h .sending .clear)) 449 4 n16 (refl) in
     let n18 = longer (bytes4 mark ∷ (stateNumber (h .state) ∷ []) ∷ h .session .id ∷ h .session .secret ∷ h .agreed .server ∷ h .agreed .client ∷ (numberOf (h .agreed .mac) ∷ []) ∷ (h .agreed .refresh ∷ []) ∷ h .agreed .expected ∷ h .kept .hello ∷ bytes8 (h .kept .heard) ∷ h .kept .reply ∷ bytes8 (h .kept .size) ∷ bytes2 (h .window .highest) ∷ bytes8 (h .window .marks) ∷ bytes4 (h .sending .protected) ∷ bytes4 (h .sending .clear) ∷ []) (bytes4 (h .sending .last)) 453 4 n17 (refl) in
+    let n19 = longer (bytes4 mark ∷ (stateNumber (h .state) ∷ []) ∷ h .session .id ∷ h .session .secret ∷ h .agreed .server ∷ h .agreed .client ∷ (numberOf (h .agreed .mac) ∷ []) ∷ (h .agreed .refresh ∷ []) ∷ h .agreed .expected ∷ h .kept .hello ∷ bytes8 (h .kept .heard) ∷ h .kept .reply ∷ bytes8 (h .kept .size) ∷ bytes2 (h .window .highest) ∷ bytes8 (h .window .marks) ∷ bytes4 (h .sending .protected) ∷ bytes4 (h .sending .clear) ∷ bytes4 (h .sending .last) ∷ []) ((h .window .width ∷ [])) 457 1 n18 (refl) in
     record {
-      mark = placed [] (bytes4 mark) ((stateNumber (h .state) ∷ []) ∷ h .session .id ∷ h .session .secret ∷ h .agreed .server ∷ h .agreed .client ∷ (numberOf (h .agreed .mac) ∷ []) ∷ (h .agreed .refresh ∷ []) ∷ h .agreed .expected ∷ h .kept .hello ∷ bytes8 (h .kept .heard) ∷ h .kept .reply ∷ bytes8 (h .kept .size) ∷ bytes2 (h .window .highest) ∷ bytes8 (h .window .marks) ∷ bytes4 (h .sending .protected) ∷ bytes4 (h .sending .clear) ∷ bytes4 (h .sending .last) ∷ []) 0 4 n0 (refl);
-      state = placed (bytes4 mark ∷ []) ((stateNumber (h .state) ∷ [])) (h .session .id ∷ h .session .secret ∷ h .agreed .server ∷ h .agreed .client ∷ (numberOf (h .agreed .mac) ∷ []) ∷ (h .agreed .refresh ∷ []) ∷ h .agreed .expected ∷ h .kept .hello ∷ bytes8 (h .kept .heard) ∷ h .kept .reply ∷ bytes8 (h .kept .size) ∷ bytes2 (h .window .highest) ∷ bytes8 (h .window .marks) ∷ bytes4 (h .sending .protected) ∷ bytes4 (h .sending .clear) ∷ bytes4 (h .sending .last) ∷ []) 4 1 n1 (refl);
-      id = placed (bytes4 mark ∷ (stateNumber (h .state) ∷ []) ∷ []) (h .session .id) (h .session .secret ∷ h .agreed .server ∷ h .agreed .client ∷ (numberOf (h .agreed .mac) ∷ []) ∷ (h .agreed .refresh ∷ []) ∷ h .agreed .expected ∷ h .kept .hello ∷ bytes8 (h .kept .heard) ∷ h .kept .reply ∷ bytes8 (h .kept .size) ∷ bytes2 (h .window .highest) ∷ bytes8 (h .window .marks) ∷ bytes4 (h .sending .protected) ∷ bytes4 (h .sending .clear) ∷ bytes4 (h .sending .last) ∷ []) 5 8 n2 (r .id);
-      secret = placed (bytes4 mark ∷ (stateNumber (h .state) ∷ []) ∷ h .session .id ∷ []) (h .session .secret) (h .agreed .server ∷ h .agreed .client ∷ (numberOf (h .agreed .mac) ∷ []) ∷ (h .agreed .refresh ∷ []) ∷ h .agreed .expected ∷ h .kept .hello ∷ bytes8 (h .kept .heard) ∷ h .kept .reply ∷ bytes8 (h .kept .size) ∷ bytes2 (h .window .highest) ∷ bytes8 (h .window .marks) ∷ bytes4 (h .sending .protected) ∷ bytes4 (h .sending .clear) ∷ bytes4 (h .sending .last) ∷ []) 13 20 n3 (r .secret);
-      server = placed (bytes4 mark ∷ (stateNumber (h .state) ∷ []) ∷ h .session .id ∷ h .session .secret ∷ []) (h .agreed .server) (h .agreed .client ∷ (numberOf (h .agreed .mac) ∷ []) ∷ (h .agreed .refresh ∷ []) ∷ h .agreed .expected ∷ h .kept .hello ∷ bytes8 (h .kept .heard) ∷ h .kept .reply ∷ bytes8 (h .kept .size) ∷ bytes2 (h .window .highest) ∷ bytes8 (h .window .marks) ∷ bytes4 (h .sending .protected) ∷ bytes4 (h .sending .clear) ∷ bytes4 (h .sending .last) ∷ []) 33 16 n4 (r .server);
-      client = placed (bytes4 mark ∷ (stateNumber (h .state) ∷ []) ∷ h .session .id ∷ h .session .secret ∷ h .agreed .server ∷ []) (h .agreed .client) ((numberOf (h .agreed .mac) ∷ []) ∷ (h .agreed .refresh ∷ []) ∷ h .agreed .expected ∷ h .kept .hello ∷ bytes8 (h .kept .heard) ∷ h .kept .reply ∷ bytes8 (h .kept .size) ∷ bytes2 (h .window .highest) ∷ bytes8 (h .window .marks) ∷ bytes4 (h .sending .protected) ∷ bytes4 (h .sending .clear) ∷ bytes4 (h .sending .last) ∷ []) 49 16 n5 (r .client);
-      mac = placed (bytes4 mark ∷ (stateNumber (h .state) ∷ []) ∷ h .session .id ∷ h .session .secret ∷ h .agreed .server ∷ h .agreed .client ∷ []) ((numberOf (h .agreed .mac) ∷ [])) ((h .agreed .refresh ∷ []) ∷ h .agreed .expected ∷ h .kept .hello ∷ bytes8 (h .kept .heard) ∷ h .kept .reply ∷ bytes8 (h .kept .size) ∷ bytes2 (h .window .highest) ∷ bytes8 (h .window .marks) ∷ bytes4 (h .sending .protected) ∷ bytes4 (h .sending .clear) ∷ bytes4 (h .sending .last) ∷ []) 65 1 n6 (refl);
-      refresh = placed (bytes4 mark ∷ (stateNumber (h .state) ∷ []) ∷ h .session .id ∷ h .session .secret ∷ h .agreed .server ∷ h .agreed .client ∷ (numberOf (h .agreed .mac) ∷ []) ∷ []) ((h .agreed .refresh ∷ [])) (h .agreed .expected ∷ h .kept .hello ∷ bytes8 (h .kept .heard) ∷ h .kept .reply ∷ bytes8 (h .kept .size) ∷ bytes2 (h .window .highest) ∷ bytes8 (h .window .marks) ∷ bytes4 (h .sending .protected) ∷ bytes4 (h .sending .clear) ∷ bytes4 (h .sending .last) ∷ []) 66 1 n7 (refl);
-      expected = placed (bytes4 mark ∷ (stateNumber (h .state) ∷ []) ∷ h .session .id ∷ h .session .secret ∷ h .agreed .server ∷ h .agreed .client ∷ (numberOf (h .agreed .mac) ∷ []) ∷ (h .agreed .refresh ∷ []) ∷ []) (h .agreed .expected) (h .kept .hello ∷ bytes8 (h .kept .heard) ∷ h .kept .reply ∷ bytes8 (h .kept .size) ∷ bytes2 (h .window .highest) ∷ bytes8 (h .window .marks) ∷ bytes4 (h .sending .protected) ∷ bytes4 (h .sending .clear) ∷ bytes4 (h .sending .last) ∷ []) 67 12 n8 (r .expected);
-      hello = placed (bytes4 mark ∷ (stateNumber (h .state) ∷ []) ∷ h .session .id ∷ h .session .secret ∷ h .agreed .server ∷ h .agreed .client ∷ (numberOf (h .agreed .mac) ∷ []) ∷ (h .agreed .refresh ∷ []) ∷ h .agreed .expected ∷ []) (h .kept .hello) (bytes8 (h .kept .heard) ∷ h .kept .reply ∷ bytes8 (h .kept .size) ∷ bytes2 (h .window .highest) ∷ bytes8 (h .window .marks) ∷ bytes4 (h .sending .protected) ∷ bytes4 (h .sending .clear) ∷ bytes4 (h .sending .last) ∷ []) 79 256 n9 (r .hello);
-      heard = placed (bytes4 mark ∷ (stateNumber (h .state) ∷ []) ∷ h .session .id ∷ h .session .secret ∷ h .agreed .server ∷ h .agreed .client ∷ (numberOf (h .agreed .mac) ∷ []) ∷ (h .agreed .refresh ∷ []) ∷ h .agreed .expected ∷ h .kept .hello ∷ []) (bytes8 (h .kept .heard)) (h .kept .reply ∷ bytes8 (h .kept .size) ∷ bytes2 (h .window .highest) ∷ bytes8 (h .window .marks) ∷ bytes4 (h .sending .protected) ∷ bytes4 (h .sending .clear) ∷ bytes4 (h .sending .last) ∷ []) 335 8 n10 (length-eight (h .kept .heard));
-      reply = placed (bytes4 mark ∷ (stateNumber (h .state) ∷ []) ∷ h .session .id ∷ h .session .secret ∷ h .agreed .server ∷ h .agreed .client ∷ (numberOf (h .agreed .mac) ∷ []) ∷ (h .agreed .refresh ∷ []) ∷ h .agreed .expected ∷ h .kept .hello ∷ bytes8 (h .kept .heard) ∷ []) (h .kept .reply) (bytes8 (h .kept .size) ∷ bytes2 (h .window .highest) ∷ bytes8 (h .window .marks) ∷ bytes4 (h .sending .protected) ∷ bytes4 (h .sending .clear) ∷ bytes4 (h .sending .last) ∷ []) 343 84 n11 (r .reply);
-      size = placed (bytes4 mark ∷ (stateNumber (h .state) ∷ []) ∷ h .session .id ∷ h .session .secret ∷ h .agreed .server ∷ h .agreed .client ∷ (numberOf (h .agreed .mac) ∷ []) ∷ (h .agreed .refresh ∷ []) ∷ h .agreed .expected ∷ h .kept .hello ∷ bytes8 (h .kept .heard) ∷ h .kept .reply ∷ []) (bytes8 (h .kept .size)) (bytes2 (h .window .highest) ∷ bytes8 (h .window .marks) ∷ bytes4 (h .sending .protected) ∷ bytes4 (h .sending .clear) ∷ bytes4 (h .sending .last) ∷ []) 427 8 n12 (length-eight (h .kept .size));
-      highest = placed (bytes4 mark ∷ (stateNumber (h .state) ∷ []) ∷ h .session .id ∷ h .session .secret ∷ h .agreed .server ∷ h .agreed .client ∷ (numberOf (h .agreed .mac) ∷ []) ∷ (h .agreed .refresh ∷ []) ∷ h .agreed .expected ∷ h .kept .hello ∷ bytes8 (h .kept .heard) ∷ h .kept .reply ∷ bytes8 (h .kept .size) ∷ []) (bytes2 (h .window .highest)) (bytes8 (h .window .marks) ∷ bytes4 (h .sending .protected) ∷ bytes4 (h .sending .clear) ∷ bytes4 (h .sending .last) ∷ []) 435 2 n13 (refl);
-      marks = placed (bytes4 mark ∷ (stateNumber (h .state) ∷ []) ∷ h .session .id ∷ h .session .secret ∷ h .agreed .server ∷ h .agreed .client ∷ (numberOf (h .agreed .mac) ∷ []) ∷ (h .agreed .refresh ∷ []) ∷ h .agreed .expected ∷ h .kept .hello ∷ bytes8 (h .kept .heard) ∷ h .kept .reply ∷ bytes8 (h .kept .size) ∷ bytes2 (h .window .highest) ∷ []) (bytes8 (h .window .marks)) (bytes4 (h .sending .protected) ∷ bytes4 (h .sending .clear) ∷ bytes4 (h .sending .last) ∷ []) 437 8 n14 (length-eight (h .window .marks));
-      protected = placed (bytes4 mark ∷ (stateNumber (h .state) ∷ []) ∷ h .session .id ∷ h .session .secret ∷ h .agreed .server ∷ h .agreed .client ∷ (numberOf (h .agreed .mac) ∷ []) ∷ (h .agreed .refresh ∷ []) ∷ h .agreed .expected ∷ h .kept .hello ∷ bytes8 (h .kept .heard) ∷ h .kept .reply ∷ bytes8 (h .kept .size) ∷ bytes2 (h .window .highest) ∷ bytes8 (h .window .marks) ∷ []) (bytes4 (h .sending .protected)) (bytes4 (h .sending .clear) ∷ bytes4 (h .sending .last) ∷ []) 445 4 n15 (refl);
-      clear = placed (bytes4 mark ∷ (stateNumber (h .state) ∷ []) ∷ h .session .id ∷ h .session .secret ∷ h .agreed .server ∷ h .agreed .client ∷ (numberOf (h .agreed .mac) ∷ []) ∷ (h .agreed .refresh ∷ []) ∷ h .agreed .expected ∷ h .kept .hello ∷ bytes8 (h .kept .heard) ∷ h .kept .reply ∷ bytes8 (h .kept .size) ∷ bytes2 (h .window .highest) ∷ bytes8 (h .window .marks) ∷ bytes4 (h .sending .protected) ∷ []) (bytes4 (h .sending .clear)) (bytes4 (h .sending .last) ∷ []) 449 4 n16 (refl);
-      last = placed (bytes4 mark ∷ (stateNumber (h .state) ∷ []) ∷ h .session .id ∷ h .session .secret ∷ h .agreed .server ∷ h .agreed .client ∷ (numberOf (h .agreed .mac) ∷ []) ∷ (h .agreed .refresh ∷ []) ∷ h .agreed .expected ∷ h .kept .hello ∷ bytes8 (h .kept .heard) ∷ h .kept .reply ∷ bytes8 (h .kept .size) ∷ bytes2 (h .window .highest) ∷ bytes8 (h .window .marks) ∷ bytes4 (h .sending .protected) ∷ bytes4 (h .sending .clear) ∷ []) (bytes4 (h .sending .last)) [] 453 4 n17 (refl);
-      all = n18;
+      mark = placed [] (bytes4 mark) ((stateNumber (h .state) ∷ []) ∷ h .session .id ∷ h .session .secret ∷ h .agreed .server ∷ h .agreed .client ∷ (numberOf (h .agreed .mac) ∷ []) ∷ (h .agreed .refresh ∷ []) ∷ h .agreed .expected ∷ h .kept .hello ∷ bytes8 (h .kept .heard) ∷ h .kept .reply ∷ bytes8 (h .kept .size) ∷ bytes2 (h .window .highest) ∷ bytes8 (h .window .marks) ∷ bytes4 (h .sending .protected) ∷ bytes4 (h .sending .clear) ∷ bytes4 (h .sending .last) ∷ (h .window .width ∷ []) ∷ []) 0 4 n0 (refl);
+      state = placed (bytes4 mark ∷ []) ((stateNumber (h .state) ∷ [])) (h .session .id ∷ h .session .secret ∷ h .agreed .server ∷ h .agreed .client ∷ (numberOf (h .agreed .mac) ∷ []) ∷ (h .agreed .refresh ∷ []) ∷ h .agreed .expected ∷ h .kept .hello ∷ bytes8 (h .kept .heard) ∷ h .kept .reply ∷ bytes8 (h .kept .size) ∷ bytes2 (h .window .highest) ∷ bytes8 (h .window .marks) ∷ bytes4 (h .sending .protected) ∷ bytes4 (h .sending .clear) ∷ bytes4 (h .sending .last) ∷ (h .window .width ∷ []) ∷ []) 4 1 n1 (refl);
+      id = placed (bytes4 mark ∷ (stateNumber (h .state) ∷ []) ∷ []) (h .session .id) (h .session .secret ∷ h .agreed .server ∷ h .agreed .client ∷ (numberOf (h .agreed .mac) ∷ []) ∷ (h .agreed .refresh ∷ []) ∷ h .agreed .expected ∷ h .kept .hello ∷ bytes8 (h .kept .heard) ∷ h .kept .reply ∷ bytes8 (h .kept .size) ∷ bytes2 (h .window .highest) ∷ bytes8 (h .window .marks) ∷ bytes4 (h .sending .protected) ∷ bytes4 (h .sending .clear) ∷ bytes4 (h .sending .last) ∷ (h .window .width ∷ []) ∷ []) 5 8 n2 (r .id);
+      secret = placed (bytes4 mark ∷ (stateNumber (h .state) ∷ []) ∷ h .session .id ∷ []) (h .session .secret) (h .agreed .server ∷ h .agreed .client ∷ (numberOf (h .agreed .mac) ∷ []) ∷ (h .agreed .refresh ∷ []) ∷ h .agreed .expected ∷ h .kept .hello ∷ bytes8 (h .kept .heard) ∷ h .kept .reply ∷ bytes8 (h .kept .size) ∷ bytes2 (h .window .highest) ∷ bytes8 (h .window .marks) ∷ bytes4 (h .sending .protected) ∷ bytes4 (h .sending .clear) ∷ bytes4 (h .sending .last) ∷ (h .window .width ∷ []) ∷ []) 13 20 n3 (r .secret);
+      server = placed (bytes4 mark ∷ (stateNumber (h .state) ∷ []) ∷ h .session .id ∷ h .session .secret ∷ []) (h .agreed .server) (h .agreed .client ∷ (numberOf (h .agreed .mac) ∷ []) ∷ (h .agreed .refresh ∷ []) ∷ h .agreed .expected ∷ h .kept .hello ∷ bytes8 (h .kept .heard) ∷ h .kept .reply ∷ bytes8 (h .kept .size) ∷ bytes2 (h .window .highest) ∷ bytes8 (h .window .marks) ∷ bytes4 (h .sending .protected) ∷ bytes4 (h .sending .clear) ∷ bytes4 (h .sending .last) ∷ (h .window .width ∷ []) ∷ []) 33 16 n4 (r .server);
+      client = placed (bytes4 mark ∷ (stateNumber (h .state) ∷ []) ∷ h .session .id ∷ h .session .secret ∷ h .agreed .server ∷ []) (h .agreed .client) ((numberOf (h .agreed .mac) ∷ []) ∷ (h .agreed .refresh ∷ []) ∷ h .agreed .expected ∷ h .kept .hello ∷ bytes8 (h .kept .heard) ∷ h .kept .reply ∷ bytes8 (h .kept .size) ∷ bytes2 (h .window .highest) ∷ bytes8 (h .window .marks) ∷ bytes4 (h .sending .protected) ∷ bytes4 (h .sending .clear) ∷ bytes4 (h .sending .last) ∷ (h .window .width ∷ []) ∷ []) 49 16 n5 (r .client);
+      mac = placed (bytes4 mark ∷ (stateNumber (h .state) ∷ []) ∷ h .session .id ∷ h .session .secret ∷ h .agreed .server ∷ h .agreed .client ∷ []) ((numberOf (h .agreed .mac) ∷ [])) ((h .agreed .refresh ∷ []) ∷ h .agreed .expected ∷ h .kept .hello ∷ bytes8 (h .kept .heard) ∷ h .kept .reply ∷ bytes8 (h .kept .size) ∷ bytes2 (h .window .highest) ∷ bytes8 (h .window .marks) ∷ bytes4 (h .sending .protected) ∷ bytes4 (h .sending .clear) ∷ bytes4 (h .sending .last) ∷ (h .window .width ∷ []) ∷ []) 65 1 n6 (refl);
+      refresh = placed (bytes4 mark ∷ (stateNumber (h .state) ∷ []) ∷ h .session .id ∷ h .session .secret ∷ h .agreed .server ∷ h .agreed .client ∷ (numberOf (h .agreed .mac) ∷ []) ∷ []) ((h .agreed .refresh ∷ [])) (h .agreed .expected ∷ h .kept .hello ∷ bytes8 (h .kept .heard) ∷ h .kept .reply ∷ bytes8 (h .kept .size) ∷ bytes2 (h .window .highest) ∷ bytes8 (h .window .marks) ∷ bytes4 (h .sending .protected) ∷ bytes4 (h .sending .clear) ∷ bytes4 (h .sending .last) ∷ (h .window .width ∷ []) ∷ []) 66 1 n7 (refl);
+      expected = placed (bytes4 mark ∷ (stateNumber (h .state) ∷ []) ∷ h .session .id ∷ h .session .secret ∷ h .agreed .server ∷ h .agreed .client ∷ (numberOf (h .agreed .mac) ∷ []) ∷ (h .agreed .refresh ∷ []) ∷ []) (h .agreed .expected) (h .kept .hello ∷ bytes8 (h .kept .heard) ∷ h .kept .reply ∷ bytes8 (h .kept .size) ∷ bytes2 (h .window .highest) ∷ bytes8 (h .window .marks) ∷ bytes4 (h .sending .protected) ∷ bytes4 (h .sending .clear) ∷ bytes4 (h .sending .last) ∷ (h .window .width ∷ []) ∷ []) 67 12 n8 (r .expected);
+      hello = placed (bytes4 mark ∷ (stateNumber (h .state) ∷ []) ∷ h .session .id ∷ h .session .secret ∷ h .agreed .server ∷ h .agreed .client ∷ (numberOf (h .agreed .mac) ∷ []) ∷ (h .agreed .refresh ∷ []) ∷ h .agreed .expected ∷ []) (h .kept .hello) (bytes8 (h .kept .heard) ∷ h .kept .reply ∷ bytes8 (h .kept .size) ∷ bytes2 (h .window .highest) ∷ bytes8 (h .window .marks) ∷ bytes4 (h .sending .protected) ∷ bytes4 (h .sending .clear) ∷ bytes4 (h .sending .last) ∷ (h .window .width ∷ []) ∷ []) 79 256 n9 (r .hello);
+      heard = placed (bytes4 mark ∷ (stateNumber (h .state) ∷ []) ∷ h .session .id ∷ h .session .secret ∷ h .agreed .server ∷ h .agreed .client ∷ (numberOf (h .agreed .mac) ∷ []) ∷ (h .agreed .refresh ∷ []) ∷ h .agreed .expected ∷ h .kept .hello ∷ []) (bytes8 (h .kept .heard)) (h .kept .reply ∷ bytes8 (h .kept .size) ∷ bytes2 (h .window .highest) ∷ bytes8 (h .window .marks) ∷ bytes4 (h .sending .protected) ∷ bytes4 (h .sending .clear) ∷ bytes4 (h .sending .last) ∷ (h .window .width ∷ []) ∷ []) 335 8 n10 (length-eight (h .kept .heard));
+      reply = placed (bytes4 mark ∷ (stateNumber (h .state) ∷ []) ∷ h .session .id ∷ h .session .secret ∷ h .agreed .server ∷ h .agreed .client ∷ (numberOf (h .agreed .mac) ∷ []) ∷ (h .agreed .refresh ∷ []) ∷ h .agreed .expected ∷ h .kept .hello ∷ bytes8 (h .kept .heard) ∷ []) (h .kept .reply) (bytes8 (h .kept .size) ∷ bytes2 (h .window .highest) ∷ bytes8 (h .window .marks) ∷ bytes4 (h .sending .protected) ∷ bytes4 (h .sending .clear) ∷ bytes4 (h .sending .last) ∷ (h .window .width ∷ []) ∷ []) 343 84 n11 (r .reply);
+      size = placed (bytes4 mark ∷ (stateNumber (h .state) ∷ []) ∷ h .session .id ∷ h .session .secret ∷ h .agreed .server ∷ h .agreed .client ∷ (numberOf (h .agreed .mac) ∷ []) ∷ (h .agreed .refresh ∷ []) ∷ h .agreed .expected ∷ h .kept .hello ∷ bytes8 (h .kept .heard) ∷ h .kept .reply ∷ []) (bytes8 (h .kept .size)) (bytes2 (h .window .highest) ∷ bytes8 (h .window .marks) ∷ bytes4 (h .sending .protected) ∷ bytes4 (h .sending .clear) ∷ bytes4 (h .sending .last) ∷ (h .window .width ∷ []) ∷ []) 427 8 n12 (length-eight (h .kept .size));
+      highest = placed (bytes4 mark ∷ (stateNumber (h .state) ∷ []) ∷ h .session .id ∷ h .session .secret ∷ h .agreed .server ∷ h .agreed .client ∷ (numberOf (h .agreed .mac) ∷ []) ∷ (h .agreed .refresh ∷ []) ∷ h .agreed .expected ∷ h .kept .hello ∷ bytes8 (h .kept .heard) ∷ h .kept .reply ∷ bytes8 (h .kept .size) ∷ []) (bytes2 (h .window .highest)) (bytes8 (h .window .marks) ∷ bytes4 (h .sending .protected) ∷ bytes4 (h .sending .clear) ∷ bytes4 (h .sending .last) ∷ (h .window .width ∷ []) ∷ []) 435 2 n13 (refl);
+      marks = placed (bytes4 mark ∷ (stateNumber (h .state) ∷ []) ∷ h .session .id ∷ h .session .secret ∷ h .agreed .server ∷ h .agreed .client ∷ (numberOf (h .agreed .mac) ∷ []) ∷ (h .agreed .refresh ∷ []) ∷ h .agreed .expected ∷ h .kept .hello ∷ bytes8 (h .kept .heard) ∷ h .kept .reply ∷ bytes8 (h .kept .size) ∷ bytes2 (h .window .highest) ∷ []) (bytes8 (h .window .marks)) (bytes4 (h .sending .protected) ∷ bytes4 (h .sending .clear) ∷ bytes4 (h .sending .last) ∷ (h .window .width ∷ []) ∷ []) 437 8 n14 (length-eight (h .window .marks));
+      protected = placed (bytes4 mark ∷ (stateNumber (h .state) ∷ []) ∷ h .session .id ∷ h .session .secret ∷ h .agreed .server ∷ h .agreed .client ∷ (numberOf (h .agreed .mac) ∷ []) ∷ (h .agreed .refresh ∷ []) ∷ h .agreed .expected ∷ h .kept .hello ∷ bytes8 (h .kept .heard) ∷ h .kept .reply ∷ bytes8 (h .kept .size) ∷ bytes2 (h .window .highest) ∷ bytes8 (h .window .marks) ∷ []) (bytes4 (h .sending .protected)) (bytes4 (h .sending .clear) ∷ bytes4 (h .sending .last) ∷ (h .window .width ∷ []) ∷ []) 445 4 n15 (refl);
+      clear = placed (bytes4 mark ∷ (stateNumber (h .state) ∷ []) ∷ h .session .id ∷ h .session .secret ∷ h .agreed .server ∷ h .agreed .client ∷ (numberOf (h .agreed .mac) ∷ []) ∷ (h .agreed .refresh ∷ []) ∷ h .agreed .expected ∷ h .kept .hello ∷ bytes8 (h .kept .heard) ∷ h .kept .reply ∷ bytes8 (h .kept .size) ∷ bytes2 (h .window .highest) ∷ bytes8 (h .window .marks) ∷ bytes4 (h .sending .protected) ∷ []) (bytes4 (h .sending .clear)) (bytes4 (h .sending .last) ∷ (h .window .width ∷ []) ∷ []) 449 4 n16 (refl);
+      last = placed (bytes4 mark ∷ (stateNumber (h .state) ∷ []) ∷ h .session .id ∷ h .session .secret ∷ h .agreed .server ∷ h .agreed .client ∷ (numberOf (h .agreed .mac) ∷ []) ∷ (h .agreed .refresh ∷ []) ∷ h .agreed .expected ∷ h .kept .hello ∷ bytes8 (h .kept .heard) ∷ h .kept .reply ∷ bytes8 (h .kept .size) ∷ bytes2 (h .window .highest) ∷ bytes8 (h .window .marks) ∷ bytes4 (h .sending .protected) ∷ bytes4 (h .sending .clear) ∷ []) (bytes4 (h .sending .last)) ((h .window .width ∷ []) ∷ []) 453 4 n17 (refl);
+      width = placed (bytes4 mark ∷ (stateNumber (h .state) ∷ []) ∷ h .session .id ∷ h .session .secret ∷ h .agreed .server ∷ h .agreed .client ∷ (numberOf (h .agreed .mac) ∷ []) ∷ (h .agreed .refresh ∷ []) ∷ h .agreed .expected ∷ h .kept .hello ∷ bytes8 (h .kept .heard) ∷ h .kept .reply ∷ bytes8 (h .kept .size) ∷ bytes2 (h .window .highest) ∷ bytes8 (h .window .marks) ∷ bytes4 (h .sending .protected) ∷ bytes4 (h .sending .clear) ∷ bytes4 (h .sending .last) ∷ []) ((h .window .width ∷ [])) [] 457 1 n18 (refl);
+      all = n19;
     }
 
 back : (h : Handshake) (b : List ℕ) → Placed h b → Ranged (record { handshake = h }) → handshakeIn b ≡ h
@@ -160,6 +163,7 @@ back h b p r =
           };
       window =
           record {
+            width = byte-back b 457 (h .window .width) (p .width) i;
             highest = two-back b 435 (h .window .highest) (r .highest) (p .highest) i;
             marks = eight-back b 437 (h .window .marks) (r .marks) (p .marks) i;
           };
@@ -174,7 +178,7 @@ back h b p r =
 sound : (h : Handshake) (b : List ℕ) → Placed h b → isSaved b ≡ true
 unfolding isSaved
 sound h b p =
-    rw (eq-eqb (length b) 457 (p .all))
+    rw (eq-eqb (length b) stateSize (p .all))
     (rw (four-back b 0 mark (omega arith) (p .mark))
     (rw (byte-back b 4 (stateNumber (h .state)) (p .state))
     (rw (state-most (h .state)) (rw (byte-back b 65 (numberOf (h .agreed .mac)) (p .mac)) (mac-one (h .agreed .mac))))))
@@ -223,7 +227,7 @@ mac-there n h = told (eqb n 2) refl h
 
 -- the tests of a saved connection
 record Tested (b : List ℕ) : Type 0 where
-  size : length b ≡ 457
+  size : length b ≡ stateSize
   marked : wordAt b 0 ≡ mark
   state : ltb 5 (getD b 4 0) ≡ false
   mac : pick (eqb (getD b 65 0) 2) true (eqb (getD b 65 0) 3) ≡ true
@@ -236,35 +240,36 @@ tested : (b : List ℕ) → isSaved b ≡ true → Tested b
 unfolding isSaved
 tested b h =
     let kind = pick (eqb (getD b 65 0) 2) true (eqb (getD b 65 0) 3) in
-    let one = both-true (eqb (length b) 457) (pick (eqb (wordAt b 0) mark) (pick (ltb 5 (getD b 4 0)) false kind) false) h in
+    let one = both-true (eqb (length b) stateSize) (pick (eqb (wordAt b 0) mark) (pick (ltb 5 (getD b 4 0)) false kind) false) h in
     let two = both-true (eqb (wordAt b 0) mark) (pick (ltb 5 (getD b 4 0)) false kind) (one .1) in
     let three = unless-true (ltb 5 (getD b 4 0)) kind (two .1) in
-    record { size = eqb-true (length b) 457 (one .0); marked = eqb-true (wordAt b 0) mark (two .0); state = three .0; mac = three .1 }
+    record { size = eqb-true (length b) stateSize (one .0); marked = eqb-true (wordAt b 0) mark (two .0); state = three .0; mac = three .1 }
 
 there : (b : List ℕ) → Bytes b → Tested b → savedHandshake (handshakeIn b) ≡ b
 unfolding savedHandshake handshakeIn sessionIn agreedIn keptIn windowIn sendingIn cuts total
 there b all t =
-    let room : length b ≡ 457 = t .size in
+    let room : length b ≡ stateSize = t .size in
     let marks : bytes4 mark ≡ bytesIn b 0 4 = ap bytes4 (sym (t .marked)) ∙ four-there b 0 all (omega arith) in
     let state : stateNumber (stateNumbered (getD b 4 0)) ∷ [] ≡ bytesIn b 4 1
     = ap (λ x. x ∷ []) (state-there (getD b 4 0) (t .state)) ∙ sym (byte-part b 4 (omega arith)) in
     let mac : numberOf (macNumbered (getD b 65 0)) ∷ [] ≡ bytesIn b 65 1
     = ap (λ x. x ∷ []) (mac-there (getD b 65 0) (t .mac)) ∙ sym (byte-part b 65 (omega arith)) in
     let refresh : getD b 66 0 ∷ [] ≡ bytesIn b 66 1 = sym (byte-part b 66 (omega arith)) in
+    let width : getD b 457 0 ∷ [] ≡ bytesIn b 457 1 = sym (byte-part b 457 (omega arith)) in
     let fields : _≡_ {A = List (List ℕ)}
     (bytes4 mark ∷ (stateNumber (stateNumbered (getD b 4 0)) ∷ []) ∷ bytesIn b 5 8 ∷ bytesIn b 13 20 ∷ bytesIn b 33 16 ∷ bytesIn b 49 16
     ∷ (numberOf (macNumbered (getD b 65 0)) ∷ []) ∷ (getD b 66 0 ∷ []) ∷ bytesIn b 67 12 ∷ bytesIn b 79 256 ∷ bytes8 (eightIn b 335)
     ∷ bytesIn b 343 84 ∷ bytes8 (eightIn b 427) ∷ bytes2 (twoIn b 435) ∷ bytes8 (eightIn b 437)
-    ∷ bytes4 (wordAt b 445) ∷ bytes4 (wordAt b 449) ∷ bytes4 (wordAt b 453) ∷ [])
-    (cuts (4 ∷ 1 ∷ 8 ∷ 20 ∷ 16 ∷ 16 ∷ 1 ∷ 1 ∷ 12 ∷ 256 ∷ 8 ∷ 84 ∷ 8 ∷ 2 ∷ 8 ∷ 4 ∷ 4 ∷ 4 ∷ []) 0 b)
+    ∷ bytes4 (wordAt b 445) ∷ bytes4 (wordAt b 449) ∷ bytes4 (wordAt b 453) ∷ (getD b 457 0 ∷ []) ∷ [])
+    (cuts (4 ∷ 1 ∷ 8 ∷ 20 ∷ 16 ∷ 16 ∷ 1 ∷ 1 ∷ 12 ∷ 256 ∷ 8 ∷ 84 ∷ 8 ∷ 2 ∷ 8 ∷ 4 ∷ 4 ∷ 4 ∷ 1 ∷ []) 0 b)
     = λ i.
     marks i ∷ state i ∷ bytesIn b 5 8 ∷ bytesIn b 13 20 ∷ bytesIn b 33 16 ∷ bytesIn b 49 16
     ∷ mac i ∷ refresh i ∷ bytesIn b 67 12 ∷ bytesIn b 79 256 ∷ eight-there b 335 all (omega arith) i
     ∷ bytesIn b 343 84 ∷ eight-there b 427 all (omega arith) i ∷ two-there b 435 all (omega arith) i ∷ eight-there b 437 all (omega arith) i
-    ∷ four-there b 445 all (omega arith) i ∷ four-there b 449 all (omega arith) i ∷ four-there b 453 all (omega arith) i ∷ [] in
+    ∷ four-there b 445 all (omega arith) i ∷ four-there b 449 all (omega arith) i ∷ four-there b 453 all (omega arith) i ∷ width i ∷ [] in
     ap joined fields
-    ∙ cut-joined (4 ∷ 1 ∷ 8 ∷ 20 ∷ 16 ∷ 16 ∷ 1 ∷ 1 ∷ 12 ∷ 256 ∷ 8 ∷ 84 ∷ 8 ∷ 2 ∷ 8 ∷ 4 ∷ 4 ∷ 4 ∷ []) 0 b
-    ∙ take-all 457 b (omega arith)
+    ∙ cut-joined (4 ∷ 1 ∷ 8 ∷ 20 ∷ 16 ∷ 16 ∷ 1 ∷ 1 ∷ 12 ∷ 256 ∷ 8 ∷ 84 ∷ 8 ∷ 2 ∷ 8 ∷ 4 ∷ 4 ∷ 4 ∷ 1 ∷ []) 0 b
+    ∙ take-all stateSize b (omega arith)
 
 is-loaded : (b : List ℕ) (c : Connection) → loaded b ≡ Is c → (isSaved b ≡ true) × (connectionIn b ≡ c)
 unfolding loaded
@@ -280,7 +285,7 @@ loads-saved b c all e =
     let is = is-loaded b c e in
     ap savedOf (sym (is .1)) ∙ there b all (tested b (is .0))
 
-ranged : (b : List ℕ) → Bytes b → length b ≡ 457 → Ranged (connectionIn b)
+ranged : (b : List ℕ) → Bytes b → length b ≡ stateSize → Ranged (connectionIn b)
 unfolding handshakeIn sessionIn agreedIn keptIn windowIn sendingIn
 ranged b all l =
     record {

@@ -22,7 +22,7 @@ use Rattle.connection.specs.declared.calls.Connection.{Connection}
 use Rattle.connection.specs.declared.calls.Called.{Called}
 use Rattle.connection.specs.declared.refusal.Refusal.the-variants.{Argument}
 use Rattle.connection.proofs.Sending.{no-level, no-level-output}
-use Rattle.lent.specs.Saved.{isSaved, connectionIn, loaded}
+use Rattle.lent.specs.Saved.{stateSize, mark, isSaved, connectionIn, loaded}
 use Rattle.lent.specs.Calls.{resultOf, refusalIn, leftIn, leftLoaded, calledResult, calledState, calledLoads, sense, lentFor}
 
 -- a test and another
@@ -43,15 +43,15 @@ either true e f = e
 either false e f = f
 
 -- a saved connection has its size
-pub saved-size : (b : List ℕ) → isSaved b ≡ true → length b ≡ 457
+pub saved-size : (b : List ℕ) → isSaved b ≡ true → length b ≡ stateSize
 unfolding isSaved
 saved-size b h =
-    eqb-true (length b) 457
-    (both-true (eqb (length b) 457)
-    (pick (eqb (wordAt b 0) 0x57544701) (pick (ltb 5 (getD b 4 0)) false (pick (eqb (getD b 65 0) 2) true (eqb (getD b 65 0) 3))) false)
+    eqb-true (length b) stateSize
+    (both-true (eqb (length b) stateSize)
+    (pick (eqb (wordAt b 0) mark) (pick (ltb 5 (getD b 4 0)) false (pick (eqb (getD b 65 0) 2) true (eqb (getD b 65 0) 3))) false)
     h .0)
 
-pub lent-sizes : (b : List ℕ) (counts places : ℕ) → lentFor b counts places ≡ true → (length b ≡ 457) × ((counts ≡ 16) × (places ≡ 192))
+pub lent-sizes : (b : List ℕ) (counts places : ℕ) → lentFor b counts places ≡ true → (length b ≡ stateSize) × ((counts ≡ 16) × (places ≡ 192))
 unfolding lentFor
 lent-sizes b counts places h =
     let first = both-true (eqb counts 16) (pick (eqb places 192) (isSaved b) false) h in

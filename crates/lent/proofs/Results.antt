@@ -29,7 +29,7 @@ use Rattle.connection.specs.declared.calls.Outcome.the-variants.{Done, Refused}
 use Rattle.connection.specs.declared.receive.Taken.{Taken}
 use Rattle.connection.specs.declared.receive.Taken.the-variants as T
 use Rattle.connection.proofs.Running.{laid-nothing}
-use Rattle.lent.specs.Saved.{isSaved, connectionIn, savedOf}
+use Rattle.lent.specs.Saved.{stateSize, isSaved, connectionIn, savedOf}
 use Rattle.lent.specs.Report.{reportOf}
 use Rattle.lent.specs.Counts.{tallyBytes, tallyIn}
 use Rattle.lent.specs.Calls.{resultOf, refusalPart, writtenPart, countPart, notTaken, refusalIn, leftIn, freshResult, freshState, calledResult, calledState, closeResult, closeState, startResult, startState, sentResult, sentState, dataResult, dataState, dataOut, alertResult, alertState, alertOut, lentFor, takenResult, whereTaken, got, receiveResult, receiveState, receiveTally, receiveAnswers, receiveOut}
@@ -76,7 +76,7 @@ left-alone false o c b w h = refl
 pub fresh-refused : (id secret state : List ℕ) → IsRefused (freshResult id secret (length state)) → freshState id secret state ≡ state
 unfolding freshResult freshState
 fresh-refused id secret state h =
-    left-alone (eqb (length state) 457) (freshOf id secret .outcome) (freshOf id secret .connection) state 0 h
+    left-alone (eqb (length state) stateSize) (freshOf id secret .outcome) (freshOf id secret .connection) state 0 h
 
 called-refused : (call : Connection → Called) (state : List ℕ) → IsRefused (calledResult call state) → calledState call state ≡ state
 called-refused call state h =

@@ -67,7 +67,7 @@ use Rattle.connection.specs.declared.receive.Taken.the-variants as T
 use Rattle.connection.specs.declared.send.Sent.{Sent}
 use Rattle.connection.proofs.Replying.{reply-size}
 use Rattle.connection.proofs.Sending.{next-size, clear-size}
-use Rattle.lent.specs.Saved.{isSaved, connectionIn, handshakeIn, sessionIn, keptIn}
+use Rattle.lent.specs.Saved.{stateSize, isSaved, connectionIn, handshakeIn, sessionIn, keptIn}
 use Rattle.lent.specs.Calls.{writtenPart, countPart, notTaken, refusalIn, sentResult, dataResult, alertResult, lentFor, takenResult, got, receiveResult}
 use Rattle.lent.proofs.Reading.{part-length}
 use Rattle.lent.proofs.Calling.{lent-sizes, sense-in}
@@ -144,8 +144,8 @@ module _ where
   small-unsealed : (h : Handshake) (kind : Kind) (byte number at : ℕ) (fragment : List ℕ) → Small (unsealedBy h kind byte number at fragment)
   unfolding unsealedBy
   small-unsealed h kind byte number at fragment =
-      small-pick (genuineIn h byte number fragment) (windowedTo h kind number at (contentIn h fragment) (acceptOf 32 (h .window) number)) (refusing Forged h)
-      (small-windowed h kind number at (contentIn h fragment) (acceptOf 32 (h .window) number))
+      small-pick (genuineIn h byte number fragment) (windowedTo h kind number at (contentIn h fragment) (acceptOf (h .window) number)) (refusing Forged h)
+      (small-windowed h kind number at (contentIn h fragment) (acceptOf (h .window) number))
       (small-refusing Forged h)
 
   small-level : (h : Handshake) (l : Level) (d : Description) → Small (byLevel h l d)
@@ -274,7 +274,7 @@ exact-received c d random room li lk = told (eqb (length random) 16) (ltb room 1
     told true false e = exact-framed c random d (framingOf d) refl (eqb-true (length random) 16 e) li lk
     told false u e = (omega arith, omega arith)
 
-lent-exact : (state d random : List ℕ) (room : ℕ) → length state ≡ 457
+lent-exact : (state d random : List ℕ) (room : ℕ) → length state ≡ stateSize
     → (got state d random room .written ≤ 84) × (countIn (got state d random room .taken) ≤ 1400)
 unfolding handshakeIn sessionIn keptIn
 lent-exact state d random room l =

@@ -20,7 +20,7 @@ use Rattle.connection.specs.declared.receive.Taken.{Taken}
 use Rattle.connection.specs.declared.receive.Taken.the-variants as T
 use Rattle.connection.specs.declared.receive.Received.{Received}
 use Rattle.connection.specs.declared.send.Sent.{Sent}
-use Rattle.lent.specs.Saved.{savedOf, isSaved, connectionIn, Loaded, Is, loaded}
+use Rattle.lent.specs.Saved.{stateSize, savedOf, isSaved, connectionIn, Loaded, Is, loaded}
 use Rattle.lent.specs.Report.{reportOf}
 use Rattle.lent.specs.Counts.{tallyBytes, tallyIn}
 
@@ -58,17 +58,17 @@ abbrev pub leftLoaded : List ℕ → Connection → Outcome → Loaded
 leftLoaded state c Done = Is c
 leftLoaded state c (Refused refusal) = loaded state
 
--- fresh: in 457 bytes, whatever they hold
+-- fresh: in 458 bytes, whatever they hold
 unfoldable pub freshResult : List ℕ → List ℕ → ℕ → ℕ
-freshResult id secret room = pick (eqb room 457) (resultOf (refusalIn (freshOf id secret .outcome)) 0 0) notTaken
+freshResult id secret room = pick (eqb room stateSize) (resultOf (refusalIn (freshOf id secret .outcome)) 0 0) notTaken
 
 unfoldable pub freshState : List ℕ → List ℕ → List ℕ → List ℕ
 freshState id secret state =
-    pick (eqb (length state) 457) (leftIn state (freshOf id secret .connection) (freshOf id secret .outcome)) state
+    pick (eqb (length state) stateSize) (leftIn state (freshOf id secret .connection) (freshOf id secret .outcome)) state
 
 unfoldable pub freshLoads : List ℕ → List ℕ → List ℕ → Loaded
 freshLoads id secret state =
-    pick (eqb (length state) 457)
+    pick (eqb (length state) stateSize)
     (leftLoaded state (freshOf id secret .connection) (freshOf id secret .outcome))
     (loaded state)
 

@@ -1,8 +1,8 @@
--- A connection in 457 lent bytes. Every value of a connection has its bytes, and one string of bytes only; which
+-- A connection in 458 lent bytes. Every value of a connection has its bytes, and one string of bytes only; which
 -- strings are a saved connection is `isSaved`. Numbers have the most significant byte first.
 --
 --     place  bytes
---         0      4  the mark: "WTG", and 1, the number of this layout
+--         0      4  the mark: "WTG", and 2, the number of this layout
 --         4      1  the state: 0 Idle, 1 Replied, 2 Spec, 3 Open, 4 Closed, 5 Barred
 --         5      8  the session's identifier
 --        13     20  the session's master secret
@@ -20,6 +20,7 @@
 --       445      4  the next protected number
 --       449      4  the next clear number
 --       453      4  the checksum of the last record that we sent
+--       457      1  the window: its width
 use mathlib.Core.Bool.{Bool, true, false}
 use mathlib.Core.List.{List, [], _∷_, _++_}
 use mathlib.Core.Path.{_≡_}
@@ -42,9 +43,13 @@ use Rattle.connection.specs.declared.handshake.Handshake.{Handshake}
 use Rattle.connection.specs.declared.calls.Connection.{Connection}
 use Rattle.lent.specs.Fields.{joined, bytesIn, twoIn, eightIn}
 
--- "WTG", 1
+-- how many bytes hold a connection
+abbrev pub stateSize : ℕ
+stateSize = 458
+
+-- "WTG", 2
 abbrev pub mark : ℕ
-mark = 0x57544701
+mark = 0x57544702
 
 -- the number of a state
 abbrev pub stateNumber : State → ℕ
@@ -72,6 +77,9 @@ keptFields kept = kept .hello ∷ bytes8 (kept .heard) ∷ kept .reply ∷ bytes
 abbrev pub windowFields : Window → List (List ℕ)
 windowFields window = bytes2 (window .highest) ∷ bytes8 (window .marks) ∷ []
 
+abbrev pub widthFields : Window → List (List ℕ)
+widthFields window = (window .width ∷ []) ∷ []
+
 abbrev pub sendingFields : Sending → List (List ℕ)
 sendingFields sending = bytes4 (sending .protected) ∷ bytes4 (sending .clear) ∷ bytes4 (sending .last) ∷ []
 
@@ -84,7 +92,8 @@ savedHandshake h =
     ++ agreedFields (h .agreed)
     ++ keptFields (h .kept)
     ++ windowFields (h .window)
-    ++ sendingFields (h .sending))
+    ++ sendingFields (h .sending)
+    ++ widthFields (h .window))
 
 abbrev pub savedOf : Connection → List ℕ
 savedOf c = savedHandshake (c .handshake)
@@ -92,7 +101,7 @@ savedOf c = savedHandshake (c .handshake)
 -- which bytes are a saved connection: the size, the mark, a state and a MAC kind
 unfoldable pub isSaved : List ℕ → Bool
 isSaved b =
-    pick (eqb (length b) 457)
+    pick (eqb (length b) stateSize)
     (pick (eqb (wordAt b 0) mark)
     (pick (ltb 5 (getD b 4 0)) false
     (pick (eqb (getD b 65 0) 2) true (eqb (getD b 65 0) 3)))
@@ -126,7 +135,7 @@ keptIn b =
     record { hello = bytesIn b 79 256; heard = eightIn b 335; reply = bytesIn b 343 84; size = eightIn b 427 }
 
 unfoldable pub windowIn : List ℕ → Window
-windowIn b = record { highest = twoIn b 435; marks = eightIn b 437 }
+windowIn b = record { width = getD b 457 0; highest = twoIn b 435; marks = eightIn b 437 }
 
 unfoldable pub sendingIn : List ℕ → Sending
 sendingIn b = record { protected = wordAt b 445; clear = wordAt b 449; last = wordAt b 453 }

@@ -3,7 +3,7 @@
 ghost use mathlib.Core.Path.{_≡_};
 ghost use lib.ListN.{length};
 ghost use Rattle.connection.specs.Tally.{countedOf};
-ghost use Rattle.lent.specs.Saved.{savedOf, loaded, Is};
+ghost use Rattle.lent.specs.Saved.{savedOf, loaded, stateSize, Is};
 ghost use Rattle.lent.specs.Report.{reportOf};
 ghost use Rattle.lent.specs.Counts.{tallyBytes, tallyIn};
 ghost use Rattle.lent.specs.Calls.{resultOf, refusalIn, leftIn, leftLoaded, sentResult, sentState, sentLoads};
@@ -21,7 +21,7 @@ use connection::refusal::number;
 use connection::send::Sent;
 
 pub(crate) fn leave_called(called: Called, state: &mut [u8]) -> u64
-    requires { ⌜ length (now state) ≡ 457 ⌝ }
+    requires { ⌜ length (now state) ≡ stateSize ⌝ }
     ensures { λ r. ⌜ r ≡ resultOf (refusalIn (called .outcome)) 0 0 ⌝ }
     ensures { λ _. ⌜ now (state .exit) ≡ leftIn (now (state .entry)) (called .connection) (called .outcome) ⌝ }
     ensures { λ _. ⌜ loaded (now (state .exit)) ≡ leftLoaded (now (state .entry)) (called .connection) (called .outcome) ⌝ }
@@ -37,7 +37,7 @@ pub(crate) fn leave_called(called: Called, state: &mut [u8]) -> u64
 }
 
 pub(crate) fn leave_sent(sent: Sent, state: &mut [u8]) -> u64
-    requires { ⌜ length (now state) ≡ 457 ⌝ }
+    requires { ⌜ length (now state) ≡ stateSize ⌝ }
     ensures { λ r. ⌜ r ≡ sentResult sent ⌝ }
     ensures { λ _. ⌜ now (state .exit) ≡ sentState (now (state .entry)) sent ⌝ }
     ensures { λ _. ⌜ loaded (now (state .exit)) ≡ sentLoads (now (state .entry)) sent ⌝ }
@@ -58,7 +58,7 @@ pub(crate) fn leave_received(
     tally: &mut [u8],
     answers: &mut [u8],
 ) -> u64
-    requires { ⌜ (length (now state) ≡ 457) × ((length (now tally) ≡ 16) × (length (now answers) ≡ 192)) ⌝ }
+    requires { ⌜ (length (now state) ≡ stateSize) × ((length (now tally) ≡ 16) × (length (now answers) ≡ 192)) ⌝ }
     ensures { λ r. ⌜ r ≡ takenResult (received .written) (received .taken) ⌝ }
     ensures { λ _. ⌜ now (state .exit) ≡ whereTaken (received .taken) (savedOf (received .connection))
         (now (state .entry)) ⌝ }

@@ -28,8 +28,9 @@ use load::is_saved;
 use load::lent_for;
 use result::not_taken;
 use result::result_of;
+use save::SIZE;
 
-// A fresh connection of a planted session, in 457 bytes. Refusal: 16.
+// A fresh connection of a planted session, in 458 bytes. Refusal: 16.
 pub fn fresh(id: &[u8], secret: &[u8], state: &mut [u8]) -> u64
     ensures exact { λ r. ⌜ r ≡ freshResult (now (id .entry)) (now (secret .entry)) (length (now (state .entry))) ⌝ }
     ensures bytes { λ _. ⌜ now (state .exit) ≡ freshState (now (id .entry)) (now (secret .entry))
@@ -37,7 +38,7 @@ pub fn fresh(id: &[u8], secret: &[u8], state: &mut [u8]) -> u64
     ensures loads { λ _. ⌜ loaded (now (state .exit)) ≡ freshLoads (now (id .entry)) (now (secret .entry))
         (now (state .entry)) ⌝ }
 {
-    if state.len() != 457 {
+    if state.len() != SIZE {
         return not_taken();
     }
     leave_called(calls::fresh(id, secret), state)

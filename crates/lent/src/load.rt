@@ -2,12 +2,13 @@
 ghost use mathlib.Core.Path.{_≡_};
 ghost use mathlib.Core.Bool.{true};
 ghost use lib.ListN.{length};
-ghost use Rattle.lent.specs.Saved.{isSaved, stateNumbered, macNumbered, connectionIn};
+ghost use Rattle.lent.specs.Saved.{isSaved, stateSize, stateNumbered, macNumbered, connectionIn};
 ghost use Rattle.lent.specs.Saved.{sessionIn, agreedIn, keptIn, windowIn, sendingIn};
 ghost use Rattle.lent.specs.Calls.{lentFor};
 use crate::bytes::eight_in;
 use crate::bytes::four_in;
 use crate::bytes::two_in;
+use crate::save::SIZE;
 use connection::calls::Connection;
 use connection::handshake::Agreed;
 use connection::handshake::Handshake;
@@ -18,14 +19,14 @@ use connection::state::State;
 use digest::Mac;
 use record::window::Window;
 
-// "WTG", and 1 for this layout.
-const MARK: u32 = 0x57544701;
+// "WTG", and 2 for this layout.
+const MARK: u32 = 0x57544702;
 
 // Whether bytes are a saved connection: the size, the mark, a state and a MAC kind. Nothing else in them can be wrong.
 pub(crate) fn is_saved(b: &[u8]) -> bool
     ensures { λ r. ⌜ r ≡ isSaved (now (b .entry)) ⌝ }
 {
-    if b.len() != 457 {
+    if b.len() != SIZE {
         return false;
     }
     if four_in(b, 0) != MARK {
@@ -55,7 +56,7 @@ pub(crate) fn lent_for(state: &[u8], counts: usize, places: usize) -> bool
 
 // The connection that the bytes hold.
 pub(crate) fn connection_in(b: &[u8]) -> Connection
-    requires { ⌜ length (now b) ≡ 457 ⌝ }
+    requires { ⌜ length (now b) ≡ stateSize ⌝ }
     ensures { λ r. ⌜ r ≡ connectionIn (now (b .entry)) ⌝ }
 {
     let handshake = Handshake {
@@ -100,7 +101,7 @@ fn mac_numbered(n: u8) -> Mac
 }
 
 fn session_in(b: &[u8]) -> Session
-    requires { ⌜ length (now b) ≡ 457 ⌝ }
+    requires { ⌜ length (now b) ≡ stateSize ⌝ }
     ensures { λ r. ⌜ r ≡ sessionIn (now (b .entry)) ⌝ }
 {
     let mut id = [0u8; 8];
@@ -111,7 +112,7 @@ fn session_in(b: &[u8]) -> Session
 }
 
 fn agreed_in(b: &[u8]) -> Agreed
-    requires { ⌜ length (now b) ≡ 457 ⌝ }
+    requires { ⌜ length (now b) ≡ stateSize ⌝ }
     ensures { λ r. ⌜ r ≡ agreedIn (now (b .entry)) ⌝ }
 {
     let mut server = [0u8; 16];
@@ -130,7 +131,7 @@ fn agreed_in(b: &[u8]) -> Agreed
 }
 
 fn kept_in(b: &[u8]) -> Kept
-    requires { ⌜ length (now b) ≡ 457 ⌝ }
+    requires { ⌜ length (now b) ≡ stateSize ⌝ }
     ensures { λ r. ⌜ r ≡ keptIn (now (b .entry)) ⌝ }
 {
     let mut hello = [0u8; 256];
@@ -148,17 +149,18 @@ fn kept_in(b: &[u8]) -> Kept
 }
 
 fn window_in(b: &[u8]) -> Window
-    requires { ⌜ length (now b) ≡ 457 ⌝ }
+    requires { ⌜ length (now b) ≡ stateSize ⌝ }
     ensures { λ r. ⌜ r ≡ windowIn (now (b .entry)) ⌝ }
 {
     Window {
+        width: b[457],
         highest: two_in(b, 435),
         marks: eight_in(b, 437),
     }
 }
 
 fn sending_in(b: &[u8]) -> Sending
-    requires { ⌜ length (now b) ≡ 457 ⌝ }
+    requires { ⌜ length (now b) ≡ stateSize ⌝ }
     ensures { λ r. ⌜ r ≡ sendingIn (now (b .entry)) ⌝ }
 {
     Sending {

@@ -4,9 +4,9 @@ ghost use Prim.Native.Nat.{_<_};
 ghost use lib.ListN.{length};
 ghost use Rattle.digest.specs.Bytes.{laidOver};
 ghost use Rattle.lent.specs.Fields.{joined};
-ghost use Rattle.lent.specs.Saved.{savedOf, loaded, Is};
+ghost use Rattle.lent.specs.Saved.{savedOf, loaded, stateSize, Is};
 ghost use Rattle.lent.specs.Saved.{stateNumber, headFields, sessionFields, agreedFields};
-ghost use Rattle.lent.specs.Saved.{keptFields, windowFields, sendingFields};
+ghost use Rattle.lent.specs.Saved.{keptFields, windowFields, sendingFields, widthFields};
 use crate::bytes::eight;
 use crate::bytes::four;
 use crate::bytes::two;
@@ -19,12 +19,15 @@ use connection::state::State;
 use digest::put;
 use record::window::Window;
 
-// "WTG", and 1 for this layout.
-const MARK: u32 = 0x57544701;
+// "WTG", and 2 for this layout.
+const MARK: u32 = 0x57544702;
+
+// How many bytes hold a connection.
+pub(crate) const SIZE: usize = 458;
 
 // The connection, over all the bytes.
 pub(crate) fn put_connection(d: &mut [u8], c: Connection)
-    requires { ⌜ length (now d) ≡ 457 ⌝ }
+    requires { ⌜ length (now d) ≡ stateSize ⌝ }
     ensures { λ _. ⌜ now (d .exit) ≡ savedOf c ⌝ }
     ensures { λ _. ⌜ loaded (now (d .exit)) ≡ Is c ⌝ }
 {
@@ -36,10 +39,11 @@ pub(crate) fn put_connection(d: &mut [u8], c: Connection)
     put_kept(d, h.kept);
     put_window(d, h.window);
     put_sending(d, h.sending);
+    put_width(d, h.window);
 }
 
 fn put_head(d: &mut [u8], state: State)
-    requires { ⌜ length (now d) ≡ 457 ⌝ }
+    requires { ⌜ length (now d) ≡ stateSize ⌝ }
     ensures { λ _. ⌜ now (d .exit) ≡ laidOver (now (d .entry)) 0 (joined (headFields state)) ⌝ }
     ensures { λ _. ⌜ length (joined (headFields state)) ≡ 5 ⌝ }
 {
@@ -63,7 +67,7 @@ fn state_number(state: State) -> u8
 }
 
 fn put_session(d: &mut [u8], session: Session)
-    requires { ⌜ length (now d) ≡ 457 ⌝ }
+    requires { ⌜ length (now d) ≡ stateSize ⌝ }
     ensures { λ _. ⌜ now (d .exit) ≡ laidOver (now (d .entry)) 5 (joined (sessionFields session)) ⌝ }
     ensures { λ _. ⌜ length (joined (sessionFields session)) ≡ 28 ⌝ }
     ensures { λ _. ⌜ (length (session .id) ≡ 8) × (length (session .secret) ≡ 20) ⌝ }
@@ -75,7 +79,7 @@ fn put_session(d: &mut [u8], session: Session)
 }
 
 fn put_agreed(d: &mut [u8], agreed: Agreed)
-    requires { ⌜ length (now d) ≡ 457 ⌝ }
+    requires { ⌜ length (now d) ≡ stateSize ⌝ }
     ensures { λ _. ⌜ now (d .exit) ≡ laidOver (now (d .entry)) 33 (joined (agreedFields agreed)) ⌝ }
     ensures { λ _. ⌜ length (joined (agreedFields agreed)) ≡ 46 ⌝ }
     ensures { λ _. ⌜ (length (agreed .server) ≡ 16) × ((length (agreed .client) ≡ 16) × (length (agreed .expected) ≡ 12)) ⌝ }
@@ -94,7 +98,7 @@ fn put_agreed(d: &mut [u8], agreed: Agreed)
 }
 
 fn put_kept(d: &mut [u8], kept: Kept)
-    requires { ⌜ length (now d) ≡ 457 ⌝ }
+    requires { ⌜ length (now d) ≡ stateSize ⌝ }
     ensures { λ _. ⌜ now (d .exit) ≡ laidOver (now (d .entry)) 79 (joined (keptFields kept)) ⌝ }
     ensures { λ _. ⌜ length (joined (keptFields kept)) ≡ 356 ⌝ }
     ensures { λ _. ⌜ (length (kept .hello) ≡ 256) × ((kept .heard < 18446744073709551616) ×
@@ -111,7 +115,7 @@ fn put_kept(d: &mut [u8], kept: Kept)
 }
 
 fn put_window(d: &mut [u8], window: Window)
-    requires { ⌜ length (now d) ≡ 457 ⌝ }
+    requires { ⌜ length (now d) ≡ stateSize ⌝ }
     ensures { λ _. ⌜ now (d .exit) ≡ laidOver (now (d .entry)) 435 (joined (windowFields window)) ⌝ }
     ensures { λ _. ⌜ length (joined (windowFields window)) ≡ 10 ⌝ }
     ensures { λ _. ⌜ (window .highest < 65536) × (window .marks < 18446744073709551616) ⌝ }
@@ -123,7 +127,7 @@ fn put_window(d: &mut [u8], window: Window)
 }
 
 fn put_sending(d: &mut [u8], sending: Sending)
-    requires { ⌜ length (now d) ≡ 457 ⌝ }
+    requires { ⌜ length (now d) ≡ stateSize ⌝ }
     ensures { λ _. ⌜ now (d .exit) ≡ laidOver (now (d .entry)) 445 (joined (sendingFields sending)) ⌝ }
     ensures { λ _. ⌜ length (joined (sendingFields sending)) ≡ 12 ⌝ }
     ensures { λ _. ⌜ (sending .protected < 4294967296) × ((sending .clear < 4294967296) × (sending .last < 4294967296)) ⌝ }
@@ -134,4 +138,13 @@ fn put_sending(d: &mut [u8], sending: Sending)
     put(d, 449, &clear);
     let last = four(sending.last);
     put(d, 453, &last);
+}
+
+fn put_width(d: &mut [u8], window: Window)
+    requires { ⌜ length (now d) ≡ stateSize ⌝ }
+    ensures { λ _. ⌜ now (d .exit) ≡ laidOver (now (d .entry)) 457 (joined (widthFields window)) ⌝ }
+    ensures { λ _. ⌜ length (joined (widthFields window)) ≡ 1 ⌝ }
+{
+    let width = [window.width];
+    put(d, 457, &width);
 }

@@ -13,8 +13,13 @@ use Rattle.record.proofs.reader.fault_number as reader-fault-number
 use Rattle.record.proofs.reader.read as reader-read
 use Rattle.record.proofs.datagram.walked as datagram-walked
 use Rattle.record.proofs.window.Window.fresh as window-window-fresh
+use Rattle.record.proofs.window.Window.emptied as window-window-emptied
 use Rattle.record.proofs.window.Window.accept as window-window-accept
+use Rattle.record.proofs.keys.Keys.key as keys-keys-key
 use Rattle.record.proofs.keys.key_number as keys-key-number
+use Rattle.record.proofs.protection.Protection.open as protection-protection-open
+use Rattle.record.proofs.protection.Protection.write as protection-protection-write
+use Rattle.record.proofs.protection.Protection.with_window as protection-protection-with-window
 use Rattle.record.proofs.keys.record_key as keys-record-key
 use Rattle.record.proofs.keys.derived as keys-derived
 use Rattle.record.proofs.code.code as code-code
@@ -51,8 +56,14 @@ datagram-walked-one κs a x y s u e f = (e ∙ sym f, refl)
 pub window-window-fresh-one : OneOutcome window-window-fresh.ended window-window-fresh.Reads.Learnt
 window-window-fresh-one κs a x y s u e f = (e .0 ∙ sym (f .0), refl)
 
+pub window-window-emptied-one : OneOutcome window-window-emptied.ended window-window-emptied.Reads.Learnt
+window-window-emptied-one κs a x y s u e f = (e ∙ sym f, refl)
+
 pub window-window-accept-one : OneOutcome window-window-accept.ended window-window-accept.Reads.Learnt
 window-window-accept-one κs a x y s u e f = (e .0 ∙ sym (f .0), refl)
+
+pub keys-keys-key-one : OneOutcome keys-keys-key.ended keys-keys-key.Reads.Learnt
+keys-keys-key-one κs a x y s u e f = (e ∙ sym f, refl)
 
 pub keys-key-number-one : OneOutcome keys-key-number.ended keys-key-number.Reads.Learnt
 keys-key-number-one κs a x y s u e f = (e ∙ sym f, refl)
@@ -82,3 +93,13 @@ written-type-byte-one κs a x y s u e f = (e ∙ sym f, refl)
 
 pub checksum-checksum-one : OneOutcome checksum-checksum.ended checksum-checksum.Reads.Learnt
 checksum-checksum-one κs a x y s u e f = (e ∙ sym f, refl)
+
+pub protection-protection-open-one : OneOutcome protection-protection-open.ended protection-protection-open.Reads.Learnt
+protection-protection-open-one κs a x y s u e f = (e ∙ sym f, refl)
+
+pub protection-protection-write-one : OneOutcome protection-protection-write.ended protection-protection-write.Reads.Learnt
+protection-protection-write-one κs a x y s u e f =
+    (e .0 ∙ sym (f .0), ap (λ w. (tt, (tt, (tt, (tt, (w, tt)))))) (e .1 ∙ sym (f .1)))
+
+pub protection-protection-with-window-one : OneOutcome protection-protection-with-window.ended protection-protection-with-window.Reads.Learnt
+protection-protection-with-window-one κs a x y s u e f = (e ∙ sym f, refl)

@@ -2,10 +2,12 @@
 use mathlib.Core.Path.{_≡_, refl}
 use mathlib.Core.Bool.{Bool, true, false}
 use mathlib.Core.List.{List}
-use Prim.Native.Nat.{ℕ, _+_, _≤_, _<_}
+use Prim.Native.Nat.{ℕ, _+_, _%_, _^_, _≤_, _<_}
+use native.Mathlib.Nat.{mod-eq-of-lt}
+use lib.Pow.{pow-pos}
 use borrow.Author.Tests.{le-leb, lt-leb}
 use Rattle.record.specs.Keys.{keyNumber}
-use Rattle.record.specs.Window.{freshWindow, arrivedAt, acceptBy, acceptOf, acceptanceNumber}
+use Rattle.record.specs.Window.{heldWidth, freshWindow, arrivedAt, acceptBy, acceptOf, acceptanceNumber}
 use Rattle.record.specs.History.{accepted, highestOf, judgedOf}
 
 -- the highest refresh that still divides the numbers, and the highest of all
@@ -17,14 +19,17 @@ pub refresh-255 : keyNumber 255 65535 ≡ 0
 unfolding keyNumber
 refresh-255 = refl
 
--- a fresh window takes the highest number there is, and the lowest
-pub fresh-highest : acceptOf 32 freshWindow 65535 ≡ arrivedAt 65535 1
-unfolding acceptBy
-fresh-highest = refl
+no-mark : (w : ℕ) → 0 % 2 ^ w ≡ 0
+no-mark w = mod-eq-of-lt (pow-pos w)
 
-pub fresh-lowest : acceptOf 32 freshWindow 0 ≡ arrivedAt 0 1
+-- a fresh window takes the highest number there is, and the lowest
+pub fresh-highest : (width : ℕ) → acceptOf (freshWindow width) 65535 ≡ arrivedAt (heldWidth width) 65535 1
 unfolding acceptBy
-fresh-lowest = refl
+fresh-highest width = rw (no-mark (heldWidth width))
+
+pub fresh-lowest : (width : ℕ) → acceptOf (freshWindow width) 0 ≡ arrivedAt (heldWidth width) 0 1
+unfolding acceptBy
+fresh-lowest width = rw (no-mark (heldWidth width))
 
 -- at a history h: 10 exactly for what is too old, 11 for what else was accepted before, 0 for the rest
 pub old-number : (w : ℕ) (h : List ℕ) (s : ℕ) → s + w ≤ highestOf h → acceptanceNumber (judgedOf w h s) ≡ 10

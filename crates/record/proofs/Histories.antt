@@ -13,7 +13,7 @@ use lib.Dec.{lit<, lit≤, eqb, leb, ltb}
 use lib.Pow.{shr-shr, shl-shr, mod-pow-add}
 use borrow.Author.Tests.{eq-eqb, ne-eqb, le-leb, lt-leb, le-ltb, eqb-true, leb-true, leb-false, ltb-true, ltb-false}
 use Rattle.digest.specs.Pick.{pick}
-use Rattle.record.specs.Window.{freshWindow, acceptBy, acceptOf, arrivedAt}
+use Rattle.record.specs.Window.{windowWidth, Held, heldWidth, freshWindow, acceptBy, acceptWithin, acceptOf, arrivedAt}
 use Rattle.record.specs.History.{accepted, highestOf, markOf, marksFrom, countFrom, windowOf, arrivedOf, judgedOf}
 use Rattle.record.specs.declared.window.Window.{Window}
 use Rattle.record.specs.declared.window.Acceptance.the-variants.{New, TooOld, Repeated}
@@ -186,7 +186,7 @@ module _ (k h : List ℕ) (m n : ℕ) where
 -- ---- the theorem
 
 -- the window and the count after s, from its highest number and its marks
-taken : (w s n m : ℕ) (h : List ℕ) → highestOf (s ∷ h) ≡ n → marksFrom (s ∷ h) n w 0 ≡ m → arrivedAt n m ≡ New (windowOf w (s ∷ h)) (arrivedOf w (s ∷ h))
+taken : (w s n m : ℕ) (h : List ℕ) → highestOf (s ∷ h) ≡ n → marksFrom (s ∷ h) n w 0 ≡ m → arrivedAt w n m ≡ New (windowOf w (s ∷ h)) (arrivedOf w (s ∷ h))
 taken w s n m h e f = rw (e, f, sym (marks-ones (s ∷ h) n w 0), f)
 
 -- the first number of all
@@ -305,18 +305,34 @@ judged w p (t ∷ h) s =
     (taken w s s (m * 2 ^ (s - n) % 2 ^ w + 1) g (highest-of s n g refl ∙ omega arith) (newer-marks w s g p l)))
     (λ e. not-newer w p t h s (ltb-false n s e))
 
+within-means : (w : ℕ) → 0 < w → (h : List ℕ) (s : ℕ) → acceptWithin w (windowOf w h) s ≡ judgedOf w h s
+within-means w p h s =
+    ap (λ (m : ℕ). acceptBy w (highestOf h) m s) (mod-eq-of-lt (marks-lt h (highestOf h) w 0)) ∙ judged w p h s
+
+-- a width that a window may have is the one it keeps
+pub held-is : (w : ℕ) → Held w → heldWidth w ≡ w
+unfolding heldWidth
+held-is w k = rw (le-ltb w 32 (k .0), le-ltb 64 w (k .1))
+
+pub held-some : (w : ℕ) → Held w → 0 < w
+held-some w k = omega (arith, k .0)
+
 -- The window of a history answers as the history does: number s is too old, repeated, or new; and if new, the window is
 -- that of the history with s, and the count is how many of its newest numbers have arrived.
-pub meaning : (w : ℕ) → 0 < w → (h : List ℕ) (s : ℕ) → acceptOf w (windowOf w h) s ≡ judgedOf w h s
-meaning w p h s = ap (λ (m : ℕ). acceptBy w (highestOf h) m s) (mod-eq-of-lt (marks-lt h (highestOf h) w 0)) ∙ judged w p h s
+pub meaning : (w : ℕ) → Held w → (h : List ℕ) (s : ℕ) → acceptOf (windowOf w h) s ≡ judgedOf w h s
+meaning w k h s = ap (λ (v : ℕ). acceptWithin v (windowOf w h) s) (held-is w k) ∙ within-means w (held-some w k) h s
 
 -- a fresh window is that of no number
-pub fresh-means : (w : ℕ) → freshWindow ≡ windowOf w []
+pub fresh-means : (w : ℕ) → freshWindow w ≡ windowOf w []
 fresh-means w =
     let m : marksFrom [] 0 w 0 ≡ 0 =
     marks-zero [] 0 w 0
     (λ i l. decide (leb i 0) (λ e. mark-in [] 0 i false (leb-true i 0 e) (none (0 - i))) (λ e. mark-out [] 0 i (leb-false i 0 e))) in
     rw (lowest, m)
+
+-- our width is one that a window may have
+pub held-ours : Held windowWidth
+held-ours = (lit≤ tt, lit≤ tt)
 
 -- of the newest numbers at least the highest has arrived, and at most all
 pub arrived-some : (w s : ℕ) (h : List ℕ) → 0 < w → 0 < arrivedOf w (s ∷ h)

@@ -7,8 +7,10 @@ pub mod Histories
 pub mod Blocks
 pub mod Fronts
 pub mod Sealed
+pub mod Protecting
 pub mod Covering
 pub mod RoundTrip
+pub mod Protected
 pub mod CasesHold
 pub mod Coincide
 pub mod Edges

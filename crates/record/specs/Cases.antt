@@ -5,7 +5,7 @@ use mathlib.Core.List.{List, [], _∷_}
 use Prim.Native.Nat.{ℕ}
 use lib.ListN.{length}
 use Rattle.record.specs.Checksum.{checksumOf}
-use Rattle.record.specs.Window.{tooOld}
+use Rattle.record.specs.Window.{windowWidth, tooOld}
 use Rattle.record.specs.Keys.{keyNumber}
 use Rattle.record.specs.Reader.{faultNumber}
 use Rattle.record.specs.Datagram.{Framing, framed, faulty, framingOf}
@@ -22,7 +22,7 @@ foundIn (faulty fault at) = refused (faultNumber fault) at
 pub data Case : Type 0 where
   -- the checksum of bytes
   sums : List ℕ → List ℕ → Case
-  -- with n the highest number, whether s is too old in a window of 32
+  -- with n the highest number, whether s is too old
   old : ℕ → ℕ → Bool → Case
   -- under refresh k, the key number of s
   key : ℕ → ℕ → ℕ → Case
@@ -31,7 +31,7 @@ pub data Case : Type 0 where
 
 abbrev pub Holds : Case → Type 0
 Holds (sums s four) = checksumOf s ≡ four
-Holds (old n s is) = tooOld 32 n s ≡ is
+Holds (old n s is) = tooOld windowWidth n s ≡ is
 Holds (key k s n) = keyNumber k s ≡ n
 Holds (frames d found) = foundIn (framingOf d) ≡ found
 

@@ -35,7 +35,7 @@ countFrom h n (suc width) j = markOf h n j + countFrom h n width (suc j)
 
 -- "with n and the marks of the newest numbers"
 abbrev pub windowOf : ℕ → List ℕ → Window
-windowOf width h = record { highest = highestOf h; marks = marksFrom h (highestOf h) width 0 }
+windowOf width h = record { width = width; highest = highestOf h; marks = marksFrom h (highestOf h) width 0 }
 
 -- how many of the newest numbers have arrived
 abbrev pub arrivedOf : ℕ → List ℕ → ℕ

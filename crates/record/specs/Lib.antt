@@ -8,4 +8,5 @@ pub mod Keys
 pub mod Checksum
 pub mod Written
 pub mod Code
+pub mod Protection
 pub mod Cases

@@ -1,10 +1,49 @@
-// The number that keys are derived for, from a record's own number, and the key of that number
-// (002 9.1 and 11.2).
+// What keys are made of, the number that they are derived for, from a record's own number, and the key
+// of that number (002 9.1 and 11.2).
 ghost use mathlib.Core.Path.{_≡_};
 ghost use Rattle.digest.specs.Hmac.{keyOf};
-ghost use Rattle.record.specs.Keys.{keyNumber, macSecret};
+ghost use Rattle.record.specs.Keys.{keyNumber, macSecret, labelOf, secretFor};
 use digest::Key;
 use digest::Mac;
+
+// What the keys of a handshake are made of: the master secret, both randoms, the MAC kind and the key
+// refresh.
+pub struct Keys {
+    pub secret: [u8; 20],
+    pub server: [u8; 16],
+    pub client: [u8; 16],
+    pub mac: Mac,
+    pub refresh: u8,
+}
+
+// Whose records: each end has keys of its own.
+pub enum Sense {
+    FromUnit,
+    FromShore,
+}
+
+impl Keys {
+    // The key of a record's own number, so that a late record from before a refresh still verifies.
+    pub fn key(self, sense: Sense, number: u16) -> Key
+        ensures { λ r. ⌜ r ≡ keyOf (secretFor self sense number) ⌝ }
+    {
+        let secret = self.secret;
+        let label = label(sense);
+        let server = self.server;
+        let client = self.client;
+        record_key(&secret, &label, self.refresh, number, &server, &client)
+    }
+}
+
+// The label of the expansion.
+fn label(sense: Sense) -> [u8; 16]
+    ensures { λ r. ⌜ r ≡ labelOf sense ⌝ }
+{
+    match sense {
+        Sense::FromUnit => Mac::CLIENT_EXPANSION,
+        Sense::FromShore => Mac::SERVER_EXPANSION,
+    }
+}
 
 // The first number of the run of 2^refresh numbers that `number` is in. Above 15 there is one run.
 pub fn key_number(refresh: u8, number: u16) -> u16

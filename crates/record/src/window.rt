@@ -3,15 +3,17 @@
 ghost use mathlib.Core.Path.{_≡_};
 ghost use mathlib.Core.List.{List, []};
 ghost use Prim.Native.Nat.{ℕ, _+_, _*_, _/_, _%_, _^_, _≤_, _<_};
-ghost use Rattle.record.specs.Window.{freshWindow, acceptOf, arrivedAt};
+ghost use Rattle.record.specs.Window.{windowWidth, heldWidth, Held, freshWindow, emptied, acceptWithin, acceptOf, arrivedAt};
 ghost use Rattle.record.specs.History.{windowOf, judgedOf};
 
 // How many of the newest numbers have a mark.
-pub const WIDTH: u64 = 32;
+pub const WIDTH: u8 = 32;
 
 // The mark of the highest number is the lowest bit, and the mark of the number j below it is bit j.
-// No mark at all is a fresh window. Marks above the width do not count.
+// No mark at all is a fresh window. Marks above the width do not count, and a width outside 32 to 64
+// counts as the nearest of these.
 pub struct Window {
+    pub width: u8,
     pub highest: u16,
     pub marks: u64,
 }
@@ -27,38 +29,50 @@ pub enum Acceptance {
 impl Window {
     // A window in which any number is new.
     pub fn fresh() -> Window
-        ensures exact { λ r. ⌜ r ≡ freshWindow ⌝ }
-        ensures meaning { λ r. ⌜ r ≡ windowOf 32 [] ⌝ }
+        ensures exact { λ r. ⌜ r ≡ freshWindow windowWidth ⌝ }
+        ensures meaning { λ r. ⌜ r ≡ windowOf windowWidth [] ⌝ }
     {
         Window {
+            width: WIDTH,
             highest: 0,
             marks: 0,
         }
     }
 
-    // The number in a window of 32: `exact` for every window, and `meaning` for the window of the
-    // numbers h that were accepted since it was fresh.
-    pub fn accept(self, number: u16) -> Acceptance
-        ensures exact { λ r. ⌜ r ≡ acceptOf 32 self number ⌝ }
-        ensures meaning { λ r. ⌜ ((h : List ℕ) → self ≡ windowOf 32 h → r ≡ judgedOf 32 h number) ⌝ }
+    // A fresh window of the same width.
+    pub fn emptied(self) -> Window
+        ensures { λ r. ⌜ r ≡ emptied self ⌝ }
     {
-        self.accept_within(WIDTH, number)
+        Window {
+            width: self.width,
+            highest: 0,
+            marks: 0,
+        }
     }
 
-    // The number in a window of any width from 1 to 64.
+    // What becomes of a number: `exact` for every window, and `meaning` for the window of the numbers h
+    // that were accepted since it was fresh, at any width from 32 to 64.
+    pub fn accept(self, number: u16) -> Acceptance
+        ensures exact { λ r. ⌜ r ≡ acceptOf self number ⌝ }
+        ensures meaning { λ r. ⌜ ((width : ℕ) (h : List ℕ) → Held width → self ≡ windowOf width h → r ≡ judgedOf width h number) ⌝ }
+    {
+        self.accept_within(held(self.width), number)
+    }
+
+    // The number in a window of this width.
     fn accept_within(self, width: u64, number: u16) -> Acceptance
         requires { ⌜ (0 < width) × (width ≤ 64) ⌝ }
-        ensures { λ r. ⌜ r ≡ acceptOf width self number ⌝ }
+        ensures { λ r. ⌜ r ≡ acceptWithin width self number ⌝ }
     {
         let marks = cut(self.marks, width);
         if marks == 0 {
-            return arrived(number, 1);
+            return arrived(width, number, 1);
         }
         let highest = self.highest;
         let n = highest as u64;
         let s = number as u64;
         if n < s {
-            return arrived(number, moved(marks, s - n, width));
+            return arrived(width, number, moved(marks, s - n, width));
         }
         if s + width <= n {
             return Acceptance::TooOld;
@@ -67,15 +81,34 @@ impl Window {
         if (marks >> place) & 1 == 1 {
             return Acceptance::Repeated;
         }
-        arrived(highest, marked(marks, place))
+        arrived(width, highest, marked(marks, place))
     }
 }
 
-// The window with these marks, and how many there are.
-fn arrived(highest: u16, marks: u64) -> Acceptance
-    ensures { λ r. ⌜ r ≡ arrivedAt highest marks ⌝ }
+// How many marks a window keeps: its width, from 32 to 64.
+fn held(width: u8) -> u64
+    ensures { λ r. ⌜ r ≡ heldWidth width ⌝ }
+    ensures { λ r. ⌜ (0 < r) × (r ≤ 64) ⌝ }
 {
-    let window = Window { highest, marks };
+    if width < 32 {
+        return 32;
+    }
+    if 64 < width {
+        return 64;
+    }
+    width as u64
+}
+
+// The window with these marks, and how many there are.
+fn arrived(width: u64, highest: u16, marks: u64) -> Acceptance
+    requires { ⌜ width ≤ 64 ⌝ }
+    ensures { λ r. ⌜ r ≡ arrivedAt width highest marks ⌝ }
+{
+    let window = Window {
+        width: width as u8,
+        highest,
+        marks,
+    };
     Acceptance::New(window, u64::count_ones(marks))
 }
 

@@ -1,4 +1,4 @@
-//! One connection with a unit, in its 457 bytes.
+//! One connection with a unit, in its 458 bytes.
 
 use std::error::Error;
 use std::fmt;

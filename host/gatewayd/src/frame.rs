@@ -5,7 +5,7 @@
 //! ```text
 //! mark 4, length of the body 4, body, SHA-1 over all of these 20
 //! body: time 8, place in the list (day 4, text 8, JSON 8), changes until its end
-//! change: identifier 8, planting 20, connection 457, tally 16, route 19, name 2 + n,
+//! change: identifier 8, planting 20, connection 458, tally 16, route 19, name 2 + n,
 //!         reports 2, and for each number 2, bytes 2 + n
 //! ```
 
@@ -17,8 +17,8 @@ use gateway::{STATE_SIZE, TALLY_SIZE};
 use peer::sha1::sha1;
 use std::net::{IpAddr, SocketAddr};
 
-/// "GWJ", and 1 for this layout.
-const MARK: [u8; 4] = *b"GWJ\x01";
+/// "GWJ", and 2 for this layout.
+const MARK: [u8; 4] = *b"GWJ\x02";
 const HEAD: usize = 8;
 const DIGEST: usize = 20;
 

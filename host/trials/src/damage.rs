@@ -49,8 +49,8 @@ fn states() -> Vec<(Kind, State)> {
 
 /// Which bytes are a saved connection, said a second time: the mark, a state, a MAC kind. Every other byte is free.
 fn is_saved(bytes: &[u8]) -> bool {
-    bytes.len() == 457
-        && bytes.starts_with(b"WTG\x01")
+    bytes.len() == 458
+        && bytes.starts_with(b"WTG\x02")
         && bytes[4] <= 5
         && (bytes[65] == 2 || bytes[65] == 3)
 }
@@ -147,7 +147,7 @@ fn lengths() -> Result<(), String> {
     let link = Link::in_state(State::Open, Kind::Sha80);
     let report = link.record(Content::Data, 19, b"report");
     let saved = [&link.connection.save()[..], &[0; 600]].concat();
-    for length in (0..saved.len()).filter(|length| *length != 457) {
+    for length in (0..saved.len()).filter(|length| *length != 458) {
         if let Some(wrong) = refused(&saved[..length], &report) {
             return Err(format!("trials: {length} bytes lent as a connection: {wrong}"));
         }

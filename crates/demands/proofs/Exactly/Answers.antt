@@ -24,7 +24,7 @@ use Rattle.demands.specs.Runs.{receive, stepOf}
 use Rattle.demands.specs.Genuine.{RecordOf}
 use Rattle.demands.specs.Exactly.Whole.{CallFits, headAt, sizeAt, startOf}
 use Rattle.demands.specs.Exactly.Record.{seenAt, WhyRecord, ExactlyRecord}
-use Rattle.demands.specs.Exactly.Answers.{answerAt, ExactlyAnswers}
+use Rattle.demands.specs.Exactly.Answers.{answerGiven, ExactlyAnswers}
 use Rattle.demands.specs.Exactly.All.{GivenExactlyWhen}
 use Rattle.demands.proofs.Exactly.Reasons.{numbered}
 use Rattle.demands.proofs.Exactly.Sends.{exactly-data, exactly-alert}
@@ -85,7 +85,7 @@ in-place d rs f i h =
 answered : (c : Connection) (d random out : List ℕ) (rs : List Record) → CallFits (length random) (length out)
     → framingOf d ≡ framed rs
     → (i : ℕ) → i < length rs
-    → answerAt (stepOf c (receive d random out) .result) i
+    → answerGiven (stepOf c (receive d random out) .result) i
     ≡ judgedRecord (endOf (c .handshake) random d (take i rs)) random d (getD rs i blank) .answer
 unfolding stepOf receivedOf runOf
 answered c d random out rs (sixteen, room) f i h =

@@ -67,7 +67,8 @@ use Rattle.connection.specs.declared.state.Rule.the-variants as T
 use Rattle.demands.specs.Genuine.{unitKey, keysOf, RecordOf}
 use Rattle.demands.specs.Exactly.Numbers.{Over}
 use Rattle.demands.specs.Exactly.Whole.{typeAt, headAt, sizeAt}
-use Rattle.demands.specs.Exactly.Record.{ExactlyRecord, Seen, seenAt, IsHello, Hears, Guarded, Allowed, hello, change, alert, guarded, CodedAs, Fresh, IsAlert, IsFinished, WellFormedHello, Acceptable, Greets, WhyMalformed, bad-hello, bad-change, bad-alert, bad-sealed-change, bad-sealed-alert, bad-message, empty-data, WhyRecord, Bytes}
+use Rattle.demands.specs.Table.{Hears}
+use Rattle.demands.specs.Exactly.Record.{HoldsNumbers, ExactlyRecord, Seen, seenAt, IsHello, GuardedAs, Allowed, hello, change, alert, guarded, CodedAs, NewAs, IsAlert, IsFinished, WellFormedHello, Acceptable, GreetsAs, WhyMalformed, bad-hello, bad-change, bad-alert, bad-sealed-change, bad-sealed-alert, bad-message, empty-data, WhyRecord, Bytes}
 use Rattle.demands.proofs.Exactly.Coded.{content-before}
 use Rattle.demands.proofs.Exactly.Reasons.{clash, decide}
 use Rattle.demands.proofs.Exactly.Reading.{byte-is, wrong-type, by-type, head-is, size-is, number-is}
@@ -112,11 +113,11 @@ finished-in Why h S.Open = tt
 finished-in Why h S.Closed = tt
 finished-in Why h S.Barred = tt
 
-module _ (h : Handshake) (numbers random : List ℕ) (window : h .window ≡ windowOf 32 numbers) (byte number place at : ℕ)
+module _ (h : Handshake) (numbers random : List ℕ) (window : HoldsNumbers h numbers) (byte number place at : ℕ)
     (f : List ℕ) (bytes : Bytes f) where
   -- the window answers as the history does
-  by-history : acceptOf 32 (h .window) number ≡ judgedBy 32 numbers number
-  by-history = ap (λ w. acceptOf 32 w number) window ∙ meaning 32 (lit< tt) numbers number
+  by-history : acceptOf (h .window) number ≡ judgedBy (h .window .width) numbers number
+  by-history = ap (λ w. acceptOf w number) (window .means) ∙ meaning (h .window .width) (window .held) numbers number
 
   -- a fragment is genuine exactly if it is a content with its code
   made-of : (g : genuineIn h byte number f ≡ true)
@@ -141,13 +142,13 @@ module _ (h : Handshake) (numbers random : List ℕ) (window : h .window ≡ win
 
     -- ---- each way out has its reason
 
-    heard-a : (content : Content) → Greets h (seen content) → (x : Heard) → HeardHolds f (h .session .id) x
+    heard-a : (content : Content) → GreetsAs h (seen content) → (x : Heard) → HeardHolds f (h .session .id) x
         → AnswerHolds (Why content) (heardTo h random f x .answer)
     heard-a content g (H.Accepted plan) w = tt
     heard-a content g (H.Unacceptable condition) w = (g, w)
     heard-a content g (H.Malformed fault) w = bad-hello g w
 
-    greet-a : (content : Content) → Greets h (seen content) → AnswerHolds (Why content) (greetedBy h random f .answer)
+    greet-a : (content : Content) → GreetsAs h (seen content) → AnswerHolds (Why content) (greetedBy h random f .answer)
     unfolding greetedBy
     greet-a content g = heard-a content g (heardOf f (h .session .id)) (heard-holds f (h .session .id) bytes)
 
@@ -183,7 +184,7 @@ module _ (h : Handshake) (numbers random : List ℕ) (window : h .window ≡ win
 
     -- the content of a genuine new record, in the handshake g with its mark
     content-a : (content : Content) (g : Handshake) (c : List ℕ) → g .agreed ≡ h .agreed
-        → Fresh h numbers (seen content) c
+        → NewAs h numbers (seen content) c
         → AnswerHolds (Why content) (contentBy g (sealedKind content) number place c .answer)
     unfolding contentBy alertedBy verifiedBy
     content-a C.ChangeCipherSpec g c same fresh = bad-sealed-change c fresh refl
@@ -203,22 +204,22 @@ module _ (h : Handshake) (numbers random : List ℕ) (window : h .window ≡ win
     content-a C.Data g c same fresh =
         decide (eqb (length c) 0) (λ e. rw e (empty-data c fresh refl (eqb-true (length c) 0 e))) (λ e. rw e tt)
 
-    window-a : (content : Content) (c : List ℕ) → Guarded (h .state) (seen content)
-        → CodedAs (keysOf h) (seen content) c → (x : Acceptance) → acceptOf 32 (h .window) number ≡ x
+    window-a : (content : Content) (c : List ℕ) → GuardedAs (h .state) (seen content)
+        → CodedAs (keysOf h) (seen content) c → (x : Acceptance) → acceptOf (h .window) number ≡ x
         → AnswerHolds (Why content) (windowedTo h (sealedKind content) number place c x .answer)
-    window-a content c g k A.TooOld e = (g, (c, k), old-means 32 numbers number (sym by-history ∙ e))
+    window-a content c g k A.TooOld e = (g, (c, k), old-means (h .window .width) numbers number (sym by-history ∙ e))
     window-a content c g k A.Repeated e =
-        let m = repeated-means 32 numbers number (sym by-history ∙ e) in (g, (c, k), m .0, m .1)
+        let m = repeated-means (h .window .width) numbers number (sym by-history ∙ e) in (g, (c, k), m .0, m .1)
     window-a content c g k (A.New w arrived) e =
-        let m = new-means 32 numbers number w arrived (sym by-history ∙ e) in
+        let m = new-means (h .window .width) numbers number w arrived (sym by-history ∙ e) in
         content-a content (withWindow h w) c refl (record { guarded = g; coded = k; recent = m .0; unseen = m .1 })
 
-    unseal-a : (content : Content) → Guarded (h .state) (seen content)
+    unseal-a : (content : Content) → GuardedAs (h .state) (seen content)
         → AnswerHolds (Why content) (unsealedBy h (sealedKind content) byte number place f .answer)
     unfolding unsealedBy
     unseal-a content g =
         decide (genuineIn h byte number f)
-        (λ e. rw e (window-a content (contentIn h f) g (made-of e) (acceptOf 32 (h .window) number) refl))
+        (λ e. rw e (window-a content (contentIn h f) g (made-of e) (acceptOf (h .window) number) refl))
         (λ e. rw e (g, λ c k. clash (sym (of-made c k) ∙ e)))
 
     -- a ClientHello that is not first in its datagram
@@ -303,7 +304,7 @@ module _ (h : Handshake) (numbers random : List ℕ) (window : h .window ≡ win
           go T.Unseal g = absurd (none (guarded g))
 
       -- a hello that is to be read
-      greeted : Greets h (seen content) → verdict ≡ greetedBy h random f
+      greeted : GreetsAs h (seen content) → verdict ≡ greetedBy h random f
       unfolding ruledBy greetedAgain
       greeted g = go (g .another)
         where
@@ -315,22 +316,22 @@ module _ (h : Handshake) (numbers random : List ℕ) (window : h .window ≡ win
               ∙ rw (eq-eqb at 0 (g .first), differ-same f (keptHello h) n) refl
 
       -- a protected record of an allowed kind
-      unsealed : Guarded (h .state) (seen content) → verdict ≡ unsealedBy h (sealedKind content) byte number place f
+      unsealed : GuardedAs (h .state) (seen content) → verdict ≡ unsealedBy h (sealedKind content) byte number place f
       unfolding ruledBy
       unsealed g =
           by-rule T.Unseal (guarded-rule byte number f at (h .state) content p one first g)
           ∙ ap (λ k. unsealedBy h k byte number place f) (kind-sealed content p one (g .protection))
 
       -- .. whose code is not right
-      forged-b : Guarded (h .state) (seen content) → ((c : List ℕ) → CodedAs (keysOf h) (seen content) c → ⊥)
+      forged-b : GuardedAs (h .state) (seen content) → ((c : List ℕ) → CodedAs (keysOf h) (seen content) c → ⊥)
           → verdict ≡ refusing X.Forged h
       unfolding unsealedBy
       forged-b g n =
           unsealed g ∙ decide (genuineIn h byte number f) (λ e. absurd (n (contentIn h f) (made-of e))) (λ e. rw e refl)
 
       -- .. whose code is right: by the window
-      windowed : Guarded (h .state) (seen content) → (c : List ℕ) → CodedAs (keysOf h) (seen content) c
-          → verdict ≡ windowedTo h (sealedKind content) number place c (judgedBy 32 numbers number)
+      windowed : GuardedAs (h .state) (seen content) → (c : List ℕ) → CodedAs (keysOf h) (seen content) c
+          → verdict ≡ windowedTo h (sealedKind content) number place c (judgedBy (h .window .width) numbers number)
       unfolding unsealedBy
       windowed g c k =
           unsealed g
@@ -338,15 +339,15 @@ module _ (h : Handshake) (numbers random : List ℕ) (window : h .window ≡ win
           ∙ ap₂ (λ b x. windowedTo h (sealedKind content) number place b x) (content-of c k) by-history
 
       -- .. and new: by its content
-      fresh-b : (c : List ℕ) → Fresh h numbers (seen content) c
-          → verdict ≡ contentBy (withWindow h (windowOf 32 (number ∷ numbers))) (sealedKind content) number place c
+      fresh-b : (c : List ℕ) → NewAs h numbers (seen content) c
+          → verdict ≡ contentBy (withWindow h (windowOf (h .window .width) (number ∷ numbers))) (sealedKind content) number place c
       fresh-b c w =
           windowed (w .guarded) c (w .coded)
-          ∙ ap (windowedTo h (sealedKind content) number place c) (new-when 32 numbers number (w .recent) (w .unseen))
+          ∙ ap (windowedTo h (sealedKind content) number place c) (new-when (h .window .width) numbers number (w .recent) (w .unseen))
 
       -- the handshake with the mark of the number
       abbrev marked : Handshake
-      marked = withWindow h (windowOf 32 (number ∷ numbers))
+      marked = withWindow h (windowOf (h .window .width) (number ∷ numbers))
 
       -- 12
       malformed-b : WhyMalformed h numbers (seen content) → verdict .answer ≡ W.Refused X.Malformed
@@ -386,10 +387,10 @@ module _ (h : Handshake) (numbers random : List ℕ) (window : h .window ≡ win
       because X.Forged (g, n) = ap (λ j. j .answer) (forged-b g n)
       because X.TooOld (g, (c, k), l) =
           ap (λ j. j .answer) (windowed g c k) ∙ ap (λ x. windowedTo h (sealedKind content) number place c x .answer)
-          (old-when 32 numbers number l)
+          (old-when (h .window .width) numbers number l)
       because X.Repeated (g, (c, k), l, a) =
           ap (λ j. j .answer) (windowed g c k) ∙ ap (λ x. windowedTo h (sealedKind content) number place c x .answer)
-          (repeated-when 32 numbers number l a)
+          (repeated-when (h .window .width) numbers number l a)
       because X.Malformed w = malformed-b w
       because X.Unacceptable (g, (w, n)) =
           let (condition, e) = not-acceptable f (h .session .id) w n in

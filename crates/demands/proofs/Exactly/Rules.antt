@@ -22,7 +22,8 @@ use Rattle.connection.specs.declared.state.Kind.the-variants as K
 use Rattle.connection.specs.declared.state.Rule.{Rule}
 use Rattle.connection.specs.declared.state.Rule.the-variants as T
 use Rattle.demands.specs.Exactly.Numbers.{Over}
-use Rattle.demands.specs.Exactly.Record.{Seen, IsHello, Hears, Guarded, Allowed, hello, change, alert, guarded}
+use Rattle.demands.specs.Table.{Hears}
+use Rattle.demands.specs.Exactly.Record.{Seen, IsHello, GuardedAs, Allowed, hello, change, alert, guarded}
 
 -- what a record's fields say of its bytes
 abbrev pub seenOf : ℕ → Bool → Content → ℕ → List ℕ → ℕ → Seen
@@ -145,7 +146,7 @@ module _ (byte number : ℕ) (f : List ℕ) (at : ℕ) where
     alert-rule (inl e) c n = λ j. ruleOf (e j) (alert-kind c n j)
     alert-rule (inr e) c n = λ j. ruleOf (e j) (alert-kind c n j)
 
-    pub guarded-rule : Guarded state q → rule ≡ T.Unseal
+    pub guarded-rule : GuardedAs state q → rule ≡ T.Unseal
     guarded-rule g = go (g .kind)
       where
         go : ((state ≡ S.Spec) × ((numberOf content ≡ 2) ⊎ (numberOf content ≡ 3))) ⊎ (state ≡ S.Open) → rule ≡ T.Unseal
@@ -163,7 +164,7 @@ module _ (byte number : ℕ) (f : List ℕ) (at : ℕ) where
     RuleHolds T.GreetAgain = Hears state × IsHello q
     RuleHolds T.Change = (state ≡ S.Replied) × (p ≡ false) × (numberOf content ≡ 1)
     RuleHolds T.Hear = Hears state × (p ≡ false) × (numberOf content ≡ 2)
-    RuleHolds T.Unseal = Guarded state q
+    RuleHolds T.Unseal = GuardedAs state q
 
     not-allowed : rule ≡ T.NotAllowed → Allowed state q → ⊥
     not-allowed e (hello (inl s) i z) = let t : T.NotAllowed ≡ T.Greet = sym e

@@ -7,7 +7,6 @@ use mathlib.Core.List.{List}
 use Prim.Native.Nat.{ℕ, _<_}
 use lib.ListN.{length, getD, take}
 use Rattle.record.specs.Datagram.{framed, framingOf}
-use Rattle.record.specs.History.{windowOf}
 use Rattle.record.specs.declared.reader.Record.{Record}
 use Rattle.connection.specs.Receive.{slot, endOf}
 use Rattle.connection.specs.declared.answer.Answer.{Answer}
@@ -16,19 +15,19 @@ use Rattle.connection.specs.declared.calls.Connection.{Connection}
 use Rattle.connection.specs.declared.refusal.Refusal.{Refusal}
 use Rattle.demands.specs.Runs.{receive, Result, received, sent, called, Gateway}
 use Rattle.demands.specs.Exactly.Whole.{CallFits, startOf}
-use Rattle.demands.specs.Exactly.Record.{Bytes, seenAt, WhyRecord}
+use Rattle.demands.specs.Exactly.Record.{HoldsNumbers, Bytes, seenAt, WhyRecord}
 
 -- answer i of a receive
-abbrev pub answerAt : Result → ℕ → Answer
-answerAt (received taken answers written) i = getD answers i (slot Nothing) .answer
-answerAt (sent outcome written) i = Nothing
-answerAt (called outcome) i = Nothing
+abbrev pub answerGiven : Result → ℕ → Answer
+answerGiven (received taken answers written) i = getD answers i (slot Nothing) .answer
+answerGiven (sent outcome written) i = Nothing
+answerGiven (called outcome) i = Nothing
 
 unfoldable pub ExactlyAnswers : Gateway → Type 0
 ExactlyAnswers g =
     (c : Connection) (d random out : List ℕ) (rs : List Record) → Bytes d → CallFits (length random) (length out)
     → framingOf d ≡ framed rs
     → (i : ℕ) → i < length rs → (numbers : List ℕ)
-    → endOf (c .handshake) random d (take i rs) .window ≡ windowOf 32 numbers → (x : Refusal)
-    → (answerAt (g c (receive d random out) .result) i ≡ Refused x)
+    → HoldsNumbers (endOf (c .handshake) random d (take i rs)) numbers → (x : Refusal)
+    → (answerGiven (g c (receive d random out) .result) i ≡ Refused x)
     ↔ WhyRecord (endOf (c .handshake) random d (take i rs)) numbers (seenAt d (startOf d i)) x

@@ -23,9 +23,12 @@ use Rattle.connection.specs.declared.refusal.Refusal.{Refusal}
 use Rattle.connection.specs.declared.refusal.Refusal.the-variants as X
 use Rattle.connection.specs.declared.state.State.{State}
 use Rattle.connection.specs.declared.state.State.the-variants.{Idle, Replied, Spec, Open}
-use Rattle.demands.specs.Genuine.{Keys, unitKey, keysOf, RecordOf}
+use Rattle.record.specs.declared.keys.Keys.{Keys}
+use Rattle.demands.specs.Table.{Hears}
+use Rattle.demands.specs.Genuine.{unitKey, keysOf, RecordOf}
 use Rattle.demands.specs.Exactly.Numbers.{Over, isAmong, isAssigned}
 use Rattle.demands.specs.Exactly.Whole.{typeAt, headAt, sizeAt}
+use Rattle.record.specs.Window.{Held}
 
 -- ---- what the bytes of a record say
 
@@ -59,12 +62,9 @@ pub record IsHello (q : Seen) : Type 0 where
   pub handshake : q .content ≡ 3
   pub begins : getD (q .fragment) 0 0 ≡ 1
 
-abbrev pub Hears : State → Type 0
-Hears state = (state ≡ Replied) ⊎ (state ≡ Spec)
-
 -- "In Spec and Open, a protected record of an allowed kind": "in Spec the allowed kinds are handshake and alert; in
 -- Open all four"
-pub record Guarded (state : State) (q : Seen) : Type 0 where
+pub record GuardedAs (state : State) (q : Seen) : Type 0 where
   pub protection : q .protected ≡ true
   pub kind : ((state ≡ Spec) × ((q .content ≡ 2) ⊎ (q .content ≡ 3))) ⊎ (state ≡ Open)
 
@@ -75,7 +75,7 @@ pub data Allowed (state : State) (q : Seen) : Type 0 where
   hello : (state ≡ Idle) ⊎ Hears state → IsHello q → q .at ≡ 0 → Allowed state q
   change : state ≡ Replied → q .protected ≡ false → q .content ≡ 1 → Allowed state q
   alert : Hears state → q .protected ≡ false → q .content ≡ 2 → Allowed state q
-  guarded : Guarded state q → Allowed state q
+  guarded : GuardedAs state q → Allowed state q
 
 -- ---- code and window
 
@@ -84,10 +84,10 @@ abbrev pub CodedAs : Keys → Seen → List ℕ → Type 0
 CodedAs k q c = q .fragment ≡ fragmentBy (hmac (unitKey k (q .number))) (sizeOf (k .mac)) (q .number) (q .byte) c
 
 -- genuine, not too old and not repeated, with the content c
-pub record Fresh (h : Handshake) (numbers : List ℕ) (q : Seen) (c : List ℕ) : Type 0 where
-  pub guarded : Guarded (h .state) q
+pub record NewAs (h : Handshake) (numbers : List ℕ) (q : Seen) (c : List ℕ) : Type 0 where
+  pub guarded : GuardedAs (h .state) q
   pub coded : CodedAs (keysOf h) q c
-  pub recent : highestOf numbers < q .number + 32
+  pub recent : highestOf numbers < q .number + h .window .width
   pub unseen : accepted numbers (q .number) ≡ false
 
 -- ---- content
@@ -122,7 +122,7 @@ pub record Acceptable (v : Values) (id : List ℕ) : Type 0 where
   pub numbering : v .numbering ≡ 2
 
 -- a ClientHello that is to be read: not "the same ClientHello message" again
-pub record Greets (h : Handshake) (q : Seen) : Type 0 where
+pub record GreetsAs (h : Handshake) (q : Seen) : Type 0 where
   pub hello : IsHello q
   pub first : q .at ≡ 0
   pub another : (h .state ≡ Idle) ⊎ (Hears (h .state) × (q .fragment ≢ keptHello h))
@@ -131,15 +131,15 @@ pub record Greets (h : Handshake) (q : Seen) : Type 0 where
 -- alert level or description"; and under protection: "change cipher spec or a message other than Finished", such an
 -- alert, "empty data"
 pub data WhyMalformed (h : Handshake) (numbers : List ℕ) (q : Seen) : Type 0 where
-  bad-hello : Greets h q → (WellFormedHello (q .fragment) → ⊥) → WhyMalformed h numbers q
+  bad-hello : GreetsAs h q → (WellFormedHello (q .fragment) → ⊥) → WhyMalformed h numbers q
   bad-change : h .state ≡ Replied → q .protected ≡ false → q .content ≡ 1 → q .fragment ≢ 1 ∷ []
       → WhyMalformed h numbers q
   bad-alert : Hears (h .state) → q .protected ≡ false → q .content ≡ 2 → (IsAlert (q .fragment) → ⊥)
       → WhyMalformed h numbers q
-  bad-sealed-change : (c : List ℕ) → Fresh h numbers q c → q .content ≡ 1 → WhyMalformed h numbers q
-  bad-sealed-alert : (c : List ℕ) → Fresh h numbers q c → q .content ≡ 2 → (IsAlert c → ⊥) → WhyMalformed h numbers q
-  bad-message : (c : List ℕ) → Fresh h numbers q c → q .content ≡ 3 → (IsFinished c → ⊥) → WhyMalformed h numbers q
-  empty-data : (c : List ℕ) → Fresh h numbers q c → q .content ≡ 4 → length c ≡ 0 → WhyMalformed h numbers q
+  bad-sealed-change : (c : List ℕ) → NewAs h numbers q c → q .content ≡ 1 → WhyMalformed h numbers q
+  bad-sealed-alert : (c : List ℕ) → NewAs h numbers q c → q .content ≡ 2 → (IsAlert c → ⊥) → WhyMalformed h numbers q
+  bad-message : (c : List ℕ) → NewAs h numbers q c → q .content ≡ 3 → (IsFinished c → ⊥) → WhyMalformed h numbers q
+  empty-data : (c : List ℕ) → NewAs h numbers q c → q .content ≡ 4 → length c ≡ 0 → WhyMalformed h numbers q
 
 -- ---- the reasons
 
@@ -152,26 +152,26 @@ WhyRecord h numbers q X.HelloWhileOpen = (h .state ≡ Open) × IsHello q
 WhyRecord h numbers q X.NotAllowed =
     (Over (h .state) → ⊥) × (h .state ≡ Open → IsHello q → ⊥) × (Allowed (h .state) q → ⊥)
 -- 9: "code not right"
-WhyRecord h numbers q X.Forged = Guarded (h .state) q × ((c : List ℕ) → CodedAs (keysOf h) q c → ⊥)
--- 10: "too old": "with n the highest number accepted, a number at most n - 32"
+WhyRecord h numbers q X.Forged = GuardedAs (h .state) q × ((c : List ℕ) → CodedAs (keysOf h) q c → ⊥)
+-- 10: "too old": "with n the highest number accepted, a number at most n - 32", less the width
 WhyRecord h numbers q X.TooOld =
-    Guarded (h .state) q × ((c : List ℕ) × CodedAs (keysOf h) q c) × (q .number + 32 ≤ highestOf numbers)
+    GuardedAs (h .state) q × ((c : List ℕ) × CodedAs (keysOf h) q c) × (q .number + h .window .width ≤ highestOf numbers)
 -- 11: "repeated": "a number accepted before"
 WhyRecord h numbers q X.Repeated =
-    Guarded (h .state) q × ((c : List ℕ) × CodedAs (keysOf h) q c) × (highestOf numbers < q .number + 32) ×
+    GuardedAs (h .state) q × ((c : List ℕ) × CodedAs (keysOf h) q c) × (highestOf numbers < q .number + h .window .width) ×
     (accepted numbers (q .number) ≡ true)
 -- 12: "malformed content"
 WhyRecord h numbers q X.Malformed = WhyMalformed h numbers q
 -- 13: "hello well formed, not acceptable"
 WhyRecord h numbers q X.Unacceptable =
-    Greets h q × ((w : WellFormedHello (q .fragment)) × (Acceptable (w .values) (h .session .id) → ⊥))
+    GreetsAs h q × ((w : WellFormedHello (q .fragment)) × (Acceptable (w .values) (h .session .id) → ⊥))
 -- 14: "clear alert with another checksum"
 WhyRecord h numbers q X.Checksum =
     Hears (h .state) × (q .protected ≡ false) × (q .content ≡ 2) × IsAlert (q .fragment) ×
     (wordAt (q .fragment) 2 ≢ h .sending .last)
 -- 17: "genuine Finished with wrong contents"
 WhyRecord h numbers q X.WrongFinished =
-    (c : List ℕ) × Fresh h numbers q c × (q .content ≡ 3) × IsFinished c × (drop 3 c ≢ h .agreed .expected)
+    (c : List ℕ) × NewAs h numbers q c × (q .content ≡ 3) × IsFinished c × (drop 3 c ≢ h .agreed .expected)
 -- no other
 WhyRecord h numbers q (X.Framing fault) = ⊥
 WhyRecord h numbers q X.Room = ⊥
@@ -182,10 +182,15 @@ WhyRecord h numbers q X.Argument = ⊥
 abbrev pub Bytes : List ℕ → Type 0
 Bytes d = (i : ℕ) → getD d i 0 < 256
 
+-- the window of a handshake, of a width that it may have, holds these numbers
+pub record HoldsNumbers (h : Handshake) (numbers : List ℕ) : Type 0 where
+  pub held : Held (h .window .width)
+  pub means : h .window ≡ windowOf (h .window .width) numbers
+
 -- A record of a soundly framed datagram, in a handshake whose window holds the numbers accepted so far (as it does in
 -- every run from fresh), is refused so exactly if there is that reason.
 unfoldable pub ExactlyRecord : Type 0
 ExactlyRecord =
-    (h : Handshake) (numbers random d : List ℕ) (r : Record) → Bytes d → RecordOf d r → h .window ≡ windowOf 32 numbers
+    (h : Handshake) (numbers random d : List ℕ) (r : Record) → Bytes d → RecordOf d r → HoldsNumbers h numbers
     → (x : Refusal)
     → (judgedRecord h random d r .answer ≡ W.Refused x) ↔ WhyRecord h numbers (seenAt d (r .start)) x

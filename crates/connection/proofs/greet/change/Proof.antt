@@ -2,7 +2,7 @@
 use mathlib.Core.Path.{_≡_, ap, _∙_}
 use Rattle.digest.proofs.Picks.{picks}
 use borrow.Author.Tests.{not-true, not-false}
-use Rattle.record.specs.Window.{freshWindow}
+use Rattle.record.specs.Window.{emptied}
 use Rattle.connection.specs.Clear.{changedBy}
 use Rattle.connection.specs.Answer.{judged}
 use Rattle.connection.specs.Handshake.{withState, withWindow}
@@ -23,8 +23,8 @@ returns : tie.Need-returns
 unfolding changedBy
 returns c = search (picks, not-true)
 
-fresh-requires : tie.Need-fresh-requires
-fresh-requires c κs = search needs
+emptied-requires : tie.Need-emptied-requires
+emptied-requires c κs = search needs
 
 with-window-requires : tie.Need-with-window-requires
 with-window-requires c κs = search needs
@@ -34,9 +34,9 @@ with-state-requires c κs = search needs
 
 returns-2 : tie.Need-returns-2
 unfolding changedBy
-returns-2 c = let h = c .before .before .before .before .before .before .args .h in
-    let left = c .with-state .ensures ∙ ap (λ x. withState x S.Spec) (c .before .with-window .ensures ∙ ap (withWindow h) (c .before .before .fresh .ensures .0)) in
-    let e : _≡_ {A = Judged} (record { answer = Spec; handshake = c .with-state .result }) (judged Spec (withState (withWindow h freshWindow) S.Spec)) = λ i. record { answer = Spec; handshake = left i } in
+returns-2 c = let h = c .before .before .before .before .before .before .before .args .h in
+    let left = c .with-state .ensures ∙ ap (λ x. withState x S.Spec) (c .before .with-window .ensures ∙ ap (withWindow h) (c .before .before .emptied .ensures)) in
+    let e : _≡_ {A = Judged} (record { answer = Spec; handshake = c .with-state .result }) (judged Spec (withState (withWindow h (emptied (h .window))) S.Spec)) = λ i. record { answer = Spec; handshake = left i } in
     search (picks, not-false)
 
 pub change-spec : {M : Type 1} → statement M
@@ -46,7 +46,7 @@ change-spec =
     is-change-requires
     refuse-requires
     returns
-    fresh-requires
+    emptied-requires
     with-window-requires
     with-state-requires
     returns-2)

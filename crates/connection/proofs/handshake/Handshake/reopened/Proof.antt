@@ -7,12 +7,12 @@ use Rattle.connection.proofs.handshake.Handshake.reopened.Tie as tie
 nothing-kept-requires : tie.Need-nothing-kept-requires
 nothing-kept-requires c κs = search needs
 
-fresh-requires : tie.Need-fresh-requires
-fresh-requires c κs = search needs
+emptied-requires : tie.Need-emptied-requires
+emptied-requires c κs = search needs
 
 returns : tie.Need-returns
-returns c = let h = c .before .before .before .before .before .args .self in
-    λ i. record { state = Idle; session = h .session; agreed = h .agreed; kept = c .before .nothing-kept .ensures i; window = c .fresh .ensures .0 i; sending = h .sending }
+returns c = let h = c .before .before .before .before .before .before .args .self in
+    λ i. record { state = Idle; session = h .session; agreed = h .agreed; kept = c .before .nothing-kept .ensures i; window = c .emptied .ensures i; sending = h .sending }
 
 pub reopened-spec : {M : Type 1} → statement M
-reopened-spec = tie.close (tie.spec nothing-kept-requires fresh-requires returns)
+reopened-spec = tie.close (tie.spec nothing-kept-requires emptied-requires returns)

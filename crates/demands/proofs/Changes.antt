@@ -1,0 +1,135 @@
+-- What a record changes, read off its row.
+use mathlib.Core.Path.{_≡_, refl, sym, _∙_, ap, subst}
+use mathlib.Core.Logic.{_⊎_, inl, inr}
+use mathlib.Core.Bool.{Bool, true, false}
+use mathlib.Core.List.{List}
+use Prim.Native.Nat.{ℕ, _+_}
+use lib.ListN.{length}
+use Rattle.record.specs.Window.{acceptOf}
+use Rattle.record.specs.declared.header.Content.{Content}
+use Rattle.record.specs.declared.header.Content.the-variants as C
+use Rattle.record.specs.declared.reader.Record.{Record}
+use Rattle.record.specs.declared.window.Window.{Window}
+use native.Mathlib.Omega.{arith}
+use Rattle.connection.specs.Reply.{answeredWith}
+use Rattle.message.specs.declared.acceptance.Plan.{Plan}
+use Rattle.connection.specs.Handshake.{withState, withWindow, barred, reopened}
+use Rattle.connection.specs.Judge.{judgedRecord, fragmentOf}
+use Rattle.connection.specs.Calls.{closedOf, startedOf, closedIn, startedIn}
+use Rattle.connection.specs.declared.state.State.{State}
+use Rattle.connection.specs.declared.state.State.the-variants as S
+use Rattle.connection.specs.declared.refusal.Refusal.{Refusal}
+use Rattle.connection.specs.declared.refusal.Refusal.the-variants as X
+use Rattle.connection.specs.declared.answer.Answer.{Answer}
+use Rattle.connection.specs.declared.answer.Answer.the-variants as W
+use Rattle.connection.specs.declared.answer.Judged.{Judged}
+use Rattle.connection.specs.declared.calls.Connection.{Connection}
+use Rattle.connection.specs.declared.calls.Outcome.{Outcome}
+use Rattle.connection.specs.declared.calls.Outcome.the-variants as O
+use Rattle.connection.specs.declared.handshake.Handshake.{Handshake}
+use Rattle.demands.specs.Table.{Row, isHello, helloFor, beginsHello, New, Guarded, Greets}
+use Rattle.demands.specs.Table.{row-ended, row-hello-while-open, row-not-allowed, row-not-first, row-reply, row-hello-malformed, row-unacceptable, row-resent, row-change, row-change-malformed, row-clear-malformed, row-checksum, row-clear-warning, row-clear-critical, row-clear-fatal, row-forged, row-old, row-repeated, row-malformed, row-data, row-warning, row-critical, row-barred, row-open, row-again, row-wrong-finished}
+use Rattle.demands.specs.Refusals.{marked, markedAs, refusedLeaves, RefusedRecordChangesNothing}
+use Rattle.demands.specs.Changes.{Leaves, RecordChangesOnly, CloseChangesOnly, StartChangesOnly}
+use Rattle.demands.proofs.Genuine.{true-false}
+use Rattle.demands.proofs.Table.{row-of, hello-parts}
+
+module _ (h : Handshake) (random d : List ℕ) (r : Record) where
+  -- the mark of a new number
+  pub marked-is : (c : List ℕ) (w : Window) → New h d r c w → withWindow h w ≡ marked h (r .number)
+  marked-is c w n = sym (ap (markedAs h) (n .accepted))
+
+  malformed-clear : r .protected ≡ false → h ≡ refusedLeaves h (r .protected) (r .number) X.Malformed
+  malformed-clear p = sym (ap (λ b. refusedLeaves h b (r .number) X.Malformed) p)
+
+  malformed-sealed : (c : List ℕ) (w : Window) → New h d r c w → withWindow h w ≡ refusedLeaves h (r .protected) (r .number) X.Malformed
+  malformed-sealed c w n =
+      marked-is c w n ∙ sym (ap (λ b. refusedLeaves h b (r .number) X.Malformed) (n .guarded .protection))
+
+  pub hello-clear : isHello d r ≡ true → r .protected ≡ false
+  hello-clear i = hello-parts (r .content) (r .protected) (beginsHello d r) i .1
+
+  by-protection : (then : Handshake) (a : Answer) (p : Bool) → r .protected ≡ p → Leaves h random (fragmentOf d r) p (r .number) then a
+      → Leaves h random (fragmentOf d r) (r .protected) (r .number) then a
+  by-protection then a p e x = subst (λ b. Leaves h random (fragmentOf d r) b (r .number) then a) (sym e) x
+
+  -- a new reply: Replied, the window left alone, the same session
+  replied : (plan : Plan) → answeredWith h random (fragmentOf d r) plan .state ≡ S.Replied
+  unfolding answeredWith
+  replied plan = refl
+
+  unmoved : (plan : Plan) → answeredWith h random (fragmentOf d r) plan .window ≡ h .window
+  unfolding answeredWith
+  unmoved plan = refl
+
+  same-session : (plan : Plan) → answeredWith h random (fragmentOf d r) plan .session ≡ h .session
+  unfolding answeredWith
+  same-session plan = refl
+
+  pub leaves : {j : Judged} → Row h random d r j → Leaves h random (fragmentOf d r) (r .protected) (r .number) (j .handshake) (j .answer)
+  leaves (row-ended e) = refl
+  leaves (row-hello-while-open e) = refl
+  leaves (row-not-allowed e o a) = refl
+  leaves (row-not-first a i z) = refl
+  leaves (row-reply plan g e) = (plan, e, refl, replied plan, unmoved plan, same-session plan)
+  leaves (row-hello-malformed fault g e) = malformed-clear (hello-clear (g .hello))
+  leaves (row-unacceptable condition g e) = refl
+  leaves (row-resent s i z e) = refl
+  leaves (row-change s p c e) = refl
+  leaves (row-change-malformed s p c e) = malformed-clear p
+  leaves (row-clear-malformed s p c e) = malformed-clear p
+  leaves (row-checksum a s p c e n) = refl
+  leaves (row-clear-warning a s p c e k l) = by-protection h (W.Warning (a .description)) false p refl
+  leaves (row-clear-critical a s p c e k l) = by-protection (withState h S.Closed) (W.Critical (a .description)) false p refl
+  leaves (row-clear-fatal a s p c e k l) = refl
+  leaves (row-forged g f) = refl
+  leaves (row-old c g s e) = refl
+  leaves (row-repeated c g s e) = refl
+  leaves (row-malformed c w n m) = malformed-sealed c w n
+  leaves (row-data c w n e m) = marked-is c w n
+  leaves (row-warning c w a n e m l) = by-protection (withWindow h w) (W.Warning (a .description)) true (n .guarded .protection) (marked-is c w n)
+  leaves (row-critical c w a n e m l) =
+      by-protection (withState (withWindow h w) S.Closed) (W.Critical (a .description)) true (n .guarded .protection) (ap (λ x. withState x S.Closed) (marked-is c w n))
+  leaves (row-barred c w a n e m l) = ap barred (marked-is c w n)
+  leaves (row-open c w n s e m) = ap (λ x. withState x S.Open) (marked-is c w n)
+  leaves (row-again c w n s e m) = marked-is c w n
+  leaves (row-wrong-finished c w n e m) = ap (λ x. withState x S.Closed) (marked-is c w n)
+
+pub record-changes-only : RecordChangesOnly
+unfolding RecordChangesOnly
+record-changes-only h random d r = leaves h random d r (row-of h random d r)
+
+pub refused-record : RefusedRecordChangesNothing
+unfolding RefusedRecordChangesNothing
+refused-record h random d r x e =
+    subst (λ a. Leaves h random (fragmentOf d r) (r .protected) (r .number) (judgedRecord h random d r .handshake) a) e
+    (leaves h random d r (row-of h random d r))
+
+-- close, and start again
+
+refused-done : {P : Type 0} (x : Refusal) → O.Refused x ≡ O.Done → P
+refused-done x e = let z : _≡_ {A = ℕ} 0 1 = cc in absurd (omega arith)
+
+closed-by : (h : Handshake) (s : State) → closedIn h s .outcome ≡ O.Done → closedIn h s .connection .handshake ≡ withState h S.Closed
+closed-by h S.Idle e = refl
+closed-by h S.Replied e = refl
+closed-by h S.Spec e = refl
+closed-by h S.Open e = refl
+closed-by h S.Closed e = refl
+closed-by h S.Barred e = refused-done X.Ended e
+
+pub close-changes-only : CloseChangesOnly
+unfolding CloseChangesOnly
+close-changes-only c e = closed-by (c .handshake) (c .handshake .state) e
+
+started-by : (h : Handshake) (s : State) → startedIn h s .outcome ≡ O.Done → startedIn h s .connection .handshake ≡ reopened h
+started-by h S.Idle e = refused-done X.NotAllowed e
+started-by h S.Replied e = refused-done X.NotAllowed e
+started-by h S.Spec e = refused-done X.NotAllowed e
+started-by h S.Open e = refused-done X.NotAllowed e
+started-by h S.Closed e = refl
+started-by h S.Barred e = refused-done X.Ended e
+
+pub start-changes-only : StartChangesOnly
+unfolding StartChangesOnly
+start-changes-only c e = started-by (c .handshake) (c .handshake .state) e

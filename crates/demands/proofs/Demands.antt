@@ -1,0 +1,86 @@
+-- The three demands hold.
+use Rattle.demands.specs.Demands.{First, Second, Third, Demands}
+use Rattle.demands.proofs.Table.{table-holds}
+use Rattle.demands.proofs.Changes.{record-changes-only, refused-record, close-changes-only, start-changes-only}
+use Rattle.demands.proofs.Calls.{calls-hold, fresh-holds}
+use Rattle.demands.proofs.Exactly.Answers.{given-exactly-when}
+use Rattle.demands.proofs.Refusals.{refused-call, nothing-written, data-changes-only, alert-changes-only, refused-by-the-list}
+use Rattle.demands.proofs.Kept.{kept-is-what-happened}
+use Rattle.demands.proofs.Finished.{only-after-finished}
+use Rattle.demands.proofs.InRuns.{protected-in-runs, checksum-in-runs, wrong-finished-in-runs, leaves-out-of-runs}
+use Rattle.demands.proofs.Replies.{replies-right}
+use Rattle.demands.proofs.Barred.{barred-only-by-fatal, barred-for-good}
+use Rattle.demands.proofs.Sends.{data-sent-right, alert-sent-right}
+use Rattle.demands.proofs.Written.{read-as-written}
+use Rattle.demands.proofs.LeftOut.{leaves-out}
+use Rattle.demands.proofs.HandedOut.{handed-out, handed-once}
+use Rattle.demands.proofs.Traps.{empty-then-data, twice-in-one, closed-between}
+use Rattle.demands.proofs.Counts.{counts-right}
+use Rattle.demands.proofs.Works.{it-works}
+use Rattle.demands.proofs.Instances.{instances}
+use Rattle.demands.proofs.Places.{runs-are-events, answers-in-place}
+use Rattle.demands.proofs.Gateways.{meets-2, meets-3, demand-2-table, demand-2-settles, five-fail}
+
+pub first : First
+first =
+    record {
+      each-call = calls-hold;
+      fresh = fresh-holds;
+      exactly-when = given-exactly-when;
+      from-the-list = refused-by-the-list;
+      refused-call = refused-call;
+      refused-record = refused-record;
+      unwritten = nothing-written;
+    }
+
+pub second : Second
+second =
+    record {
+      table = table-holds;
+      written = read-as-written;
+      record-changes = record-changes-only;
+      data-changes = data-changes-only;
+      alert-changes = alert-changes-only;
+      close-changes = close-changes-only;
+      start-changes = start-changes-only;
+      kept = kept-is-what-happened;
+      protected-in-runs = protected-in-runs;
+      checksum-in-runs = checksum-in-runs;
+      wrong-finished-in-runs = wrong-finished-in-runs;
+      replies = replies-right;
+      data-sent = data-sent-right;
+      alert-sent = alert-sent-right;
+      only-after-finished = only-after-finished;
+      only-by-fatal = barred-only-by-fatal;
+      for-good = barred-for-good;
+    }
+
+pub third : Third
+third =
+    record {
+      left-out = leaves-out;
+      left-out-of-runs = leaves-out-of-runs;
+      handed-out = handed-out;
+      handed-once = handed-once;
+      empty-then-data = empty-then-data;
+      twice-in-one = twice-in-one;
+      closed-between = closed-between;
+    }
+
+pub demands : Demands
+demands =
+    record {
+      first = first;
+      second = second;
+      third = third;
+      counts = counts-right;
+      works = it-works;
+      instances = instances;
+      runs-are-events = runs-are-events;
+      answers-in-place = answers-in-place;
+      meets-2 = meets-2;
+      meets-3 = meets-3;
+      rows-are-table = demand-2-table;
+      rows-settle = demand-2-settles;
+      five-fail = five-fail;
+    }

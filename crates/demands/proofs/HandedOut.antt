@@ -1,0 +1,513 @@
+-- Demand 3, the second half. The idea: from an Open place on, the connection goes along with the course of the bytes: while nothing closed
+-- it is Open, under the same keys and expected contents, and its window is that of the numbers used up; once something closed it is ended.
+-- Each row of the table is one way in which both go on. At the end the row of data says what is due.
+use mathlib.Core.Path.{_≡_, refl, sym, _∙_, ap, ap₂, subst}
+use mathlib.Core.Logic.{_↔_, _⊎_, inl, inr, _≢_}
+use mathlib.Core.Bool.{Bool, true, false}
+use mathlib.Core.List.{List, [], _∷_, _++_}
+use Prim.Native.Nat.{ℕ, zero, suc, _+_, _-_, _≤_, _<_, min}
+use native.Mathlib.Omega.{arith}
+use lib.ListN.{length, take, drop, length-append, length-take, length-drop, take-append-drop}
+use lib.Seq.{take-at, take-append-le}
+use lib.Dec.{lit<, leb, eqb}
+use borrow.Author.Tests.{le-leb, lt-leb, leb-true, leb-false}
+use Rattle.digest.specs.Pick.{pick}
+use Rattle.digest.specs.Hmac.{hmac}
+use Rattle.digest.specs.Mac.{sizeOf}
+use Rattle.record.specs.Code.{genuineBy, fragmentBy, codeBy}
+use Rattle.record.specs.Window.{acceptOf, tooOld, windowWidth, Held}
+use Rattle.record.specs.History.{windowOf, arrivedOf, accepted, highestOf, judgedOf}
+use Rattle.record.specs.declared.header.Content.{Content}
+use Rattle.record.specs.declared.header.Content.the-variants as C
+use Rattle.record.specs.declared.reader.Record.{Record}
+use Rattle.record.specs.declared.window.Window.{Window}
+use Rattle.record.specs.declared.window.Acceptance.{Acceptance}
+use Rattle.record.specs.declared.window.Acceptance.the-variants as A
+use Rattle.record.proofs.Histories.{meaning, new-means, old-means, repeated-means, new-when, all-below, below-all, accepted-here, accepted-still, held-ours, held-some}
+use Rattle.message.specs.Alert.{alertOf}
+use Rattle.message.specs.Finished.{judgedOf as verdictOf}
+use Rattle.message.specs.declared.alert.Alert.{Alert}
+use Rattle.message.specs.declared.alert.Reading.the-variants as R
+use Rattle.message.specs.declared.finished.Verified.{Verified as Verdict}
+use Rattle.message.specs.declared.finished.Verified.the-variants as F
+use Rattle.connection.specs.Answer.{refusing, judged, handedOf, partAt}
+use Rattle.connection.specs.Calls.{sessionOf}
+use Rattle.connection.specs.Handshake.{withState, withWindow, barred}
+use Rattle.connection.specs.Judge.{judgedRecord, fragmentOf}
+use Rattle.connection.specs.Send.{afterAlert, nextAlert, alertBody}
+use Rattle.connection.specs.declared.state.State.{State}
+use Rattle.connection.specs.declared.state.State.the-variants as S
+use Rattle.connection.specs.declared.refusal.Refusal.the-variants as X
+use Rattle.connection.specs.declared.answer.Answer.{Answer}
+use Rattle.connection.specs.declared.answer.Answer.the-variants as W
+use Rattle.connection.specs.declared.answer.Judged.{Judged}
+use Rattle.connection.specs.declared.handshake.Handshake.{Handshake}
+use Rattle.connection.specs.declared.handshake.Session.{Session}
+use Rattle.demands.specs.Runs.{Call, send-data, send-alert, Step, stepOf}
+use Rattle.record.specs.declared.keys.Keys.{Keys}
+use Rattle.demands.specs.Genuine.{Genuine, Sealed, RecordOf, keysOf, unitKey}
+use Rattle.demands.specs.Table.{Row, ended, allowed, sealedAllowed, clearAllowed, beginsHello, isHello, Hears, New, Guarded, Greets, MalformedAs, openIs, helloWhileOpen}
+use Rattle.demands.specs.Table.{row-ended, row-hello-while-open, row-not-allowed, row-not-first, row-reply, row-hello-malformed, row-unacceptable, row-resent, row-change, row-change-malformed, row-clear-malformed, row-checksum, row-clear-warning, row-clear-critical, row-clear-fatal, row-forged, row-old, row-repeated, row-malformed, row-data, row-warning, row-critical, row-barred, row-open, row-again, row-wrong-finished}
+use Rattle.demands.specs.Calls.{CallRow, data-16, data-7, data-8, data-15, data-6, data-sent, alert-16, alert-7, alert-8, alert-15, alert-6, alert-sent}
+use Rattle.demands.specs.Events.{Event, took, sending, alerting, closing, starting, Sound, AllSound, Happened, connectionOf, next, after, history}
+use Rattle.demands.specs.Past.{isData, keysIn, expectedIn, acceptedIn, barredIn}
+use Rattle.demands.specs.Course.{Course, genuineBytes, contentBytes, isNew, levelShuts, alertShuts, finishedShuts, contentShuts, withRecord, withEvent, courseOf, Ongoing, Due}
+use Rattle.demands.specs.Runs.{freshWith}
+use Rattle.demands.specs.HandedOut.{courseFrom, answerAt, HandedOut, HandedOnce}
+use Rattle.demands.proofs.Genuine.{true-false, sealed-right, sealed-content, right-sealed}
+use Rattle.demands.proofs.Table.{row-of, row-is}
+use Rattle.demands.proofs.Changes.{hello-clear}
+use Rattle.demands.proofs.Calls.{call-of}
+use Rattle.demands.proofs.Kept.{window-more, live, sealed-live}
+use Rattle.demands.proofs.Finished.{Progress, progress-all, progress-fresh, keys-are, expected-is}
+use Rattle.demands.proofs.LeftOut.{not-open, greets-not-open, seven}
+
+-- ---- new numbers, by the window and by the history
+
+module _ (width : ℕ) (held : Held width) (numbers : List ℕ) (s : ℕ) where
+  pub by-history : acceptOf (windowOf width numbers) s ≡ judgedOf width numbers s
+  by-history = meaning width held numbers s
+
+  new-facts : (w : Window) (n : ℕ) → acceptOf (windowOf width numbers) s ≡ A.New w n
+      → (highestOf numbers < s + width) × (accepted numbers s ≡ false)
+  new-facts w n e = let q = new-means width numbers s w n (sym by-history ∙ e) in (q .0, q .1)
+
+  is-new : highestOf numbers < s + width → accepted numbers s ≡ false → isNew width numbers s ≡ true
+  is-new l a = ap₂ (λ (o b : Bool). pick o false (pick b false true)) (lt-leb (s + width) (highestOf numbers) l) a
+
+  new-is : (w : Window) (n : ℕ) → acceptOf (windowOf width numbers) s ≡ A.New w n → isNew width numbers s ≡ true
+  new-is w n e = let q = new-facts w n e in is-new (q .0) (q .1)
+
+  old-is : acceptOf (windowOf width numbers) s ≡ A.TooOld → isNew width numbers s ≡ false
+  old-is e =
+      ap (λ (o : Bool). pick o false (pick (accepted numbers s) false true))
+      (le-leb (s + width) (highestOf numbers) (old-means width numbers s (sym by-history ∙ e)))
+
+  repeated-is : acceptOf (windowOf width numbers) s ≡ A.Repeated → isNew width numbers s ≡ false
+  repeated-is e =
+      let q = repeated-means width numbers s (sym by-history ∙ e) in
+      ap₂ (λ (o b : Bool). pick o false (pick b false true)) (lt-leb (s + width) (highestOf numbers) (q .0)) (q .1)
+
+  -- a number that is due is below all that were accepted, and new to the window
+  due-below : ((n : ℕ) → accepted numbers n ≡ true → n < s + width) → highestOf numbers < s + width
+  due-below b = below-all width (held-some width held) numbers s b
+
+  due-new : accepted numbers s ≡ false → ((n : ℕ) → accepted numbers n ≡ true → n < s + width)
+      → acceptOf (windowOf width numbers) s ≡ A.New (windowOf width (s ∷ numbers)) (arrivedOf width (s ∷ numbers))
+  due-new a b = by-history ∙ new-when width numbers s (due-below b) a
+
+-- ---- the connection goes along with the course
+
+pub record Along (k : Keys) (expected : List ℕ) (course : Course) (h : Handshake) : Type 0 where
+  pub is-open : course .shut ≡ false → h .state ≡ S.Open
+  pub keys-same : course .shut ≡ false → keysOf h ≡ k
+  pub expected-same : course .shut ≡ false → h .agreed .expected ≡ expected
+  pub held : Held (course .width)
+  pub window-same : course .shut ≡ false → h .window ≡ windowOf (course .width) (course .numbers)
+  pub is-ended : course .shut ≡ true → ended (h .state) ≡ true
+
+module _ (k : Keys) (expected : List ℕ) (course : Course) (h : Handshake) (a : Along k expected course h) where
+  -- a course that is shut stays as it is, and an ended connection too
+  module _ (random d : List ℕ) (r : Record) where
+    shut-more : course .shut ≡ true → Along k expected (withRecord k expected course d r) (judgedRecord h random d r .handshake)
+    shut-more z =
+        let same : withRecord k expected course d r ≡ course
+        = ap (λ b. pick b course (pick (genuineBytes k d r) (pick (isNew (course .width) (course .numbers) (r .number)) (record { width = course .width; numbers = r .number ∷ course .numbers; shut = contentShuts (r .content) (contentBytes k d r) expected }) course) course)) z in
+        let left : judgedRecord h random d r .handshake ≡ h = ap (λ j. j .handshake) (seven k h random d r (a .is-ended z)) in
+        subst (λ c. Along k expected c (judgedRecord h random d r .handshake)) (sym same) (subst (Along k expected course) (sym left) a)
+
+    module _ (z : course .shut ≡ false) where
+      -- the course, by what the bytes are
+      not-genuine : genuineBytes k d r ≡ false → withRecord k expected course d r ≡ course
+      not-genuine g =
+          ap₂ (λ b c. pick b course (pick c (pick (isNew (course .width) (course .numbers) (r .number)) (record { width = course .width; numbers = r .number ∷ course .numbers; shut = contentShuts (r .content) (contentBytes k d r) expected }) course) course)) z g
+
+      right-code : (c : List ℕ) → Sealed (keysOf h) d r c → Sealed k d r c
+      right-code c s = subst (λ x. Sealed x d r c) (a .keys-same z) s
+
+      genuine-yes : (c : List ℕ) → Sealed k d r c → genuineBytes k d r ≡ true
+      genuine-yes c s =
+          ap₂ (λ p g. pick p g false) (s .is-protected) (sealed-right k d r c s)
+
+      not-new : (c : List ℕ) → Sealed k d r c → isNew (course .width) (course .numbers) (r .number) ≡ false → withRecord k expected course d r ≡ course
+      not-new c s n =
+          (λ i. pick (z i) course (pick (genuine-yes c s i) (pick (n i) (record { width = course .width; numbers = r .number ∷ course .numbers; shut = contentShuts (r .content) (contentBytes k d r) expected }) course) course))
+
+      one-more : (c : List ℕ) → Sealed k d r c → isNew (course .width) (course .numbers) (r .number) ≡ true
+          → withRecord k expected course d r ≡ record { width = course .width; numbers = r .number ∷ course .numbers; shut = contentShuts (r .content) c expected }
+      one-more c s n =
+          λ i. pick (z i) course (pick (genuine-yes c s i) (pick (n i) (record { width = course .width; numbers = r .number ∷ course .numbers; shut = contentShuts (r .content) (sealed-content k d r c s i) expected }) course) course)
+
+      window-at : (x : Acceptance) → acceptOf (h .window) (r .number) ≡ x → acceptOf (windowOf (course .width) (course .numbers)) (r .number) ≡ x
+      window-at x e = sym (ap (λ w. acceptOf w (r .number)) (a .window-same z)) ∙ e
+
+      -- nothing used up, nothing changed
+      unchanged : withRecord k expected course d r ≡ course → Along k expected (withRecord k expected course d r) h
+      unchanged e = subst (λ c. Along k expected c h) (sym e) a
+
+      clear-same : r .protected ≡ false → Along k expected (withRecord k expected course d r) h
+      clear-same p = unchanged (not-genuine (ap (λ b. pick b (genuineBy (hmac (unitKey k (r .number))) (sizeOf (k .mac)) (r .number) (r .byte) (fragmentOf d r)) false) p))
+
+      -- a new number
+      used : (c : List ℕ) (w : Window) → New h d r c w → (x : Handshake) → x .window ≡ w
+          → (contentShuts (r .content) c expected ≡ false → (x .state ≡ S.Open) × (keysOf x ≡ k) × (x .agreed .expected ≡ expected))
+          → (contentShuts (r .content) c expected ≡ true → ended (x .state) ≡ true)
+          → Along k expected (withRecord k expected course d r) x
+      used c w n x ew o s =
+          let e = window-at (A.New w (n .arrived)) (n .accepted) in
+          let more : withRecord k expected course d r ≡ record { width = course .width; numbers = r .number ∷ course .numbers; shut = contentShuts (r .content) c expected }
+          = one-more c (right-code c (n .coded)) (new-is (course .width) (a .held) (course .numbers) (r .number) w (n .arrived) e) in
+          subst (λ y. Along k expected y x) (sym more)
+          (record {
+            is-open = λ f. o f .0;
+            keys-same = λ f. o f .1;
+            expected-same = λ f. o f .2;
+            held = a .held;
+            window-same = λ f. ew ∙ window-more (course .width) (a .held) (course .numbers) (r .number) w (n .arrived) e;
+            is-ended = s;
+          })
+
+      -- the content does not close, and the state stays
+      stays-open : (c : List ℕ) (w : Window) → New h d r c w → (t : Content) → r .content ≡ t → contentShuts t c expected ≡ false
+          → Along k expected (withRecord k expected course d r) (withWindow h w)
+      stays-open c w n t ec f =
+          used c w n (withWindow h w) refl (λ _. (a .is-open z, a .keys-same z, a .expected-same z))
+          (λ g. true-false (contentShuts (r .content) c expected) g (ap (λ y. contentShuts y c expected) ec ∙ f))
+
+      closes : (c : List ℕ) (w : Window) → New h d r c w → (t : Content) → r .content ≡ t → contentShuts t c expected ≡ true → (x : Handshake) → x .window ≡ w
+          → ended (x .state) ≡ true → Along k expected (withRecord k expected course d r) x
+      closes c w n t ec f x ew g =
+          used c w n x ew (λ y. true-false (contentShuts (r .content) c expected) (ap (λ v. contentShuts v c expected) ec ∙ f) y) (λ _. g)
+
+      verdict-at : (c : List ℕ) (x : Verdict) → verdictOf c (h .agreed .expected) ≡ x → verdictOf c expected ≡ x
+      verdict-at c x e = sym (ap (verdictOf c) (a .expected-same z)) ∙ e
+
+      malformed-shuts : (c : List ℕ) (t : Content) → MalformedAs t c (h .agreed .expected) → contentShuts t c expected ≡ false
+      malformed-shuts c C.ChangeCipherSpec m = refl
+      malformed-shuts c C.Alert m = ap alertShuts m
+      malformed-shuts c C.Handshake m = ap finishedShuts (verdict-at c F.Malformed m)
+      malformed-shuts c C.Data m = refl
+
+      -- a record that the table does not allow in Open is clear
+      refused-clear : (s : State) → s ≡ S.Open → allowed s d r ≡ false → r .protected ≡ false
+      refused-clear s es e = by-protection (r .protected) refl (sym (ap (λ x. allowed x d r) es) ∙ e)
+        where
+          by-protection : (p : Bool) → r .protected ≡ p → pick (r .protected) true false ≡ false → r .protected ≡ false
+          by-protection false ep q = ep
+          by-protection true ep q = true-false true refl (sym (ap (λ b. pick b true false) ep) ∙ q)
+
+      open-hello : (s : State) → helloWhileOpen s d r ≡ true → isHello d r ≡ true
+      open-hello S.Idle e = true-false false e refl
+      open-hello S.Replied e = true-false false e refl
+      open-hello S.Spec e = true-false false e refl
+      open-hello S.Open e = e
+      open-hello S.Closed e = true-false false e refl
+      open-hello S.Barred e = true-false false e refl
+
+      by-row : {j : Judged} → Row h random d r j → Along k expected (withRecord k expected course d r) (j .handshake)
+      by-row (row-ended e) = true-false (ended (h .state)) e (ap ended (a .is-open z))
+      by-row (row-hello-while-open e) = clear-same (hello-clear h random d r (open-hello (h .state) e))
+      by-row (row-not-allowed e o b) = clear-same (refused-clear (h .state) (a .is-open z) b)
+      by-row (row-not-first b i y) = clear-same (hello-clear h random d r i)
+      by-row (row-reply plan g e) = greets-not-open (h .state) (g .another) (a .is-open z)
+      by-row (row-hello-malformed fault g e) = greets-not-open (h .state) (g .another) (a .is-open z)
+      by-row (row-unacceptable condition g e) = greets-not-open (h .state) (g .another) (a .is-open z)
+      by-row (row-resent s i y e) = not-open (h .state) s (a .is-open z)
+      by-row (row-change s p c e) = not-open (h .state) (inl s) (a .is-open z)
+      by-row (row-change-malformed s p c e) = not-open (h .state) (inl s) (a .is-open z)
+      by-row (row-clear-malformed s p c e) = not-open (h .state) s (a .is-open z)
+      by-row (row-checksum b s p c e n) = not-open (h .state) s (a .is-open z)
+      by-row (row-clear-warning b s p c e q l) = not-open (h .state) s (a .is-open z)
+      by-row (row-clear-critical b s p c e q l) = not-open (h .state) s (a .is-open z)
+      by-row (row-clear-fatal b s p c e q l) = not-open (h .state) s (a .is-open z)
+      by-row (row-forged g f) = unchanged (not-genuine (forged-bytes g f (genuineBytes k d r) refl))
+        where
+          forged-bytes : Guarded h r → ((c : List ℕ) → Sealed (keysOf h) d r c → ⊥) → (b : Bool) → genuineBytes k d r ≡ b → genuineBytes k d r ≡ false
+          forged-bytes g f false e = e
+          forged-bytes g f true e =
+              let code : genuineBy (hmac (unitKey k (r .number))) (sizeOf (k .mac)) (r .number) (r .byte) (fragmentOf d r) ≡ true
+              = sym (ap (λ b. pick b (genuineBy (hmac (unitKey k (r .number))) (sizeOf (k .mac)) (r .number) (r .byte) (fragmentOf d r)) false) (g .protection)) ∙ e in
+              absurd (f (contentBytes k d r) (subst (λ x. Sealed x d r (contentBytes k d r)) (sym (a .keys-same z)) (right-sealed k d r (g .protection) code)))
+      by-row (row-old c g s e) =
+          unchanged (not-new c (right-code c s) (old-is (course .width) (a .held) (course .numbers) (r .number) (window-at A.TooOld e)))
+      by-row (row-repeated c g s e) =
+          unchanged (not-new c (right-code c s) (repeated-is (course .width) (a .held) (course .numbers) (r .number) (window-at A.Repeated e)))
+      by-row (row-malformed c w n m) = stays-open c w n (r .content) refl (malformed-shuts c (r .content) m)
+      by-row (row-data c w n e m) = stays-open c w n C.Data e refl
+      by-row (row-warning c w b n e m l) = stays-open c w n C.Alert e (ap alertShuts m ∙ ap levelShuts l)
+      by-row (row-critical c w b n e m l) = closes c w n C.Alert e (ap alertShuts m ∙ ap levelShuts l) (withState (withWindow h w) S.Closed) refl refl
+      by-row (row-barred c w b n e m l) = closes c w n C.Alert e (ap alertShuts m ∙ ap levelShuts l) (barred (withWindow h w)) refl refl
+      by-row (row-open c w n s e m) = let y : S.Spec ≡ S.Open = sym s ∙ a .is-open z in let v : _≡_ {A = ℕ} 0 1 = cc in absurd (omega arith)
+      by-row (row-again c w n s e m) = stays-open c w n C.Handshake e (ap finishedShuts (verdict-at c F.Right m))
+      by-row (row-wrong-finished c w n e m) =
+          closes c w n C.Handshake e (ap finishedShuts (verdict-at c F.Wrong m)) (withState (withWindow h w) S.Closed) refl refl
+
+    record-more : (b : Bool) → course .shut ≡ b → Along k expected (withRecord k expected course d r) (judgedRecord h random d r .handshake)
+    record-more true z = shut-more z
+    record-more false z = by-row z (row-of h random d r)
+
+  -- a send changes neither
+  sent-along : (sealed : Bool) (bytes : List ℕ) → Along k expected course (afterAlert sealed h bytes)
+  sent-along true bytes =
+      record { is-open = a .is-open; keys-same = a .keys-same; expected-same = a .expected-same; held = a .held; window-same = a .window-same; is-ended = a .is-ended }
+  sent-along false bytes =
+      record { is-open = a .is-open; keys-same = a .keys-same; expected-same = a .expected-same; held = a .held; window-same = a .window-same; is-ended = a .is-ended }
+
+  by-data : (bytes out : List ℕ) {s : Step} → CallRow (connectionOf h) (send-data bytes out) s → Along k expected course (s .connection .handshake)
+  by-data bytes out (data-16 b) = a
+  by-data bytes out (data-7 g e) = a
+  by-data bytes out (data-8 g e n) = a
+  by-data bytes out (data-15 g e n) = a
+  by-data bytes out (data-6 g e n l) = a
+  by-data bytes out (data-sent g e n l) =
+      record { is-open = a .is-open; keys-same = a .keys-same; expected-same = a .expected-same; held = a .held; window-same = a .window-same; is-ended = a .is-ended }
+
+  by-alert : (sealed : Bool) (level description : ℕ) (lent out : List ℕ) {s : Step} → CallRow (connectionOf h) (send-alert sealed level description lent out) s
+      → Along k expected course (s .connection .handshake)
+  by-alert sealed level description lent out (alert-16 b) = a
+  by-alert sealed level description lent out (alert-7 g e) = a
+  by-alert sealed level description lent out (alert-8 g e f) = a
+  by-alert sealed level description lent out (alert-15 g e n) = a
+  by-alert sealed level description lent out (alert-6 g e n l) = a
+  by-alert sealed level description lent out (alert-sent {l = v} {k = m} g e n l) = sent-along sealed (nextAlert sealed h (alertBody v m lent))
+
+along-all : (k : Keys) (expected : List ℕ) (es : List Event) (course : Course) (h : Handshake) → Along k expected course h → Ongoing es
+    → Along k expected (courseOf k expected course es) (after h es)
+unfolding courseOf after stepOf
+along-all k expected [] course h a go = a
+along-all k expected (took random d r ∷ es) course h a go =
+    along-all k expected es (withRecord k expected course d r) (judgedRecord h random d r .handshake) (record-more k expected course h a random d r (course .shut) refl) go
+along-all k expected (sending bytes out ∷ es) course h a go =
+    along-all k expected es course (next h (sending bytes out)) (by-data k expected course h a bytes out (call-of (connectionOf h) (send-data bytes out))) go
+along-all k expected (alerting sealed level description lent out ∷ es) course h a go =
+    along-all k expected es course (next h (alerting sealed level description lent out)) (by-alert k expected course h a sealed level description lent out (call-of (connectionOf h) (send-alert sealed level description lent out))) go
+along-all k expected (closing ∷ es) course h a go = absurd go
+along-all k expected (starting ∷ es) course h a go = absurd go
+
+-- an Open place of a run begins a course
+along-open : (session : Session) (past : List Happened) (h : Handshake) → Progress session past h → h .state ≡ S.Open
+    → Along (keysIn session past) (expectedIn session past) (record { width = windowWidth; numbers = acceptedIn past; shut = false }) h
+along-open session past h p s =
+    let l : barredIn past ≡ false = live session past h (p .kept) (ap ended s) in
+    record {
+      is-open = λ _. s;
+      keys-same = λ _. keys-are session past h p l;
+      expected-same = λ _. expected-is session past h p l;
+      held = held-ours;
+      window-same = λ _. p .kept .window-is;
+      is-ended = λ f. true-false false f refl;
+    }
+
+-- ---- what is due is handed out, and nothing else
+
+-- the content as a part of the datagram
+module _ (d : List ℕ) (at size : ℕ) (c code : List ℕ) (some : 0 < length c) (f : take size (drop at d) ≡ c ++ code) where
+  sizes : min size (length d - at) ≡ length c + length code
+  sizes =
+      ap (λ n. min size n) (sym (length-drop at d)) ∙ sym (length-take size (drop at d)) ∙ ap length f ∙ length-append c code
+
+  long : length c ≤ length (take size (drop at d))
+  long = omega (arith, ap length f, length-append c code)
+
+  front-is : take (length c) (drop at d) ≡ c
+  front-is =
+      ap (take (length c)) (sym (take-append-drop size (drop at d)))
+      ∙ take-append-le (length c) (take size (drop at d)) (drop size (drop at d)) long
+      ∙ ap (take (length c)) f
+      ∙ take-at c code (length c) refl
+
+  part-is : partAt d at (length c) ≡ c
+  part-is =
+      let a : at ≤ length d = by-sizes (length d) at size (length c) (length code) some sizes .0 in
+      let b : length c ≤ length d - at = by-sizes (length d) at size (length c) (length code) some sizes .1 in
+      ap₂ (λ x y. pick x (pick y (take (length c) (drop at d)) []) []) (le-leb at (length d) a) (le-leb (length c) (length d - at) b) ∙ front-is
+    where
+      by-sizes : (n at size m z : ℕ) → 0 < m → min size (n - at) ≡ m + z → (at ≤ n) × (m ≤ n - at)
+      by-sizes n at size m z h e = (omega arith, omega arith)
+
+pub handed-part : (k : Keys) (d : List ℕ) (r : Record) (c : List ℕ) → 0 < length c → Sealed k d r c → partAt d (r .start + r .head) (length c) ≡ c
+unfolding fragmentBy
+handed-part k d r c some s =
+    part-is d (r .start + r .head) (r .size) c (codeBy (hmac (unitKey k (r .number))) (sizeOf (k .mac)) (r .number) (r .byte) c) some (s .is-coded)
+
+-- what a data answer says
+pub record DataFacts (h : Handshake) (d : List ℕ) (r : Record) : Type 0 where
+  pub c : List ℕ
+  pub w : Window
+  pub new : New h d r c w
+  pub is-data : r .content ≡ C.Data
+  pub some : 0 < length c
+
+module _ (h : Handshake) (random d : List ℕ) (r : Record) where
+  pub data-facts : {j : Judged} → Row h random d r j → isData (j .answer) ≡ true → DataFacts h d r
+  data-facts (row-ended e) z = true-false false z refl
+  data-facts (row-hello-while-open e) z = true-false false z refl
+  data-facts (row-not-allowed e o b) z = true-false false z refl
+  data-facts (row-not-first b i y) z = true-false false z refl
+  data-facts (row-reply plan g e) z = true-false false z refl
+  data-facts (row-hello-malformed fault g e) z = true-false false z refl
+  data-facts (row-unacceptable condition g e) z = true-false false z refl
+  data-facts (row-resent s i y e) z = true-false false z refl
+  data-facts (row-change s q c e) z = true-false false z refl
+  data-facts (row-change-malformed s q c e) z = true-false false z refl
+  data-facts (row-clear-malformed s q c e) z = true-false false z refl
+  data-facts (row-checksum b s q c e n) z = true-false false z refl
+  data-facts (row-clear-warning b s q c e m l) z = true-false false z refl
+  data-facts (row-clear-critical b s q c e m l) z = true-false false z refl
+  data-facts (row-clear-fatal b s q c e m l) z = true-false false z refl
+  data-facts (row-forged g f) z = true-false false z refl
+  data-facts (row-old c g s e) z = true-false false z refl
+  data-facts (row-repeated c g s e) z = true-false false z refl
+  data-facts (row-malformed c w n m) z = true-false false z refl
+  data-facts (row-data c w n e m) z = record { c = c; w = w; new = n; is-data = e; some = m }
+  data-facts (row-warning c w b n e m l) z = true-false false z refl
+  data-facts (row-critical c w b n e m l) z = true-false false z refl
+  data-facts (row-barred c w b n e m l) z = true-false false z refl
+  data-facts (row-open c w n s e m) z = true-false false z refl
+  data-facts (row-again c w n s e m) z = true-false false z refl
+  data-facts (row-wrong-finished c w n e m) z = true-false false z refl
+
+module _ (k : Keys) (expected : List ℕ) (course : Course) (h : Handshake) (a : Along k expected course h) (random d : List ℕ) (r : Record) (at : RecordOf d r) where
+  due-open : DataFacts h d r → course .shut ≡ false → (c : List ℕ) × Due k course d r c
+  due-open f z =
+      let e : acceptOf (windowOf (course .width) (course .numbers)) (r .number) ≡ A.New (f .w) (f .new .arrived)
+      = sym (ap (λ w. acceptOf w (r .number)) (a .window-same z)) ∙ f .new .accepted in
+      let q = new-facts (course .width) (a .held) (course .numbers) (r .number) (f .w) (f .new .arrived) e in (
+        f .c,
+        record {
+          not-shut = z;
+          genuine = record { in-place = at; is-sealed = subst (λ x. Sealed x d r (f .c)) (a .keys-same z) (f .new .coded) };
+          is-data = f .is-data;
+          some = f .some;
+          not-before = q .1;
+          recent = all-below (course .width) (course .numbers) (r .number) (q .0);
+        },
+      )
+
+  due-by : DataFacts h d r → (b : Bool) → course .shut ≡ b → (c : List ℕ) × Due k course d r c
+  due-by f false z = due-open f z
+  due-by f true z = true-false (ended (h .state)) (a .is-ended z) (sealed-live (h .state) (r .content) (f .new .guarded .kind))
+
+  data-due : (c : List ℕ) → Due k course d r c → judgedRecord h random d r .answer ≡ W.Data (r .number) (r .start + r .head) (length c)
+  data-due c u =
+      let z = u .not-shut in
+      let n : New h d r c (windowOf (course .width) (r .number ∷ course .numbers)) = record {
+        guarded = record { protection = u .genuine .is-sealed .is-protected; kind = ap (λ s. sealedAllowed s (r .content)) (a .is-open z) };
+        coded = subst (λ x. Sealed x d r c) (sym (a .keys-same z)) (u .genuine .is-sealed);
+        arrived = arrivedOf (course .width) (r .number ∷ course .numbers);
+        accepted = ap (λ w. acceptOf w (r .number)) (a .window-same z) ∙ due-new (course .width) (a .held) (course .numbers) (r .number) (u .not-before) (u .recent);
+      } in
+      ap (λ j. j .answer) (row-is h random d r (row-data c (windowOf (course .width) (r .number ∷ course .numbers)) n (u .is-data) (u .some)))
+
+  pub due-exactly : (isData (judgedRecord h random d r .answer) ≡ true) ↔ ((c : List ℕ) × Due k course d r c)
+  due-exactly =
+      (λ z. due-by (data-facts h random d r (row-of h random d r) z) (course .shut) refl, λ q. ap isData (data-due (q .0) (q .1)))
+
+  pub due-handed : (c : List ℕ) → Due k course d r c → handedOf d (judgedRecord h random d r .answer) ≡ c
+  due-handed c u = ap (handedOf d) (data-due c u) ∙ handed-part k d r c (u .some) (u .genuine .is-sealed)
+
+pub handed-out : HandedOut
+unfolding HandedOut
+handed-out id secret es sound is-open later more go random d r here =
+    let h₀ : Handshake = freshWith id secret in
+    let session : Session = sessionOf id secret in
+    let past : List Happened = history h₀ es [] in
+    let p : Progress session past (after h₀ es) = progress-all session es [] h₀ sound (progress-fresh id secret) in
+    let a : Along (keysIn session past) (expectedIn session past) (courseFrom session past later) (after (after h₀ es) later)
+    = along-all (keysIn session past) (expectedIn session past) later (record { width = windowWidth; numbers = acceptedIn past; shut = false }) (after h₀ es) (along-open session past (after h₀ es) p is-open) go in (
+      due-exactly (keysIn session past) (expectedIn session past) (courseFrom session past later) (after (after h₀ es) later) a random d r (here .1),
+      due-handed (keysIn session past) (expectedIn session past) (courseFrom session past later) (after (after h₀ es) later) a random d r (here .1),
+    )
+
+-- ---- once
+
+module _ (k : Keys) (expected : List ℕ) (n : ℕ) where
+  -- a number that was used up stays so
+  grows-by : (course more : Course) (b g e : Bool) → accepted (course .numbers) n ≡ true → accepted (more .numbers) n ≡ true
+      → accepted (pick b course (pick g (pick e more course) course) .numbers) n ≡ true
+  grows-by course more true g e x y = x
+  grows-by course more false true true x y = y
+  grows-by course more false true false x y = x
+  grows-by course more false false e x y = x
+
+  grows-record : (course : Course) (d : List ℕ) (r : Record) → accepted (course .numbers) n ≡ true → accepted (withRecord k expected course d r .numbers) n ≡ true
+  grows-record course d r x =
+      grows-by course (record { width = course .width; numbers = r .number ∷ course .numbers; shut = contentShuts (r .content) (contentBytes k d r) expected })
+      (course .shut) (genuineBytes k d r) (isNew (course .width) (course .numbers) (r .number)) x (accepted-still (r .number) n (course .numbers) x)
+
+  grows : (es : List Event) (course : Course) → accepted (course .numbers) n ≡ true → accepted (courseOf k expected course es .numbers) n ≡ true
+  unfolding courseOf
+  grows [] course x = x
+  grows (took random d r ∷ es) course x = grows es (withRecord k expected course d r) (grows-record course d r x)
+  grows (sending bytes out ∷ es) course x = grows es course x
+  grows (alerting sealed level description lent out ∷ es) course x = grows es course x
+  grows (closing ∷ es) course x = grows es course x
+  grows (starting ∷ es) course x = grows es course x
+
+-- the width stays
+width-by : (course more : Course) (b g e : Bool) → more .width ≡ course .width
+    → pick b course (pick g (pick e more course) course) .width ≡ course .width
+width-by course more true g e x = refl
+width-by course more false true true x = x
+width-by course more false true false x = refl
+width-by course more false false e x = refl
+
+width-stays : (k : Keys) (expected : List ℕ) (es : List Event) (course : Course) → courseOf k expected course es .width ≡ course .width
+unfolding courseOf
+width-stays k expected [] course = refl
+width-stays k expected (took random d r ∷ es) course =
+    width-stays k expected es (withRecord k expected course d r)
+    ∙ width-by course (record { width = course .width; numbers = r .number ∷ course .numbers; shut = contentShuts (r .content) (contentBytes k d r) expected })
+    (course .shut) (genuineBytes k d r) (isNew (course .width) (course .numbers) (r .number)) refl
+width-stays k expected (sending bytes out ∷ es) course = width-stays k expected es course
+width-stays k expected (alerting sealed level description lent out ∷ es) course = width-stays k expected es course
+width-stays k expected (closing ∷ es) course = width-stays k expected es course
+width-stays k expected (starting ∷ es) course = width-stays k expected es course
+
+-- what is due is used up
+due-used : (k : Keys) (expected : List ℕ) (course : Course) → Held (course .width) → (d : List ℕ) (r : Record) (c : List ℕ) → Due k course d r c
+    → accepted (withRecord k expected course d r .numbers) (r .number) ≡ true
+due-used k expected course held d r c u =
+    let s : Sealed k d r c = u .genuine .is-sealed in
+    let g : genuineBytes k d r ≡ true = ap₂ (λ p x. pick p x false) (s .is-protected) (sealed-right k d r c s) in
+    let n : isNew (course .width) (course .numbers) (r .number) ≡ true
+    = is-new (course .width) held (course .numbers) (r .number) (due-below (course .width) held (course .numbers) (r .number) (u .recent)) (u .not-before) in
+    let used : withRecord k expected course d r ≡ record { width = course .width; numbers = r .number ∷ course .numbers; shut = contentShuts (r .content) (contentBytes k d r) expected }
+    = λ i. pick (u .not-shut i) course (pick (g i) (pick (n i) (record { width = course .width; numbers = r .number ∷ course .numbers; shut = contentShuts (r .content) (contentBytes k d r) expected }) course) course) in
+    ap (λ x. accepted (x .numbers) (r .number)) used ∙ accepted-here (r .number) (course .numbers)
+
+course-more : (k : Keys) (expected : List ℕ) (es fs : List Event) (course : Course) → courseOf k expected course (es ++ fs) ≡ courseOf k expected (courseOf k expected course es) fs
+unfolding courseOf
+course-more k expected [] fs course = refl
+course-more k expected (e ∷ es) fs course = course-more k expected es fs (withEvent k expected course e)
+
+sound-more : (es fs : List Event) → AllSound es → AllSound fs → AllSound (es ++ fs)
+sound-more [] fs a b = b
+sound-more (e ∷ es) fs a b = (a .0, sound-more es fs (a .1) b)
+
+ongoing-front : (es fs : List Event) → Ongoing (es ++ fs) → Ongoing es
+ongoing-front [] fs g = tt
+ongoing-front (took random d r ∷ es) fs g = ongoing-front es fs g
+ongoing-front (sending bytes out ∷ es) fs g = ongoing-front es fs g
+ongoing-front (alerting sealed level description lent out ∷ es) fs g = ongoing-front es fs g
+ongoing-front (closing ∷ es) fs g = absurd g
+ongoing-front (starting ∷ es) fs g = absurd g
+
+pub handed-once : HandedOnce
+unfolding HandedOnce HandedOut courseOf
+handed-once id secret es sound is-open later between sl sb random d r random′ d′ r′ here there go x y same =
+    let h₀ : Handshake = freshWith id secret in
+    let session : Session = sessionOf id secret in
+    let past : List Happened = history h₀ es [] in
+    let k : Keys = keysIn session past in
+    let expected : List ℕ = expectedIn session past in
+    let first = handed-out id secret es sound is-open later sl (ongoing-front later (took random d r ∷ between) go) random d r here .0 .0 x in
+    let second = handed-out id secret es sound is-open (later ++ (took random d r ∷ between)) (sound-more later (took random d r ∷ between) sl (here, sb)) go random′ d′ r′ there .0 .0 y in
+    let held : Held (courseFrom session past later .width)
+    = subst Held (sym (width-stays k expected later (record { width = windowWidth; numbers = acceptedIn past; shut = false }))) held-ours in
+    let used : accepted (withRecord k expected (courseFrom session past later) d r .numbers) (r .number) ≡ true
+    = due-used k expected (courseFrom session past later) held d r (first .0) (first .1) in
+    let still : accepted (courseFrom session past (later ++ (took random d r ∷ between)) .numbers) (r .number) ≡ true
+    = ap (λ c. accepted (c .numbers) (r .number)) (course-more k expected later (took random d r ∷ between) (record { width = windowWidth; numbers = acceptedIn past; shut = false }))
+    ∙ grows k expected (r .number) between (withRecord k expected (courseFrom session past later) d r) used in
+    true-false (accepted (courseFrom session past (later ++ (took random d r ∷ between)) .numbers) (r′ .number)) (ap (accepted (courseFrom session past (later ++ (took random d r ∷ between)) .numbers)) (sym same) ∙ still) (second .1 .not-before)

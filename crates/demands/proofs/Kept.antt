@@ -1,0 +1,402 @@
+-- What is kept is what happened. The idea: each event changes the connection and the history alike; by the row of a record, or of a
+-- call, it is seen field by field. The window follows the history by the law of layer 2 (`Histories.meaning`).
+use mathlib.Core.Path.{_≡_, refl, sym, _∙_, ap, ap₂, subst}
+use mathlib.Core.Logic.{_⊎_, inl, inr, _≢_}
+use mathlib.Core.Bool.{Bool, true, false}
+use mathlib.Core.List.{List, [], _∷_, _++_}
+use Prim.Native.Nat.{ℕ, zero, suc, _+_, _-_, _≤_, _<_}
+use native.Mathlib.Omega.{arith}
+use lib.ListN.{length, take, replicate}
+use lib.Dec.{lit<}
+use lib.Seq.{take-at}
+use Rattle.digest.specs.Pick.{pick}
+use Rattle.digest.specs.Bytes.{wordAt, laidOver}
+use Rattle.record.specs.Checksum.{checksumOf, padded, xorBlocks}
+use Rattle.record.specs.Window.{acceptOf, tooOld, windowWidth, emptied, Held}
+use Rattle.record.specs.History.{windowOf, arrivedOf, accepted, highestOf, judgedOf}
+use Rattle.record.specs.declared.header.Content.{Content}
+use Rattle.record.specs.declared.header.Content.the-variants as C
+use Rattle.record.specs.declared.reader.Record.{Record}
+use Rattle.record.specs.declared.window.Window.{Window}
+use Rattle.record.specs.declared.window.Acceptance.{Acceptance}
+use Rattle.record.specs.declared.window.Acceptance.the-variants as A
+use Rattle.record.proofs.Histories.{meaning, fresh-means, new-means, held-ours}
+use Rattle.message.specs.Acceptance.{heardOf}
+use Rattle.message.specs.declared.alert.Description.{Description}
+use Rattle.message.specs.declared.acceptance.Plan.{Plan}
+use Rattle.message.specs.declared.acceptance.Heard.the-variants as H
+use Rattle.connection.specs.Calls.{sessionOf}
+use Rattle.digest.specs.declared.mac.Mac.{Mac}
+use Rattle.connection.specs.Handshake.{withState, withWindow, barred, reopened, nothingKept, noSession, nothingAgreed, keptHello, keptReply}
+use Rattle.connection.specs.Judge.{judgedRecord, fragmentOf}
+use Rattle.connection.specs.Reply.{answeredWith, replyTo, padTo}
+use Rattle.connection.specs.Send.{nextProtected, nextAlert, alertBody, afterAlert}
+use Rattle.connection.specs.declared.state.State.{State}
+use Rattle.connection.specs.declared.state.State.the-variants as S
+use Rattle.connection.specs.declared.refusal.Refusal.{Refusal}
+use Rattle.connection.specs.declared.refusal.Refusal.the-variants as X
+use Rattle.connection.specs.declared.answer.Answer.{Answer}
+use Rattle.connection.specs.declared.answer.Answer.the-variants as W
+use Rattle.connection.specs.declared.answer.Judged.{Judged}
+use Rattle.connection.specs.declared.handshake.Handshake.{Handshake}
+use Rattle.connection.specs.declared.handshake.Session.{Session}
+use Rattle.demands.specs.Runs.{Call, send-data, send-alert, close, start, Step, stepOf}
+use Rattle.demands.specs.Table.{Row, ended, sealedAllowed, Hears, New, Guarded, Greets, isHello}
+use Rattle.demands.specs.Table.{row-ended, row-hello-while-open, row-not-allowed, row-not-first, row-reply, row-hello-malformed, row-unacceptable, row-resent, row-change, row-change-malformed, row-clear-malformed, row-checksum, row-clear-warning, row-clear-critical, row-clear-fatal, row-forged, row-old, row-repeated, row-malformed, row-data, row-warning, row-critical, row-barred, row-open, row-again, row-wrong-finished}
+use Rattle.demands.specs.Calls.{CallRow, data-16, data-7, data-8, data-15, data-6, data-sent, alert-16, alert-7, alert-8, alert-15, alert-6, alert-sent, close-7, close-done, start-7, start-8, start-done}
+use Rattle.demands.specs.Refusals.{writtenBy}
+use Rattle.demands.specs.Events.{Event, took, sending, alerting, closing, starting, Sound, AllSound, Happened, answered, wrote, closed, started, refused, ifDone, connectionOf, next, happening, after, history}
+use Rattle.demands.specs.Past.{greeting, isReply, isSpec, isBarred, marks, lastReply, keptGreeting, agreedFor, agreedAs, helloAs, replyFor, replyHeard, nextSealed, nextClearNumber, lastWritten, lastHeard, acceptedIn, barredIn}
+use Rattle.demands.specs.Runs.{freshWith}
+use Rattle.demands.specs.Kept.{KeptAs, KeptIsWhatHappened}
+use Rattle.demands.proofs.Genuine.{true-false}
+use Rattle.demands.proofs.Table.{row-of}
+use Rattle.demands.proofs.Changes.{hello-clear}
+use Rattle.demands.proofs.Calls.{call-of}
+use Rattle.demands.proofs.Refusals.{outcomeIn, laid-front}
+
+-- ---- the window
+
+-- the window after a new number
+pub window-more : (width : ℕ) → Held width → (past : List ℕ) (s : ℕ) (w : Window) (n : ℕ) → acceptOf (windowOf width past) s ≡ A.New w n
+    → w ≡ windowOf width (s ∷ past)
+window-more width held past s w n e = new-means width past s w n (sym (meaning width held past s) ∙ e) .2
+
+-- what is blank stays so
+blank-again : (m : Mac) (n : ℕ) → nothingAgreed m n ≡ nothingAgreed (nothingAgreed m n .mac) (nothingAgreed m n .refresh)
+unfolding nothingAgreed
+blank-again m n = refl
+
+-- ---- states
+
+pub hears-live : (s : State) → Hears s → ended s ≡ false
+hears-live s (inl e) = ap ended e
+hears-live s (inr e) = ap ended e
+
+pub sealed-live : (s : State) (c : Content) → sealedAllowed s c ≡ true → ended s ≡ false
+sealed-live S.Idle c e = refl
+sealed-live S.Replied c e = refl
+sealed-live S.Spec c e = refl
+sealed-live S.Open c e = refl
+sealed-live S.Closed c e = true-false false e refl
+sealed-live S.Barred c e = true-false false e refl
+
+pub greets-live : (h : Handshake) (d : List ℕ) (r : Record) → (h .state ≡ S.Idle) ⊎ (Hears (h .state) × (fragmentOf d r ≢ keptHello h)) → ended (h .state) ≡ false
+greets-live h d r (inl e) = ap ended e
+greets-live h d r (inr (e, n)) = hears-live (h .state) e
+
+-- ---- one event more
+
+both-no : (b : Bool) → pick b false false ≡ false
+both-no true = refl
+both-no false = refl
+
+module _ (session : Session) (past : List Happened) (h : Handshake) (k : KeptAs session past h) where
+  -- a connection that is not ended was not barred
+  pub live : ended (h .state) ≡ false → barredIn past ≡ false
+  live e = by-bar (barredIn past) refl
+    where
+      by-bar : (b : Bool) → barredIn past ≡ b → barredIn past ≡ false
+      by-bar false f = f
+      by-bar true f = true-false (ended (h .state)) (ap ended (k .barred-is f .0)) e
+
+  module _ (random d : List ℕ) (r : Record) where
+    -- an answer that is no reply and bars nothing
+    kept-by : (x : Handshake) (a : Answer) → isReply a ≡ false → isBarred a ≡ false → x .session ≡ h .session → x .agreed ≡ h .agreed
+        → x .kept ≡ h .kept → x .sending ≡ h .sending → x .window ≡ windowOf windowWidth (acceptedIn (answered random d r a ∷ past))
+        → (barredIn past ≡ true → x .state ≡ S.Barred) → KeptAs session (answered random d r a ∷ past) x
+    unfolding lastReply keptGreeting nextSealed nextClearNumber lastWritten barredIn
+    kept-by x a nr nb es ea ek en ew st =
+        let bar : pick (isBarred a) true (barredIn past) ≡ barredIn past = ap (λ b. pick b true (barredIn past)) nb in
+        record {
+          session-is = λ f. es ∙ k .session-is (sym bar ∙ f);
+          agreed-is = λ f. ea ∙ k .agreed-is (sym bar ∙ f) ∙ sym (ap (λ b. agreedFor session (pick b (greeting (fragmentOf d r) random) (lastReply past))) nr);
+          hello-is = λ f. ap (λ y. take (y .heard) (y .hello)) ek ∙ k .hello-is (sym bar ∙ f) ∙ sym (ap (λ b. helloAs (pick b (greeting (fragmentOf d r) random) (keptGreeting past))) nr);
+          reply-is = λ f. ap (λ y. take (y .size) (y .reply)) ek ∙ k .reply-is (sym bar ∙ f) ∙ sym (ap (λ b. replyFor session (pick b (greeting (fragmentOf d r) random) (keptGreeting past))) nr);
+          sealed-is = ap (λ y. y .protected) en ∙ k .sealed-is ∙ sym (ap (λ b. pick b 1 (nextSealed past)) nr);
+          clear-is = ap (λ y. y .clear) en ∙ k .clear-is ∙ sym (ap (λ b. pick b 2 (nextClearNumber past)) nr);
+          last-is = ap (λ y. y .last) en ∙ k .last-is
+              ∙ sym (ap (λ b. wordAt (checksumOf (pick b (lastHeard session random (fragmentOf d r) (heardOf (fragmentOf d r) (session .id))) (lastWritten session past))) 0) nr);
+          window-is = ew;
+          barred-is = λ f. (
+            st (sym bar ∙ f),
+            es ∙ k .barred-is (sym bar ∙ f) .1,
+            ek ∙ k .barred-is (sym bar ∙ f) .2,
+            ea ∙ k .barred-is (sym bar ∙ f) .3 ∙ sym (ap (λ y. nothingAgreed (y .mac) (y .refresh)) ea),
+          );
+        }
+
+    -- the numbers accepted: the same where the record is clear or the answer marks nothing; one more where it marks
+    accepted-clear : (a : Answer) → isSpec a ≡ false → r .protected ≡ false → acceptedIn (answered random d r a ∷ past) ≡ acceptedIn past
+    unfolding acceptedIn
+    accepted-clear a ns p =
+        ap (λ b. pick b [] (pick (pick (r .protected) (marks a) false) (r .number ∷ acceptedIn past) (acceptedIn past))) ns
+        ∙ ap (λ b. pick (pick b (marks a) false) (r .number ∷ acceptedIn past) (acceptedIn past)) p
+
+    accepted-unmarked : (a : Answer) → isSpec a ≡ false → marks a ≡ false → acceptedIn (answered random d r a ∷ past) ≡ acceptedIn past
+    unfolding acceptedIn
+    accepted-unmarked a ns m =
+        ap (λ b. pick b [] (pick (pick (r .protected) (marks a) false) (r .number ∷ acceptedIn past) (acceptedIn past))) ns
+        ∙ ap (λ b. pick (pick (r .protected) b false) (r .number ∷ acceptedIn past) (acceptedIn past)) m
+        ∙ ap (λ b. pick b (r .number ∷ acceptedIn past) (acceptedIn past)) (both-no (r .protected))
+
+    accepted-marked : (a : Answer) → isSpec a ≡ false → marks a ≡ true → r .protected ≡ true
+        → acceptedIn (answered random d r a ∷ past) ≡ r .number ∷ acceptedIn past
+    unfolding acceptedIn
+    accepted-marked a ns m p =
+        ap (λ b. pick b [] (pick (pick (r .protected) (marks a) false) (r .number ∷ acceptedIn past) (acceptedIn past))) ns
+        ∙ ap₂ (λ b c. pick (pick b c false) (r .number ∷ acceptedIn past) (acceptedIn past)) p m
+
+    -- nothing changed
+    refused-by : (x : Refusal) → marks (W.Refused x) ≡ false → KeptAs session (answered random d r (W.Refused x) ∷ past) h
+    refused-by x m =
+        kept-by h (W.Refused x) refl refl refl refl refl refl (k .window-is ∙ sym (ap (windowOf windowWidth) (accepted-unmarked (W.Refused x) refl m))) (λ f. k .barred-is f .0)
+
+    clear-by : (a : Answer) (x : Handshake) → isReply a ≡ false → isBarred a ≡ false → isSpec a ≡ false → r .protected ≡ false
+        → x .session ≡ h .session → x .agreed ≡ h .agreed → x .kept ≡ h .kept → x .sending ≡ h .sending → x .window ≡ h .window
+        → ended (h .state) ≡ false → KeptAs session (answered random d r a ∷ past) x
+    clear-by a x nr nb ns p es ea ek en ew l =
+        kept-by x a nr nb es ea ek en (ew ∙ k .window-is ∙ sym (ap (windowOf windowWidth) (accepted-clear a ns p)))
+        (λ f. true-false (barredIn past) f (live l))
+
+    -- the mark of a new number
+    window-marked : (c : List ℕ) (w : Window) → New h d r c w → (a : Answer) → isSpec a ≡ false → marks a ≡ true
+        → w ≡ windowOf windowWidth (acceptedIn (answered random d r a ∷ past))
+    window-marked c w n a ns m =
+        window-more windowWidth held-ours (acceptedIn past) (r .number) w (n .arrived) (sym (ap (λ y. acceptOf y (r .number)) (k .window-is)) ∙ n .accepted)
+        ∙ sym (ap (windowOf windowWidth) (accepted-marked a ns m (n .guarded .protection)))
+
+    marked-by : (c : List ℕ) (w : Window) → New h d r c w → (a : Answer) (s : State) → isReply a ≡ false → isBarred a ≡ false → isSpec a ≡ false
+        → marks a ≡ true → KeptAs session (answered random d r a ∷ past) (withState (withWindow h w) s)
+    marked-by c w n a s nr nb ns m =
+        kept-by (withState (withWindow h w) s) a nr nb refl refl refl refl (window-marked c w n a ns m)
+        (λ f. true-false (barredIn past) f (live (sealed-live (h .state) (r .content) (n .guarded .kind))))
+
+    replied : (plan : Plan) → Greets h d r → heardOf (fragmentOf d r) (h .session .id) ≡ H.Accepted plan
+        → KeptAs session (answered random d r (W.Reply (length (replyTo (h .session) random (fragmentOf d r) plan))) ∷ past) (answeredWith h random (fragmentOf d r) plan)
+    unfolding answeredWith lastReply keptGreeting nextSealed nextClearNumber lastWritten barredIn
+    replied plan g e =
+        let m : List ℕ = fragmentOf d r in
+        let reply : List ℕ = replyTo (h .session) random m plan in
+        let l : barredIn past ≡ false = live (greets-live h d r (g .another)) in
+        let es : h .session ≡ session = k .session-is l in
+        record {
+          session-is = λ f. es;
+          agreed-is = λ f. ap (agreedAs (h .session) random m) (sym e) ∙ ap (λ s. agreedAs s random m (heardOf m (s .id))) es;
+          hello-is = λ f. take-at m (replicate (256 - length m) 0) (length m) refl;
+          reply-is = λ f. take-at reply (replicate (84 - length reply) 0) (length reply) refl
+              ∙ ap (replyHeard (h .session) random m) (sym e) ∙ ap (λ s. replyHeard s random m (heardOf m (s .id))) es;
+          sealed-is = refl;
+          clear-is = refl;
+          last-is = ap (λ x. wordAt (checksumOf (lastHeard (h .session) random m x)) 0) (sym e)
+              ∙ ap (λ s. wordAt (checksumOf (lastHeard s random m (heardOf m (s .id)))) 0) es;
+          window-is = k .window-is ∙ sym (ap (windowOf windowWidth) (accepted-unmarked (W.Reply (length reply)) refl refl));
+          barred-is = λ f. true-false (barredIn past) f l;
+        }
+
+    barred-by : (c : List ℕ) (w : Window) → New h d r c w → (x : Description)
+        → KeptAs session (answered random d r (W.Barred x) ∷ past) (barred (withWindow h w))
+    unfolding nextSealed nextClearNumber lastWritten barredIn
+    barred-by c w n x =
+        record {
+          session-is = λ f. true-false true refl f;
+          agreed-is = λ f. true-false true refl f;
+          hello-is = λ f. true-false true refl f;
+          reply-is = λ f. true-false true refl f;
+          sealed-is = k .sealed-is;
+          clear-is = k .clear-is;
+          last-is = k .last-is;
+          window-is = window-marked c w n (W.Barred x) refl refl;
+          barred-is = λ f. (refl, refl, refl, blank-again (h .agreed .mac) (h .agreed .refresh));
+        }
+
+    fresh-again : emptied (h .window) ≡ windowOf windowWidth (acceptedIn (answered random d r W.Spec ∷ past))
+    unfolding acceptedIn
+    fresh-again = ap emptied (k .window-is) ∙ fresh-means windowWidth
+
+    -- the rows
+    pub by-row : {j : Judged} → Row h random d r j → KeptAs session (answered random d r (j .answer) ∷ past) (j .handshake)
+    by-row (row-ended e) = refused-by X.Ended refl
+    by-row (row-hello-while-open e) = refused-by X.HelloWhileOpen refl
+    by-row (row-not-allowed e o a) = refused-by X.NotAllowed refl
+    by-row (row-not-first a i z) = refused-by X.NotAllowed refl
+    by-row (row-reply plan g e) = replied plan g e
+    by-row (row-hello-malformed fault g e) =
+        clear-by (W.Refused X.Malformed) h refl refl refl (hello-clear h random d r (g .hello)) refl refl refl refl refl (greets-live h d r (g .another))
+    by-row (row-unacceptable condition g e) = refused-by X.Unacceptable refl
+    by-row (row-resent s i z e) =
+        clear-by (W.Resent (length (keptReply h))) h refl refl refl (hello-clear h random d r i) refl refl refl refl refl (hears-live (h .state) s)
+    by-row (row-change s p c e) =
+        kept-by (withState (withWindow h (emptied (h .window))) S.Spec) W.Spec refl refl refl refl refl refl fresh-again (λ f. true-false (barredIn past) f (live (ap ended s)))
+    by-row (row-change-malformed s p c e) = clear-by (W.Refused X.Malformed) h refl refl refl p refl refl refl refl refl (ap ended s)
+    by-row (row-clear-malformed s p c e) = clear-by (W.Refused X.Malformed) h refl refl refl p refl refl refl refl refl (hears-live (h .state) s)
+    by-row (row-checksum a s p c e n) = refused-by X.Checksum refl
+    by-row (row-clear-warning a s p c e q l) = clear-by (W.Warning (a .description)) h refl refl refl p refl refl refl refl refl (hears-live (h .state) s)
+    by-row (row-clear-critical a s p c e q l) =
+        clear-by (W.Critical (a .description)) (withState h S.Closed) refl refl refl p refl refl refl refl refl (hears-live (h .state) s)
+    by-row (row-clear-fatal a s p c e q l) =
+        clear-by (W.Fatal (a .description)) (withState h S.Closed) refl refl refl p refl refl refl refl refl (hears-live (h .state) s)
+    by-row (row-forged g f) = refused-by X.Forged refl
+    by-row (row-old c g s e) = refused-by X.TooOld refl
+    by-row (row-repeated c g s e) = refused-by X.Repeated refl
+    by-row (row-malformed c w n m) = marked-by c w n (W.Refused X.Malformed) (h .state) refl refl refl refl
+    by-row (row-data c w n e m) = marked-by c w n (W.Data (r .number) (r .start + r .head) (length c)) (h .state) refl refl refl refl
+    by-row (row-warning c w a n e m l) = marked-by c w n (W.Warning (a .description)) (h .state) refl refl refl refl
+    by-row (row-critical c w a n e m l) = marked-by c w n (W.Critical (a .description)) S.Closed refl refl refl refl
+    by-row (row-barred c w a n e m l) = barred-by c w n (a .description)
+    by-row (row-open c w n s e m) = marked-by c w n W.Open S.Open refl refl refl refl
+    by-row (row-again c w n s e m) = marked-by c w n W.Again (h .state) refl refl refl refl
+    by-row (row-wrong-finished c w n e m) = marked-by c w n (W.Refused X.WrongFinished) S.Closed refl refl refl refl
+
+  -- a call that is refused
+  refused-more : KeptAs session (refused ∷ past) h
+  unfolding lastReply keptGreeting nextSealed nextClearNumber lastWritten acceptedIn barredIn
+  refused-more =
+      record {
+        session-is = k .session-is;
+        agreed-is = k .agreed-is;
+        hello-is = k .hello-is;
+        reply-is = k .reply-is;
+        sealed-is = k .sealed-is;
+        clear-is = k .clear-is;
+        last-is = k .last-is;
+        window-is = k .window-is;
+        barred-is = k .barred-is;
+      }
+
+  -- a record of ours
+  wrote-more : (sealed : Bool) (bytes front : List ℕ) → front ≡ bytes → KeptAs session (wrote sealed front ∷ past) (afterAlert sealed h bytes)
+  unfolding lastReply keptGreeting nextSealed nextClearNumber lastWritten acceptedIn barredIn
+  wrote-more true bytes front e =
+      record {
+        session-is = k .session-is;
+        agreed-is = k .agreed-is;
+        hello-is = k .hello-is;
+        reply-is = k .reply-is;
+        sealed-is = ap (λ n. n + 1) (k .sealed-is);
+        clear-is = k .clear-is;
+        last-is = ap (λ b. wordAt (checksumOf b) 0) (sym e);
+        window-is = k .window-is;
+        barred-is = k .barred-is;
+      }
+  wrote-more false bytes front e =
+      record {
+        session-is = k .session-is;
+        agreed-is = k .agreed-is;
+        hello-is = k .hello-is;
+        reply-is = k .reply-is;
+        sealed-is = k .sealed-is;
+        clear-is = ap (λ n. n + 1) (k .clear-is);
+        last-is = ap (λ b. wordAt (checksumOf b) 0) (sym e);
+        window-is = k .window-is;
+        barred-is = k .barred-is;
+      }
+
+  closed-more : barredIn past ≡ false → KeptAs session (closed ∷ past) (withState h S.Closed)
+  unfolding lastReply keptGreeting nextSealed nextClearNumber lastWritten acceptedIn barredIn
+  closed-more l =
+      record {
+        session-is = k .session-is;
+        agreed-is = k .agreed-is;
+        hello-is = k .hello-is;
+        reply-is = k .reply-is;
+        sealed-is = k .sealed-is;
+        clear-is = k .clear-is;
+        last-is = k .last-is;
+        window-is = k .window-is;
+        barred-is = λ f. true-false (barredIn past) f l;
+      }
+
+  started-more : barredIn past ≡ false → KeptAs session (started ∷ past) (reopened h)
+  unfolding lastReply keptGreeting nextSealed nextClearNumber lastWritten acceptedIn barredIn nothingKept
+  started-more l =
+      record {
+        session-is = k .session-is;
+        agreed-is = k .agreed-is;
+        hello-is = λ f. refl;
+        reply-is = λ f. refl;
+        sealed-is = k .sealed-is;
+        clear-is = k .clear-is;
+        last-is = k .last-is;
+        window-is = ap emptied (k .window-is) ∙ fresh-means windowWidth;
+        barred-is = λ f. true-false (barredIn past) f l;
+      }
+
+  not-barred : (h .state ≢ S.Barred) → (b : Bool) → barredIn past ≡ b → barredIn past ≡ false
+  not-barred n false f = f
+  not-barred n true f = absurd (n (k .barred-is f .0))
+
+  by-data : (bytes out : List ℕ) {s : Step} → CallRow (connectionOf h) (send-data bytes out) s
+      → KeptAs session (ifDone (outcomeIn (s .result)) (wrote true (take (writtenBy (s .result)) (s .output))) ∷ past) (s .connection .handshake)
+  by-data bytes out (data-16 b) = refused-more
+  by-data bytes out (data-7 g e) = refused-more
+  by-data bytes out (data-8 g e n) = refused-more
+  by-data bytes out (data-15 g e n) = refused-more
+  by-data bytes out (data-6 g e n l) = refused-more
+  by-data bytes out (data-sent g e n l) =
+      let b : List ℕ = nextProtected h C.Data bytes in wrote-more true b (take (length b) (laidOver out 0 b)) (laid-front out b)
+
+  by-alert : (sealed : Bool) (level description : ℕ) (lent out : List ℕ) {s : Step} → CallRow (connectionOf h) (send-alert sealed level description lent out) s
+      → KeptAs session (ifDone (outcomeIn (s .result)) (wrote sealed (take (writtenBy (s .result)) (s .output))) ∷ past) (s .connection .handshake)
+  by-alert sealed level description lent out (alert-16 b) = refused-more
+  by-alert sealed level description lent out (alert-7 g e) = refused-more
+  by-alert sealed level description lent out (alert-8 g e f) = refused-more
+  by-alert sealed level description lent out (alert-15 g e n) = refused-more
+  by-alert sealed level description lent out (alert-6 g e n l) = refused-more
+  by-alert sealed level description lent out (alert-sent {l = v} {k = m} g e n l) =
+      let b : List ℕ = nextAlert sealed h (alertBody v m lent) in wrote-more sealed b (take (length b) (laidOver out 0 b)) (laid-front out b)
+
+  by-close : {s : Step} → CallRow (connectionOf h) close s → KeptAs session (ifDone (outcomeIn (s .result)) closed ∷ past) (s .connection .handshake)
+  by-close (close-7 e) = refused-more
+  by-close (close-done n) = closed-more (not-barred n (barredIn past) refl)
+
+  by-start : {s : Step} → CallRow (connectionOf h) start s → KeptAs session (ifDone (outcomeIn (s .result)) started ∷ past) (s .connection .handshake)
+  by-start (start-7 e) = refused-more
+  by-start (start-8 n m) = refused-more
+  by-start (start-done e) = started-more (live-closed (barredIn past) refl)
+    where
+      live-closed : (b : Bool) → barredIn past ≡ b → barredIn past ≡ false
+      live-closed false f = f
+      live-closed true f =
+          let z : S.Closed ≡ S.Barred = sym e ∙ k .barred-is f .0 in let w : _≡_ {A = ℕ} 0 1 = cc in absurd (omega arith)
+
+  pub kept-more : (e : Event) → KeptAs session (happening h e ∷ past) (next h e)
+  unfolding stepOf
+  kept-more (took random d r) = by-row random d r (row-of h random d r)
+  kept-more (sending bytes out) = by-data bytes out (call-of (connectionOf h) (send-data bytes out))
+  kept-more (alerting sealed level description lent out) =
+      by-alert sealed level description lent out (call-of (connectionOf h) (send-alert sealed level description lent out))
+  kept-more closing = by-close (call-of (connectionOf h) close)
+  kept-more starting = by-start (call-of (connectionOf h) start)
+
+-- ---- a whole run
+
+pub kept-all : (session : Session) (es : List Event) (past : List Happened) (h : Handshake) → KeptAs session past h
+    → KeptAs session (history h es past) (after h es)
+unfolding history after
+kept-all session [] past h k = k
+kept-all session (e ∷ es) past h k = kept-all session es (happening h e ∷ past) (next h e) (kept-more session past h k e)
+
+no-checksum : 0 ≡ wordAt (checksumOf []) 0
+unfolding checksumOf wordAt padded xorBlocks
+no-checksum = refl
+
+pub kept-fresh : (id secret : List ℕ) → KeptAs (sessionOf id secret) [] (freshWith id secret)
+unfolding lastReply keptGreeting nextSealed nextClearNumber lastWritten acceptedIn barredIn nothingKept nothingAgreed
+kept-fresh id secret =
+    record {
+      session-is = λ f. refl;
+      agreed-is = λ f. refl;
+      hello-is = λ f. refl;
+      reply-is = λ f. refl;
+      sealed-is = refl;
+      clear-is = refl;
+      last-is = no-checksum;
+      window-is = fresh-means windowWidth;
+      barred-is = λ f. true-false false f refl;
+    }
+
+pub kept-is-what-happened : KeptIsWhatHappened
+unfolding KeptIsWhatHappened
+kept-is-what-happened id secret es =
+    kept-all (sessionOf id secret) es [] (freshWith id secret) (kept-fresh id secret)
