@@ -192,15 +192,15 @@ saved-loads c r =
 
 -- ---- saving what was loaded
 
-cuts : List ℕ → ℕ → List ℕ → List (List ℕ)
+unfoldable pub cuts : List ℕ → ℕ → List ℕ → List (List ℕ)
 cuts [] at b = []
 cuts (n ∷ ns) at b = bytesIn b at n ∷ cuts ns (at + n) b
 
-total : List ℕ → ℕ
+unfoldable pub total : List ℕ → ℕ
 total [] = 0
 total (n ∷ ns) = n + total ns
 
-cut-joined : (ns : List ℕ) (at : ℕ) (b : List ℕ) → joined (cuts ns at b) ≡ bytesIn b at (total ns)
+pub cut-joined : (ns : List ℕ) (at : ℕ) (b : List ℕ) → joined (cuts ns at b) ≡ bytesIn b at (total ns)
 unfolding joined cuts total
 cut-joined [] at b = refl
 cut-joined (n ∷ ns) at b =

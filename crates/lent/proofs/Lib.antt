@@ -4,6 +4,7 @@ pub mod Reading
 pub mod Calling
 pub mod Numbers
 pub mod Back
+pub mod TallyHolds
 pub mod Results
 pub mod Sizes
 pub mod Coincide
