@@ -137,7 +137,7 @@ static void shore_open(struct shore *s, int made_by, unsigned refresh) {
     if (s->secret_key.context == NULL) s->secret_key.context = HMAC_CTX_new(), s->record_key.context = HMAC_CTX_new();
 }
 
-/* ---- Ours: the same connection, in its 458 bytes (the places are in crates/gateway/specs/Saved.antt). */
+/* ---- Ours: the same connection, in its 458 bytes (the places are in crates/lent/specs/Saved.antt). */
 
 static uint8_t state[GATEWAY_STATE_SIZE], tally[GATEWAY_TALLY_SIZE], answers[GATEWAY_ANSWERS_SIZE], out[128], fresh_random[16];
 

@@ -10,7 +10,7 @@
    What the caller owes: each pointer has as many bytes behind it as the length beside it says (with a length of 0 it may be
    NULL), one that is not const overlaps no other of that call, and nothing else touches them before it returns.
 
-   `crates/gateway/src/lib.rt` has each promise below as a theorem, by the definitions in `crates/gateway/specs` and
+   `crates/gateway/src/lib.rt` has each promise below as a theorem, by the definitions in `crates/lent/specs` and
    `crates/connection/specs`. */
 #ifndef GATEWAY_H
 #define GATEWAY_H
@@ -23,7 +23,7 @@ extern "C" {
 #endif
 
 /* The sizes of what is lent, in bytes. */
-#define GATEWAY_STATE_SIZE 458   /* a connection; the places are listed in crates/gateway/specs/Saved.antt */
+#define GATEWAY_STATE_SIZE 458   /* a connection; the places are listed in crates/lent/specs/Saved.antt */
 #define GATEWAY_TALLY_SIZE 16    /* a tally: handed out, forged, too old, repeated; four bytes each, high byte first */
 #define GATEWAY_ANSWERS_SIZE 192 /* the answers of a receive: eight of 24 bytes each */
 #define GATEWAY_ANSWER_SIZE 24
@@ -115,8 +115,8 @@ uint64_t gateway_fresh(const uint8_t *id, size_t id_size, const uint8_t *secret,
    is the caller's duty), `out` has room of at least 128 bytes for the reply.
    Done: the count is the number of records, 1 to 8, and `answers` has an answer for each, in their order, and GATEWAY_NOTHING
    behind them; where answer 0 is a reply or a resent one, the bytes written stand at the front of `out` and are to be sent, else
-   none is written; the connection is as the records left it; each count of the tally that a record belongs to is one higher, up
-   to 2^32 - 1. No other byte of `out` is touched.
+   none is written; the connection is as the records left it; each record handed out, forged, too old or repeated has raised its
+   count of the tally by one, so a datagram raises a count by up to eight, never above 2^32 - 1. No other byte of `out` is touched.
    Refused: 16 (random not 16 bytes, or no saved connection, or a tally or answers of another size), 6 (room under 128), or the
    framing, 1 to 5, with the offset of the record at fault as the count. */
 uint64_t gateway_receive(uint8_t *state, size_t state_size, uint8_t *tally, size_t tally_size,

@@ -4,23 +4,10 @@ use mathlib.Core.List.{List, [], _∷_}
 use Prim.Native.Nat.{ℕ}
 use lib.Dec.{eqb}
 use Rattle.digest.specs.Pick.{pick}
-use Rattle.digest.specs.Mac.{sameBytes}
-use Rattle.console.specs.Words.{spacesIn, wordAt}
-use Rattle.console.specs.Hex.{isBytes}
-use Rattle.console.specs.Decimal.{isNumber}
+use Rattle.lines.specs.Words.{spacesIn}
+use Rattle.lines.specs.Said.{isNamed, bytesAt, numberAt}
 use Rattle.console.specs.declared.call.Call.{Call}
 use Rattle.console.specs.declared.call.Call.the-variants.{Fresh, Receive, Send, Alert, Close, Start, Bad}
-
--- the word of an index is this one
-abbrev pub isNamed : List ℕ → ℕ → List ℕ → Bool
-isNamed l k name = sameBytes (wordAt l k) name
-
--- the word of an index is a byte string; is a number of at most `most`
-abbrev pub bytesAt : List ℕ → ℕ → Bool
-bytesAt l k = isBytes (wordAt l k)
-
-abbrev pub numberAt : List ℕ → ℕ → ℕ → Bool
-numberAt l k most = isNumber (wordAt l k) most
 
 -- fresh ID SECRET
 abbrev pub freshWords : List ℕ → Bool

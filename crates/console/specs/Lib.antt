@@ -1,5 +1,2 @@
 -- What the words of a line say.
-pub mod Words
-pub mod Hex
-pub mod Decimal
 pub mod Call

@@ -2,12 +2,11 @@
 ghost use mathlib.Core.Path.{_≡_};
 ghost use mathlib.Core.Bool.{true, false};
 ghost use Rattle.digest.specs.Pick.{pick};
-ghost use Rattle.console.specs.Call.{isNamed, bytesAt, numberAt, freshWords, receiveWords, sendWords, isSense, alertWords, callIf, callOf, callIn};
-use crate::hex::is_bytes;
-use crate::number::is_number;
-use crate::words::spaces;
-use crate::words::word;
-use digest::same_code;
+ghost use Rattle.console.specs.Call.{freshWords, receiveWords, sendWords, isSense, alertWords, callIf, callOf, callIn};
+use lines::said::bytes_at;
+use lines::said::named;
+use lines::said::number_at;
+use lines::words::spaces;
 
 // The most bytes of output that a line may lend.
 const ROOM: usize = 2048;
@@ -134,25 +133,4 @@ fn either(a: bool, b: bool) -> bool
         return true;
     }
     b
-}
-
-// Whether the word of an index is this one.
-pub fn named(line: &[u8], index: usize, name: &[u8]) -> bool
-    ensures { λ r. ⌜ r ≡ isNamed (now (line .entry)) index (now (name .entry)) ⌝ }
-{
-    same_code(word(line, index), name)
-}
-
-// Whether the word of an index is a byte string.
-fn bytes_at(line: &[u8], index: usize) -> bool
-    ensures { λ r. ⌜ r ≡ bytesAt (now (line .entry)) index ⌝ }
-{
-    is_bytes(word(line, index))
-}
-
-// Whether the word of an index is a number of at most `most`.
-fn number_at(line: &[u8], index: usize, most: usize) -> bool
-    ensures { λ r. ⌜ r ≡ numberAt (now (line .entry)) index most ⌝ }
-{
-    is_number(word(line, index), most)
 }

@@ -4,12 +4,9 @@ use crate::console::Console;
 use crate::console::Ran;
 use crate::outcome::bad_line;
 use crate::run::run;
-use crate::text::flush;
-
-const NEWLINE: u8 = 10;
-
-// The size of a held line that is longer than the buffer: its bytes are dropped.
-const TOO_LONG: usize = 8193;
+use lines::held::hold;
+use lines::held::is_newline;
+use lines::text::flush;
 
 // The console after a chunk, and the size of the line that is held.
 pub struct Fed {
@@ -26,7 +23,7 @@ pub fn feed(console: Console, chunk: &[u8], held: &mut [u8], size: usize, text: 
     while i < chunk.len() {
         let byte = chunk[i];
         i += 1;
-        if byte != NEWLINE {
+        if !is_newline(byte) {
             n = hold(held, n, byte);
             continue;
         }
@@ -49,15 +46,6 @@ pub fn end(console: Console, held: &[u8], size: usize, text: &mut [u8]) {
     }
     let ran = run_held(console, held, size, text, 0);
     flush(text, ran.at);
-}
-
-// Holds one byte more, and answers the size.
-fn hold(held: &mut [u8], size: usize, byte: u8) -> usize {
-    if size < held.len() {
-        held[size] = byte;
-        return size + 1;
-    }
-    TOO_LONG
 }
 
 // Runs the line that is held.

@@ -2,14 +2,10 @@
 // state that it left, are written to standard output.
 mod call;
 mod console;
-mod hex;
 mod line;
-mod number;
 mod outcome;
 mod run;
 mod status;
-mod text;
-mod words;
 
 use console::Console;
 use libc::STDIN_FILENO;

@@ -3,9 +3,6 @@
 use crate::console::Console;
 use crate::console::Ran;
 use crate::status::put_status;
-use crate::text::put;
-use crate::text::put_hex;
-use crate::text::put_number;
 use connection::answer::Answer;
 use connection::answer::Slot;
 use connection::calls::Outcome;
@@ -13,6 +10,9 @@ use connection::receive::Received;
 use connection::receive::Taken;
 use connection::refusal;
 use connection::refusal::Refusal;
+use lines::text::put;
+use lines::text::put_hex;
+use lines::text::put_number;
 use message::alert::Description;
 use message::alert::description_number;
 

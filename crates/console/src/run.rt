@@ -4,20 +4,20 @@ ghost use lib.ListN.{length};
 use crate::call::Call;
 use crate::call::call_in;
 use crate::call::call_of;
-use crate::call::named;
 use crate::console::Console;
 use crate::console::Ran;
-use crate::hex::put_bytes;
-use crate::number::number;
-use crate::number::room;
 use crate::outcome;
 use crate::outcome::bad_line;
-use crate::words::word;
 use connection::calls;
 use connection::calls::Outcome;
 use connection::receive::receive;
 use connection::send::send_alert;
 use connection::send::send_data;
+use lines::hex::put_bytes;
+use lines::number::number;
+use lines::number::room;
+use lines::said::named;
+use lines::words::word;
 
 // Runs a line, without its newline.
 pub fn run(console: Console, line: &[u8], text: &mut [u8], at: usize) -> Ran {

@@ -1,11 +1,11 @@
 // The state line.
 use crate::console::Console;
-use crate::text::put;
-use crate::text::put_number;
-use crate::text::put_word;
 use connection::handshake::Handshake;
 use connection::state::State;
 use connection::tally::Tally;
+use lines::text::put;
+use lines::text::put_number;
+use lines::text::put_word;
 use record::window::Window;
 
 // `state NAME n=N marks=M arrived=K sent=P,C checksum=X tally=H,F,O,R`.

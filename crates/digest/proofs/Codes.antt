@@ -12,7 +12,7 @@ use lib.Seq.{take-all, take-suc, drop-length}
 use lib.Bits.{bitXor}
 use lib.Dec.{ltb}
 use Rattle.digest.proofs.Rounds.{fill-step}
-use Rattle.digest.proofs.Lay.{drop-replicate}
+use Rattle.digest.proofs.Lay.{drop-replicate, length-laid}
 use Rattle.digest.proofs.Absorb.{absorb-cut}
 use Rattle.digest.proofs.Hashing.{absorbed-more, finished-from}
 use Rattle.digest.proofs.Picks.{pick-yes, pick-no}
@@ -52,16 +52,13 @@ pub laid-zeros : (n : ℕ) (s : List ℕ) → length s ≤ n → laidOver (repli
 unfolding laidOver
 laid-zeros n s h = ap (λ x. s ++ x) (ap (λ k. drop k (replicate n 0)) (zero-add (length s)) ∙ drop-replicate n (length s) 0 h)
 
-pub block-by : (k a d : List ℕ) → a ≡ actualKey k → length a ≤ 64 → d ≡ laidOver (replicate 64 0) 0 a → (d ≡ keyBlock k) × (length d ≡ 64)
+pub block-by : (k a d : List ℕ) → a ≡ actualKey k → length a ≤ 64 → d ≡ laidOver (replicate 64 0) 0 a → d ≡ keyBlock k
 unfolding keyBlock
-block-by k a d e h l =
-    let there : d ≡ a ++ replicate (64 - length a) 0 = l ∙ laid-zeros 64 a h in (
-      there ∙ ap (λ x. x ++ replicate (64 - length x) 0) e,
-      ap length there ∙ length-append a (replicate (64 - length a) 0) ∙ ap (λ x. length a + x) (length-replicate (64 - length a) 0) ∙ whole (length a) h,
-    )
-  where
-    whole : (n : ℕ) → n ≤ 64 → n + (64 - n) ≡ 64
-    whole n h = omega arith
+block-by k a d e h l = l ∙ laid-zeros 64 a h ∙ ap (λ x. x ++ replicate (64 - length x) 0) e
+
+pub length-laid-zeros : (a d : List ℕ) → length a ≤ 64 → d ≡ laidOver (replicate 64 0) 0 a → length d ≡ 64
+length-laid-zeros a d h l =
+    ap length l ∙ length-laid (replicate 64 0) 0 a (omega (arith, length-replicate {A = ℕ} 64 0)) ∙ length-replicate {A = ℕ} 64 0
 
 pub long-key : (k : List ℕ) → 64 < length k → sha1 k ≡ actualKey k
 unfolding actualKey
@@ -125,13 +122,13 @@ length-block k =
     ∙ omega (arith, length-actual k)
 
 pub key-by : (k b : List ℕ) (x y : State) → b ≡ keyBlock k
-    → x ≡ absorb (masked ipad b) 1 initialState → y ≡ absorb (masked opad b) 1 initialState
+    → x ≡ compress (masked ipad b) initialState → y ≡ compress (masked opad b) initialState
     → _≡_ {A = Key} (record { inner = x; outer = y }) (keyOf k)
 unfolding keyOf
 key-by k b x y e ex ey =
-    let one : (v : ℕ) → absorb (masked v b) 1 initialState ≡ compress (masked v (keyBlock k)) initialState
-    = λ v. ap (λ z. absorb (masked v z) 1 initialState) e ∙ absorb-one (masked v (keyBlock k)) initialState (length-masked v (keyBlock k) ∙ length-block k) in
-    λ i. record { inner = (ex ∙ one ipad) i; outer = (ey ∙ one opad) i }
+    let pad : (v : ℕ) → compress (masked v b) initialState ≡ compress (masked v (keyBlock k)) initialState
+    = λ v. ap (λ z. compress (masked v z) initialState) e in
+    λ i. record { inner = (ex ∙ pad ipad) i; outer = (ey ∙ pad opad) i }
 
 -- A key of bytes gives HMAC.
 pub code-key : (k m : List ℕ) → codeUnder (keyOf k) m ≡ hmac k m
@@ -153,13 +150,16 @@ pub piece : (g : State) (h r : Hasher) (m s : List ℕ) → r ≡ updated h s �
 piece g h r m s e a = subst (λ x. AbsorbedFrom g 64 x (m ++ s)) (sym e) (absorbed-more g 64 h m s refl a)
 
 -- The digest of twenty bytes behind one block.
-pub ended-as : (g : State) (d : List ℕ) → length d ≡ 20
-    → spelled (absorb (d ++ padding 84) (blocksOf (d ++ padding 84)) g) ≡ finished (updated (begun g) d)
+pub behind-block : (g : State) (d : List ℕ) → length d ≡ 20
+    → spelled (absorb (d ++ padding 84) (blocksOf (d ++ padding 84)) g) ≡ digestFrom g 64 d
 unfolding digestFrom
-ended-as g d l =
-    let h = updated (begun g) d in
+behind-block g d l =
     ap (λ n. spelled (absorb (d ++ padding (64 + n)) (blocksOf (d ++ padding (64 + n))) g)) (sym l)
-    ∙ sym (finished-from g 64 h d refl (piece g (begun g) h [] d refl (begun-absorbed g (begun g) refl)))
+
+pub ended-as : (g : State) (d : List ℕ) → digestFrom g 64 d ≡ finished (updated (begun g) d)
+ended-as g d =
+    let h = updated (begun g) d in
+    sym (finished-from g 64 h d refl (piece g (begun g) h [] d refl (begun-absorbed g (begun g) refl)))
 
 pub ended-means : (key : Key) (h : Hasher) (m : List ℕ) → AbsorbedFrom (key .inner) 64 h m → ended (key .outer) h ≡ codeUnder key m
 unfolding codeUnder

@@ -238,6 +238,15 @@ finished-means h m a =
 pub both-finished : (h : Hasher) (r : List ℕ) → r ≡ finished h → (r ≡ finished h) × ((m : List ℕ) → Absorbed h m → r ≡ sha1 m)
 both-finished h r e = (e, λ m a. e ∙ finished-means h m a)
 
+-- The digest of a message in one piece: its whole blocks, and then what is left of it.
+pub sha1-by : (s l : List ℕ) (g : State) → l ≡ drop (64 * blocksOf s) s → g ≡ absorb s (blocksOf s) initialState
+    → spelled (absorb (l ++ padding (length s)) (blocksOf (l ++ padding (length s))) g) ≡ sha1 s
+unfolding sha1
+sha1-by s l g e eg =
+    ap spelled
+    (ap₂ (λ x k. absorb (x ++ padding (length s)) (blocksOf (x ++ padding (length s))) k) e eg
+    ∙ sym (absorb-cut s (padding (length s)) initialState))
+
 -- A fresh hasher has absorbed nothing.
 pub fresh-absorbed : (h : Hasher) → h ≡ freshHasher → Absorbed h []
 unfolding absorb

@@ -1,16 +1,16 @@
-// One block of SHA-1 (FIPS 180-1 sections 3 to 7): the eighty-word schedule and the four phases of twenty rounds.
+// One block of SHA-1 (FIPS 180-1 sections 3 to 8): sixteen words, turned over in place, and eighty rounds.
 //
-// Small loops with run-time ends, each called with constants: the compiler then unrolls each whole, and the
-// schedule lives in registers. Behind the block's own sixteen each word is made just before its round, so that few
-// wait (docs/SPEED.md).
+// Each word is made just before its round: the first sixteen are read from the block, and a later one takes the place
+// of the word sixteen rounds before (section 8). Small loops with run-time ends, each called with constants: the
+// compiler then unrolls each whole, every place is a constant, and the words live in registers (docs/SPEED.md).
 ghost use Prim.Native.Nat.{ℕ, _+_, _*_, _<_, _≤_};
 ghost use mathlib.Core.Path.{_≡_};
 ghost use mathlib.Core.List.{List};
 ghost use lib.ListN.{length, take, drop};
 ghost use lib.Bits.{bitAnd, bitOr, bitXor};
 ghost use Rattle.digest.specs.Bytes.{wordAt};
-ghost use Rattle.digest.specs.Midway.{Reached};
-ghost use Rattle.digest.specs.Sha1.{shifted, f, k, initialState, words, nextWord, schedule, round, rounds, joined, compress, absorb};
+ghost use Rattle.digest.specs.Midway.{turnedOver, Reached};
+ghost use Rattle.digest.specs.Sha1.{shifted, f, k, initialState, words, round, joined, compress, absorb};
 use std::num::wrapping_add_u32;
 
 // The five words of FIPS 180-1 section 7.
@@ -22,10 +22,10 @@ pub struct State {
     pub e: u32,
 }
 
-// A block on its way: the state after some rounds, and the words of the schedule up to there.
+// A block on its way: the state after some rounds, and the words of the last sixteen of them, that of round t at t mod 16.
 struct Midway {
     state: State,
-    words: [u32; 80],
+    words: [u32; 16],
 }
 
 // The words that the computation starts with.
@@ -60,12 +60,15 @@ fn compressed(h: State, s: &[u8], at: usize) -> State
     requires { ⌜ at + 64 ≤ length (now s) ⌝ }
     ensures { λ r. ⌜ r ≡ compress (take 64 (drop at (now (s .entry)))) h ⌝ }
 {
-    let words = loaded(s, at);
-    let state = phase1(h, words, 0, 16);
-    let one = late1(Midway { state, words }, 0, 4);
-    let two = late2(late2(one, 4, 14), 14, 24);
-    let three = late3(late3(two, 24, 34), 34, 44);
-    let four = late4(late4(three, 44, 54), 54, 64);
+    let start = Midway {
+        state: h,
+        words: [0; 16],
+    };
+    let early = first(first(start, s, at, 0, 8), s, at, 8, 16);
+    let one = late1(early, 16, 20);
+    let two = late2(late2(one, 20, 30), 30, 40);
+    let three = late3(late3(two, 40, 50), 50, 60);
+    let four = late4(late4(three, 60, 70), 70, 80);
     let last = four.state;
     added(h, last)
 }
@@ -83,20 +86,6 @@ fn added(g: State, h: State) -> State
     }
 }
 
-// Step a: the block's sixteen words, with room for the others.
-fn loaded(s: &[u8], at: usize) -> [u32; 80]
-    requires { ⌜ at + 64 ≤ length (now s) ⌝ }
-    ensures { λ r. ⌜ (length r ≡ 80) × (take 16 r ≡ words (take 64 (drop at (now (s .entry)))) 16) ⌝ }
-{
-    let mut w = [0u32; 80];
-    let mut i: usize = 0;
-    while i < 16 {
-        w[i] = word(s, at + 4 * i);
-        i += 1;
-    }
-    w
-}
-
 // The word that stands at `at`, its first byte the most significant.
 fn word(s: &[u8], at: usize) -> u32
     requires { ⌜ at + 3 < length (now s) ⌝ }
@@ -111,48 +100,37 @@ fn wide(x: u8) -> u32
     x as u32
 }
 
-// Rounds `from` to `end` of the first twenty.
-fn phase1(h: State, w: [u32; 80], from: usize, end: usize) -> State
-    requires { ⌜ (length w ≡ 80) × (from ≤ end) × (end ≤ 20) ⌝ }
-    ensures { λ r. ⌜ ((g : State) → h ≡ rounds w from g → r ≡ rounds w end g) ⌝ }
-{
-    let mut g = h;
-    let mut t = from;
-    while t < end {
-        g = turned(g, (g.b & g.c) | (!g.b & g.d), w[t], 0x5a827999);
-        t += 1;
-    }
-    g
-}
-
-// Step b: word t + 16 of the schedule.
-fn next(w: [u32; 80], t: usize) -> u32
-    requires { ⌜ (length w ≡ 80) × (t < 64) ⌝ }
-    ensures { λ r. ⌜ ((m : List ℕ) → take (t + 16) w ≡ schedule m t → r ≡ nextWord (schedule m t) (16 + t)) ⌝ }
-{
-    rotated(w[t + 13] ^ w[t + 8] ^ w[t + 2] ^ w[t], 1)
-}
-
-// The last of the first twenty rounds, each with its word: from + 16 to end + 16.
-fn late1(p: Midway, from: usize, end: usize) -> Midway
-    requires { ⌜ (from ≤ end) × (end ≤ 4) ⌝ }
-    ensures { λ r. ⌜ ((m : List ℕ) (h : State) → length m ≡ 16 → Reached m h from p → Reached m h end r) ⌝ }
+// Step a: rounds of the first sixteen, each with its word of the block that stands at `at`.
+fn first(p: Midway, s: &[u8], at: usize, from: usize, end: usize) -> Midway
+    requires { ⌜ (at + 64 ≤ length (now s)) × (from ≤ end) × (end ≤ 16) ⌝ }
+    ensures { λ r. ⌜ ((h : State) → Reached (words (take 64 (drop at (now (s .entry)))) 16) h from p → Reached (words (take 64 (drop at (now (s .entry)))) 16) h end r) ⌝ }
 {
     let mut g = p.state;
     let mut w = p.words;
     let mut t = from;
     while t < end {
-        let x = next(w, t);
-        w[t + 16] = x;
+        let x = word(s, at + 4 * t);
+        w[t % 16] = x;
         g = turned(g, (g.b & g.c) | (!g.b & g.d), x, 0x5a827999);
         t += 1;
     }
     Midway { state: g, words: w }
 }
 
-// Rounds of the second twenty, each with its word: from + 16 to end + 16.
-fn late2(p: Midway, from: usize, end: usize) -> Midway
-    requires { ⌜ (4 ≤ from) × (from ≤ end) × (end ≤ 24) ⌝ }
+// Step b as section 8 has it: the word of round t, from those of the sixteen rounds before.
+fn next(w: [u32; 16], t: usize) -> u32
+    requires { ⌜ (length w ≡ 16) × (t < 80) ⌝ }
+    ensures { λ r. ⌜ r ≡ turnedOver w t ⌝ }
+{
+    rotated(
+        w[(t + 13) % 16] ^ w[(t + 8) % 16] ^ w[(t + 2) % 16] ^ w[t % 16],
+        1,
+    )
+}
+
+// The last of the first twenty rounds, each with its word.
+fn late1(p: Midway, from: usize, end: usize) -> Midway
+    requires { ⌜ (16 ≤ from) × (from ≤ end) × (end ≤ 20) ⌝ }
     ensures { λ r. ⌜ ((m : List ℕ) (h : State) → length m ≡ 16 → Reached m h from p → Reached m h end r) ⌝ }
 {
     let mut g = p.state;
@@ -160,16 +138,33 @@ fn late2(p: Midway, from: usize, end: usize) -> Midway
     let mut t = from;
     while t < end {
         let x = next(w, t);
-        w[t + 16] = x;
+        w[t % 16] = x;
+        g = turned(g, (g.b & g.c) | (!g.b & g.d), x, 0x5a827999);
+        t += 1;
+    }
+    Midway { state: g, words: w }
+}
+
+// Rounds of the second twenty, each with its word.
+fn late2(p: Midway, from: usize, end: usize) -> Midway
+    requires { ⌜ (20 ≤ from) × (from ≤ end) × (end ≤ 40) ⌝ }
+    ensures { λ r. ⌜ ((m : List ℕ) (h : State) → length m ≡ 16 → Reached m h from p → Reached m h end r) ⌝ }
+{
+    let mut g = p.state;
+    let mut w = p.words;
+    let mut t = from;
+    while t < end {
+        let x = next(w, t);
+        w[t % 16] = x;
         g = turned(g, g.b ^ g.c ^ g.d, x, 0x6ed9eba1);
         t += 1;
     }
     Midway { state: g, words: w }
 }
 
-// Rounds of the third twenty, each with its word: from + 16 to end + 16.
+// Rounds of the third twenty, each with its word.
 fn late3(p: Midway, from: usize, end: usize) -> Midway
-    requires { ⌜ (24 ≤ from) × (from ≤ end) × (end ≤ 44) ⌝ }
+    requires { ⌜ (40 ≤ from) × (from ≤ end) × (end ≤ 60) ⌝ }
     ensures { λ r. ⌜ ((m : List ℕ) (h : State) → length m ≡ 16 → Reached m h from p → Reached m h end r) ⌝ }
 {
     let mut g = p.state;
@@ -177,16 +172,16 @@ fn late3(p: Midway, from: usize, end: usize) -> Midway
     let mut t = from;
     while t < end {
         let x = next(w, t);
-        w[t + 16] = x;
+        w[t % 16] = x;
         g = turned(g, (g.b & g.c) | (g.b & g.d) | (g.c & g.d), x, 0x8f1bbcdc);
         t += 1;
     }
     Midway { state: g, words: w }
 }
 
-// Rounds of the last twenty, each with its word: from + 16 to end + 16.
+// Rounds of the last twenty, each with its word.
 fn late4(p: Midway, from: usize, end: usize) -> Midway
-    requires { ⌜ (44 ≤ from) × (from ≤ end) × (end ≤ 64) ⌝ }
+    requires { ⌜ (60 ≤ from) × (from ≤ end) × (end ≤ 80) ⌝ }
     ensures { λ r. ⌜ ((m : List ℕ) (h : State) → length m ≡ 16 → Reached m h from p → Reached m h end r) ⌝ }
 {
     let mut g = p.state;
@@ -194,7 +189,7 @@ fn late4(p: Midway, from: usize, end: usize) -> Midway
     let mut t = from;
     while t < end {
         let x = next(w, t);
-        w[t + 16] = x;
+        w[t % 16] = x;
         g = turned(g, g.b ^ g.c ^ g.d, x, 0xca62c1d6);
         t += 1;
     }

@@ -3,8 +3,9 @@ ghost use Prim.Native.Nat.{ℕ, _+_, _≤_};
 ghost use mathlib.Core.Path.{_≡_};
 ghost use mathlib.Core.List.{List, _++_};
 ghost use lib.ListN.{length};
-ghost use Rattle.digest.specs.Hasher.{AbsorbedFrom, begun, ended};
-ghost use Rattle.digest.specs.Hmac.{ipad, keyBlock, keyOf, codeUnder, hmac};
+ghost use Rattle.digest.specs.Sha1.{compress, initialState};
+ghost use Rattle.digest.specs.Hasher.{AbsorbedFrom, begun, digestFrom, ended};
+ghost use Rattle.digest.specs.Hmac.{actualKey, keyBlock, keyOf, codeUnder, hmac};
 ghost use Rattle.digest.specs.Hmac as Hmac;
 ghost use Rattle.digest.specs.Expansion.{expansion};
 ghost use Rattle.digest.specs.Expansion as Expansion;
@@ -27,13 +28,11 @@ impl Key {
     pub fn new(k: &[u8]) -> Key
         ensures exact { λ r. ⌜ r ≡ keyOf (now (k .entry)) ⌝ }
     {
-        let block = key_block(k);
-        let inner = masked(block, 0x36);
-        let outer = masked(block, 0x5c);
-        Key {
-            inner: absorbed(initial(), &inner, 0, 1),
-            outer: absorbed(initial(), &outer, 0, 1),
+        if 64 < k.len() {
+            let short = sha1(k);
+            return keyed(&short);
         }
+        keyed(k)
     }
 
     // The start of a code: a hasher that takes the message in pieces.
@@ -55,7 +54,7 @@ impl Key {
     {
         let digest = h.finish();
         let outer = self.outer;
-        ending(outer, &digest, 84)
+        hashed(outer, digest)
     }
 
     // The code of a message in two pieces.
@@ -101,7 +100,12 @@ pub fn prf(secret: &[u8], label: &[u8], first: &[u8], second: &[u8], third: &[u8
 fn seeded(key: Key, h: Hasher, label: &[u8], first: &[u8], second: &[u8], third: &[u8]) -> [u8; 20]
     ensures { λ r. ⌜ ((m : List ℕ) → AbsorbedFrom (key .inner) 64 h m → r ≡ codeUnder key (m ++ (now (label .entry) ++ (now (first .entry) ++ now (second .entry) ++ now (third .entry))))) ⌝ }
 {
-    key.end(h.update(label).update(first).update(second).update(third))
+    let mut g = h;
+    g = g.update(label);
+    g = g.update(first);
+    g = g.update(second);
+    g = g.update(third);
+    key.end(g)
 }
 
 // One term of the expansion: the code of A(i), the label and the seed.
@@ -115,21 +119,48 @@ fn term(key: Key, a: [u8; 20], label: &[u8], first: &[u8], second: &[u8], third:
 fn next(key: Key, a: [u8; 20]) -> [u8; 20]
     ensures { λ r. ⌜ r ≡ codeUnder key a ⌝ }
 {
-    key.end(key.begin().update(&a))
+    let inner = key.inner;
+    let outer = key.outer;
+    hashed(outer, hashed(inner, a))
 }
 
-// The key with zeros behind it, up to a block; a longer key is hashed first.
+// The digest of twenty bytes behind one block, from the state h after it.
+fn hashed(h: State, a: [u8; 20]) -> [u8; 20]
+    requires { ⌜ length a ≡ 20 ⌝ }
+    ensures { λ r. ⌜ r ≡ digestFrom h 64 a ⌝ }
+{
+    ending(h, &a, 84)
+}
+
+// The key of which the bytes k, a block at most, are what is used: the key itself, or its digest.
+fn keyed(k: &[u8]) -> Key
+    requires { ⌜ length (now k) ≤ 64 ⌝ }
+    ensures { λ r. ⌜ ((m : List ℕ) → now (k .entry) ≡ actualKey m → r ≡ keyOf m) ⌝ }
+{
+    let block = key_block(k);
+    Key {
+        inner: padded(block, 0x36),
+        outer: padded(block, 0x5c),
+    }
+}
+
+// Those bytes with zeros behind them, up to a block.
 fn key_block(k: &[u8]) -> [u8; 64]
-    ensures { λ r. ⌜ (r ≡ keyBlock (now (k .entry))) × (length r ≡ 64) ⌝ }
+    requires { ⌜ length (now k) ≤ 64 ⌝ }
+    ensures { λ r. ⌜ ((m : List ℕ) → now (k .entry) ≡ actualKey m → r ≡ keyBlock m) × (length r ≡ 64) ⌝ }
 {
     let mut block = [0u8; 64];
-    if 64 < k.len() {
-        let short = sha1(k);
-        lay(&mut block, 0, &short);
-        return block;
-    }
     lay(&mut block, 0, k);
     block
+}
+
+// The state after the block's bytes, each XOR x.
+fn padded(block: [u8; 64], x: u8) -> State
+    requires { ⌜ length block ≡ 64 ⌝ }
+    ensures { λ r. ⌜ r ≡ compress (Hmac.masked x block) initialState ⌝ }
+{
+    let pad = masked(block, x);
+    absorbed(initial(), &pad, 0, 1)
 }
 
 // Each byte of the block XOR x.

@@ -1,9 +1,2 @@
 -- Laws that belong to no one function.
-pub mod Laying
-pub mod Reading
-pub mod Calling
-pub mod Numbers
-pub mod Back
-pub mod Results
-pub mod Sizes
 pub mod Coincide

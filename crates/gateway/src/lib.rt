@@ -1,34 +1,12 @@
-// The gateway for C and Rust: the calls of the connection, on a connection and a tally that live in bytes which the
-// caller lends. Nothing is kept between calls. No call has a `requires`: what is lent is tested. Each call answers one
-// number of three parts (`result`), and a refused call leaves every lent byte as it was.
+// What C and Rust link: each call is the one of its name in `lent`, under a name of its own. include/gateway.h is the
+// manual. A crate apart, since the archive's build proves its crate once more: so little is proved twice.
 ghost use mathlib.Core.Path.{_≡_};
 ghost use lib.ListN.{length};
-ghost use Rattle.gateway.specs.Calls.{freshResult, freshState, closeResult, closeState, startResult, startState};
-ghost use Rattle.gateway.specs.Calls.{stateResult, freshLoads, closeLoads, startLoads, dataLoads, alertLoads, receiveLoads};
-ghost use Rattle.gateway.specs.Saved.{loaded};
-ghost use Rattle.gateway.specs.Calls.{dataResult, dataState, dataOut, alertResult, alertState, alertOut};
-ghost use Rattle.gateway.specs.Calls.{receiveResult, receiveState, receiveTally, receiveAnswers, receiveOut};
-
-mod bytes;
-mod counts;
-mod leave;
-mod load;
-mod report;
-mod result;
-mod save;
-
-use connection::calls;
-use connection::receive::receive;
-use connection::send;
-use leave::leave_called;
-use leave::leave_received;
-use leave::leave_sent;
-use load::connection_in;
-use load::is_saved;
-use load::lent_for;
-use result::not_taken;
-use result::result_of;
-use save::SIZE;
+ghost use Rattle.lent.specs.Calls.{freshResult, freshState, closeResult, closeState, startResult, startState};
+ghost use Rattle.lent.specs.Calls.{stateResult, freshLoads, closeLoads, startLoads, dataLoads, alertLoads, receiveLoads};
+ghost use Rattle.lent.specs.Saved.{loaded};
+ghost use Rattle.lent.specs.Calls.{dataResult, dataState, dataOut, alertResult, alertState, alertOut};
+ghost use Rattle.lent.specs.Calls.{receiveResult, receiveState, receiveTally, receiveAnswers, receiveOut};
 
 // A fresh connection of a planted session, in 458 bytes. Refusal: 16.
 #[no_mangle]
@@ -39,10 +17,7 @@ pub extern "C" fn gateway_fresh(id: &[u8], secret: &[u8], state: &mut [u8]) -> u
     ensures loads { λ _. ⌜ loaded (now (state .exit)) ≡ freshLoads (now (id .entry)) (now (secret .entry))
         (now (state .entry)) ⌝ }
 {
-    if state.len() != SIZE {
-        return not_taken();
-    }
-    leave_called(calls::fresh(id, secret), state)
+    lent::fresh(id, secret, state)
 }
 
 // Takes a datagram, our random for a new reply, and room of at least 128 bytes for it. Afterwards the first bytes of
@@ -70,11 +45,7 @@ pub extern "C" fn gateway_receive(
     ensures loads { λ _. ⌜ loaded (now (state .exit)) ≡ receiveLoads (now (state .entry)) (now (tally .entry))
         (now (answers .entry)) (now (datagram .entry)) (now (random .entry)) (length (now (out .entry))) ⌝ }
 {
-    if lent_for(state, tally.len(), answers.len()) {
-        let received = receive(connection_in(state), datagram, random, out);
-        return leave_received(received, state, tally, answers);
-    }
-    not_taken()
+    lent::receive(state, tally, datagram, random, out, answers)
 }
 
 // Sends 1 to 1,300 bytes of data in Open. Refusals: 16, 7, 8, 15, 6.
@@ -87,11 +58,7 @@ pub extern "C" fn gateway_send_data(state: &mut [u8], data: &[u8], out: &mut [u8
     ensures loads { λ _. ⌜ loaded (now (state .exit)) ≡ dataLoads (now (state .entry)) (now («data» .entry))
         (length (now (out .entry))) ⌝ }
 {
-    if is_saved(state) {
-        let sent = send::send_data(connection_in(state), data, out);
-        return leave_sent(sent, state);
-    }
-    not_taken()
+    lent::send_data(state, data, out)
 }
 
 // Sends an alert, clear (0) or protected (1), with the checksum of the record that it answers. Refusals: 16, 7, 8, 15,
@@ -114,27 +81,7 @@ pub extern "C" fn gateway_send_alert(
     ensures loads { λ _. ⌜ loaded (now (state .exit)) ≡ alertLoads (now (state .entry)) protected level description
         (now (answered .entry)) (length (now (out .entry))) ⌝ }
 {
-    if 1 < protected {
-        return not_taken();
-    }
-    if 255 < level {
-        return not_taken();
-    }
-    if 255 < description {
-        return not_taken();
-    }
-    if is_saved(state) {
-        let sent = send::send_alert(
-            connection_in(state),
-            protected == 1,
-            level as u8,
-            description as u8,
-            answered,
-            out,
-        );
-        return leave_sent(sent, state);
-    }
-    not_taken()
+    lent::send_alert(state, protected, level, description, answered, out)
 }
 
 // Close leads anywhere but Barred to Closed. Refusals: 16, 7.
@@ -144,10 +91,7 @@ pub extern "C" fn gateway_close(state: &mut [u8]) -> u64
     ensures bytes { λ _. ⌜ now (state .exit) ≡ closeState (now (state .entry)) ⌝ }
     ensures loads { λ _. ⌜ loaded (now (state .exit)) ≡ closeLoads (now (state .entry)) ⌝ }
 {
-    if is_saved(state) {
-        return leave_called(calls::close(connection_in(state)), state);
-    }
-    not_taken()
+    lent::close(state)
 }
 
 // Start again leads from Closed to Idle. Refusals: 16, 7, 8.
@@ -157,10 +101,7 @@ pub extern "C" fn gateway_start(state: &mut [u8]) -> u64
     ensures bytes { λ _. ⌜ now (state .exit) ≡ startState (now (state .entry)) ⌝ }
     ensures loads { λ _. ⌜ loaded (now (state .exit)) ≡ startLoads (now (state .entry)) ⌝ }
 {
-    if is_saved(state) {
-        return leave_called(calls::start(connection_in(state)), state);
-    }
-    not_taken()
+    lent::start(state)
 }
 
 // The number of the state that the connection is in. Refusal: 16, where the bytes are no saved connection.
@@ -168,9 +109,5 @@ pub extern "C" fn gateway_start(state: &mut [u8]) -> u64
 pub extern "C" fn gateway_state(state: &[u8]) -> u64
     ensures exact { λ r. ⌜ r ≡ stateResult (now (state .entry)) ⌝ }
 {
-    if is_saved(state) {
-        let number = state[4];
-        return result_of(0, 0, number as usize);
-    }
-    not_taken()
+    lent::state(state)
 }

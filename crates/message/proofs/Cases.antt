@@ -10,7 +10,7 @@ use Rattle.message.specs.Field.{fieldEnd, shortEnd, longEnd}
 use Rattle.message.specs.Handshake.{fills}
 use Rattle.message.specs.Keys.{specifierEnd, identifierEnd, entryEnd, entriesFrom, keyList, keysEnd}
 use Rattle.message.specs.Hello.{suitesEnd, readOf}
-use Rattle.message.specs.Values.{Values, valuesOf, helloOf}
+use Rattle.message.specs.Given.{Given, givenOf, helloFrom}
 use Rattle.message.specs.Acceptance.{fitsPair, firstFit, hasNull, acceptedOf, heardOf, heardNumber}
 use Rattle.message.specs.Server.{replyOf}
 use Rattle.message.specs.declared.hello.Field.the-variants.{Size}
@@ -20,26 +20,26 @@ pub identifier : List ℕ
 identifier = replicate 8 5
 
 -- version 1, no keys, the one pair (0, 2), n times null compression, explicit numbering, refresh 3
-pub padded : ℕ → Values
-padded n = valuesOf 1 (replicate 16 7) (replicate 8 5) [] [] (0 ∷ 2 ∷ []) (replicate n 0) 2 3
+pub padded : ℕ → Given
+padded n = givenOf 1 (replicate 16 7) (replicate 8 5) [] [] (0 ∷ 2 ∷ []) (replicate n 0) 2 3
 
-pub size-256 : length (helloOf (padded 217)) ≡ 256
+pub size-256 : length (helloFrom (padded 217)) ≡ 256
 unfolding padded
 size-256 = refl
 
-pub heard-256 : heardOf (helloOf (padded 217)) identifier ≡ Accepted (record { mac = Sha80; refresh = 3; key = 0 })
+pub heard-256 : heardOf (helloFrom (padded 217)) identifier ≡ Accepted (record { mac = Sha80; refresh = 3; key = 0 })
 unfolding padded identifier heardOf acceptedOf hasNull firstFit fitsPair readOf suitesEnd keysEnd keyList entriesFrom entryEnd identifierEnd specifierEnd fills longEnd shortEnd fieldEnd listedAs sameBytes
 heard-256 = refl
 
-pub size-257 : length (helloOf (padded 218)) ≡ 257
+pub size-257 : length (helloFrom (padded 218)) ≡ 257
 unfolding padded
 size-257 = refl
 
-pub heard-257 : heardOf (helloOf (padded 218)) identifier ≡ Malformed Size
+pub heard-257 : heardOf (helloFrom (padded 218)) identifier ≡ Malformed Size
 unfolding padded identifier heardOf acceptedOf hasNull firstFit fitsPair readOf suitesEnd keysEnd keyList entriesFrom entryEnd identifierEnd specifierEnd fills longEnd shortEnd fieldEnd listedAs sameBytes
 heard-257 = refl
 
-pub heard-257-number : heardNumber (heardOf (helloOf (padded 218)) identifier) ≡ 12
+pub heard-257-number : heardNumber (heardOf (helloFrom (padded 218)) identifier) ≡ 12
 heard-257-number = ap heardNumber heard-257
 
 -- (0, 3) before (0, 2), and behind a pair that does not fit

@@ -91,3 +91,19 @@ entries-done s at e =
 pub keys-cut : (m : List ℕ) (at : ℕ) → longEnd m at ≡ 0 → 0 ≡ keysEnd m at
 unfolding keysEnd
 keys-cut m at h = rw h (pick-same (keyList (partOf m (at + 2) 0)) 0)
+
+-- one whose length is there, by what the walk says of its bytes
+keys-by : (m : List ℕ) (at end : ℕ) (list : List ℕ) (sound : Bool) → end ≡ longEnd m at → list ≡ partOf m (at + 2) end
+    → sound ≡ keyList list → pick sound end 0 ≡ keysEnd m at
+unfolding keysEnd
+keys-by m at end list sound e p w =
+    ap (λ (b : Bool). pick b end 0) (w ∙ ap keyList p)
+    ∙ ap (λ (k : ℕ). pick (keyList (partOf m (at + 2) k)) k 0) e
+
+pub keys-sound : (m : List ℕ) (at end : ℕ) (list : List ℕ) (sound : Bool) → end ≡ longEnd m at → list ≡ partOf m (at + 2) end
+    → sound ≡ keyList list → sound ≡ true → end ≡ keysEnd m at
+keys-sound m at end list sound e p w h = ap (λ (b : Bool). pick b end 0) (sym h) ∙ keys-by m at end list sound e p w
+
+pub keys-unsound : (m : List ℕ) (at end : ℕ) (list : List ℕ) (sound : Bool) → end ≡ longEnd m at → list ≡ partOf m (at + 2) end
+    → sound ≡ keyList list → sound ≡ false → 0 ≡ keysEnd m at
+keys-unsound m at end list sound e p w h = ap (λ (b : Bool). pick b end 0) (sym h) ∙ keys-by m at end list sound e p w

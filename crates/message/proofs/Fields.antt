@@ -1,4 +1,4 @@
--- Laws of fields and vectors: where one ends if it is there, and that none ends past the message.
+-- Laws of fields and vectors: where one ends if it is there, and that none ends past the message. At the end, of tests.
 use mathlib.Core.Path.{_≡_, refl, sym, _∙_, ap}
 use mathlib.Core.List.{List, []}
 use mathlib.Core.Bool.{Bool, true, false}
@@ -10,7 +10,7 @@ use lib.Seq.{take-nil, take-all}
 use lib.Dec.{leb, ltb, eqb}
 use borrow.Author.Tests.{le-leb, lt-leb, le-ltb, lt-ltb, leb-true, leb-false, ltb-true}
 use Rattle.digest.specs.Pick.{pick}
-use Rattle.message.specs.Field.{fieldEnd, shortEnd, longEnd, twoAt, partOf}
+use Rattle.message.specs.Field.{fieldEnd, shortEnd, longEnd, twoAt, partOf, both}
 
 pub field-fits : (m : List ℕ) (at n : ℕ) → at + n ≤ length m → at + n ≡ fieldEnd m at n
 unfolding fieldEnd
@@ -116,3 +116,18 @@ pick-same false x = refl
 pub short-cut : (floor ceiling : ℕ) (m : List ℕ) (at : ℕ) → length m ≤ at → shortEnd floor ceiling m at ≡ 0
 unfolding shortEnd
 short-cut floor ceiling m at h = rw (le-ltb at (length m) h) refl
+
+-- tests: cases on one, a false one that holds, two that both hold
+pub by-test : (C : Type 0) (b : Bool) → (b ≡ true → C) → (b ≡ false → C) → C
+by-test C true f g = f refl
+by-test C false f g = g refl
+
+pub clash : {C : Type 0} → false ≡ true → C
+clash e = let z : _≡_ {A = ℕ} 0 1 = cc in absurd (omega arith)
+
+pub both-split : (a b : Bool) → both a b ≡ true → (a ≡ true) × (b ≡ true)
+both-split true b h = (refl, h)
+both-split false b h = clash h
+
+pub both-true : (a b : Bool) → a ≡ true → b ≡ true → both a b ≡ true
+both-true a b p q = rw p q

@@ -11,7 +11,7 @@ use Rattle.message.specs.declared.acceptance.Heard.the-variants.{Accepte
 use Rattle.message.specs.declared.hello.Reading.{Reading}
 use Rattle.message.specs.declared.hello.Reading.the-variants.{WellFormed, Malformed}
 use Rattle.message.proofs.Fields.{field-there}
-use Rattle.message.proofs.Written.{versionEnd, walked}
+use Rattle.message.proofs.Givens.{versionEnd, walked}
 
 pub accepted-size : (m planted : List ℕ) (plan : Plan) → heardOf m planted ≡ Accepted plan
     → (20 ≤ length m) × (length m ≤ 256)

@@ -7,7 +7,11 @@ pub mod Rests
 pub mod Entries
 pub mod Hellos
 pub mod Replies
+pub mod Givens
+pub mod ListsWritten
+pub mod ListsRead
 pub mod Written
+pub mod Saying
 pub mod Twelve
 pub mod Cases
 pub mod Hearing

@@ -1,6 +1,7 @@
 -- Fields of a message, one after the other (002 8.1, 8.3). A field is told by the place where it ends; 0 says that
 -- the message has no such field there.
 use mathlib.Core.List.{List, _∷_, _++_}
+use mathlib.Core.Bool.{Bool, true, false}
 use Prim.Native.Nat.{ℕ, _+_, _*_, _-_}
 use lib.ListN.{length, getD, take, drop}
 use lib.Dec.{leb, ltb}
@@ -36,3 +37,7 @@ short s = length s ∷ s
 
 abbrev pub long : List ℕ → List ℕ
 long s = bytes2 (length s) ++ s
+
+-- both tests hold
+abbrev pub both : Bool → Bool → Bool
+both a b = pick a b false

@@ -38,6 +38,20 @@ placed v r s c t p z n k =
       refresh = place n k;
     }
 
+-- the first field that is not there is at fault; where all are there, the last one ends the message
+abbrev pub toldBy : ℕ → ℕ → ℕ → ℕ → ℕ → ℕ → ℕ → ℕ → ℕ → ℕ → Reading
+toldBy v r s c t p z n k size =
+    pick (eqb v 0) (Malformed Version)
+    (pick (eqb r 0) (Malformed Random)
+    (pick (eqb s 0) (Malformed SessionId)
+    (pick (eqb c 0) (Malformed ClientKeyIds)
+    (pick (eqb t 0) (Malformed TrustedKeyIds)
+    (pick (eqb p 0) (Malformed CipherSuites)
+    (pick (eqb z 0) (Malformed CompressionMethods)
+    (pick (eqb n 0) (Malformed SequenceNumberMode)
+    (pick (eqb k 0) (Malformed KeyRefresh)
+    (pick (eqb k size) (WellFormed (placed v r s c t p z n k)) (Malformed Rest))))))))))
+
 -- 01: "a ClientHello message is at most 256 bytes, laid out as in 10.5.1.2; all its lists are walked"
 unfoldable pub readOf : List ℕ → Reading
 readOf m =
@@ -51,16 +65,5 @@ readOf m =
     let n = fieldEnd m z 1 in
     let k = fieldEnd m n 1 in
     pick (fills clientHello m)
-    (pick (leb (length m) 256)
-    (pick (eqb v 0) (Malformed Version)
-    (pick (eqb r 0) (Malformed Random)
-    (pick (eqb s 0) (Malformed SessionId)
-    (pick (eqb c 0) (Malformed ClientKeyIds)
-    (pick (eqb t 0) (Malformed TrustedKeyIds)
-    (pick (eqb p 0) (Malformed CipherSuites)
-    (pick (eqb z 0) (Malformed CompressionMethods)
-    (pick (eqb n 0) (Malformed SequenceNumberMode)
-    (pick (eqb k 0) (Malformed KeyRefresh)
-    (pick (eqb k (length m)) (WellFormed (placed v r s c t p z n k)) (Malformed Rest)))))))))))
-    (Malformed Size))
+    (pick (leb (length m) 256) (toldBy v r s c t p z n k (length m)) (Malformed Size))
     (Malformed Header)

@@ -5,8 +5,11 @@ pub mod Buffer
 pub mod Field
 pub mod Handshake
 pub mod Keys
+pub mod Entry
 pub mod Hello
+pub mod Given
 pub mod Values
 pub mod Change
+pub mod Said
 pub mod Server
 pub mod Finished

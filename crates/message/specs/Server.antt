@@ -5,9 +5,8 @@ use lib.ListN.{length}
 use lib.Dec.{leb, eqb}
 use Rattle.digest.specs.Pick.{pick}
 use Rattle.digest.specs.Mac.{numberOf}
-use Rattle.message.specs.Field.{short}
+use Rattle.message.specs.Field.{short, both}
 use Rattle.message.specs.Handshake.{messageOf, serverHello}
-use Rattle.message.specs.Values.{both}
 use Rattle.message.specs.declared.acceptance.Plan.{Plan}
 
 -- ServerHello: server_version 1, random, session_id, client_key_id, cipher_suite (null and the MAC of the plan),

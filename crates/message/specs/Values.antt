@@ -1,15 +1,13 @@
--- A ClientHello as it is written (002 10.5.1.2), its lists given as bytes.
-use mathlib.Core.List.{List, [], _∷_, _++_}
-use mathlib.Core.Bool.{Bool, true, false}
-use Prim.Native.Nat.{ℕ, _%_}
-use lib.ListN.{length, getD}
+-- A ClientHello as values, and as it is written (002 10.5.1.2).
+use mathlib.Core.List.{List}
+use mathlib.Core.Bool.{Bool}
+use Prim.Native.Nat.{ℕ, _+_}
+use lib.ListN.{length}
 use lib.Dec.{leb, eqb}
-use Rattle.digest.specs.Pick.{pick}
-use Rattle.digest.specs.Bytes.{bytes2}
-use Rattle.message.specs.Field.{short, long, partOf}
-use Rattle.message.specs.Handshake.{messageOf, clientHello}
-use Rattle.message.specs.Keys.{keyList}
-use Rattle.message.specs.declared.hello.Place.{Place}
+use Rattle.message.specs.Field.{both}
+use Rattle.message.specs.Entry.{Entry, listBytes, listAllowed, entriesIn}
+use Rattle.message.specs.Hello.{placed}
+use Rattle.message.specs.Given.{Given, givenOf, helloFrom, offersAllowed, givenAt}
 use Rattle.message.specs.declared.hello.Hello.{Hello}
 
 -- the fields in the order of the structure
@@ -17,54 +15,26 @@ pub record Values : Type 0 where
   pub version : ℕ
   pub random : List ℕ
   pub session : List ℕ
-  pub client : List ℕ
-  pub trusted : List ℕ
+  pub client : List Entry
+  pub trusted : List Entry
   pub suites : List ℕ
   pub methods : List ℕ
   pub numbering : ℕ
   pub refresh : ℕ
 
-abbrev pub valuesOf : ℕ → List ℕ → List ℕ → List ℕ → List ℕ → List ℕ → List ℕ → ℕ → ℕ → Values
-valuesOf version random session client trusted suites methods numbering refresh =
-    record {
-      version = version;
-      random = random;
-      session = session;
-      client = client;
-      trusted = trusted;
-      suites = suites;
-      methods = methods;
-      numbering = numbering;
-      refresh = refresh;
-    }
-
--- ClientHello
-abbrev pub bodyOf : Values → List ℕ
-bodyOf v =
-    (v .version ∷ [])
-    ++ (v .random
-    ++ (short (v .session)
-    ++ (long (v .client)
-    ++ (long (v .trusted) ++ (short (v .suites) ++ (short (v .methods) ++ (v .numbering ∷ v .refresh ∷ [])))))))
+-- with both key lists written
+abbrev pub bytesOf : Values → Given
+bytesOf v =
+    givenOf (v .version) (v .random) (v .session) (listBytes (v .client)) (listBytes (v .trusted)) (v .suites) (v .methods)
+    (v .numbering) (v .refresh)
 
 abbrev pub helloOf : Values → List ℕ
-helloOf v = messageOf clientHello (bodyOf v)
-
--- both tests hold
-abbrev pub both : Bool → Bool → Bool
-both a b = pick a b false
+helloOf v = helloFrom (bytesOf v)
 
 -- opaque random[16], SessionID<0..8>, and two lists of KeyExchangeId
-unfoldable pub fieldsAllowed : List ℕ → List ℕ → List ℕ → List ℕ → Bool
+unfoldable pub fieldsAllowed : List ℕ → List ℕ → List Entry → List Entry → Bool
 fieldsAllowed random session client trusted =
-    both (eqb (length random) 16) (both (leb (length session) 8) (both (keyList client) (keyList trusted)))
-
--- CipherSuite, of two bytes each, in <2..2^8-1>, and CompressionMethod in <1..2^8-1>
-unfoldable pub offersAllowed : List ℕ → List ℕ → Bool
-offersAllowed suites methods =
-    both (eqb (length suites % 2) 0)
-    (both (leb 2 (length suites))
-    (both (leb (length suites) 255) (both (leb 1 (length methods)) (leb (length methods) 255))))
+    both (eqb (length random) 16) (both (leb (length session) 8) (both (listAllowed client) (listAllowed trusted)))
 
 -- the values that a hello can have; 01: the message is at most 256 bytes
 unfoldable pub allowed : Values → Bool
@@ -72,25 +42,34 @@ allowed v =
     both (fieldsAllowed (v .random) (v .session) (v .client) (v .trusted))
     (both (offersAllowed (v .suites) (v .methods)) (leb (length (helloOf v)) 256))
 
--- what is written of values: nothing where no hello can have them
-unfoldable pub sentOf : Values → List ℕ
-sentOf v = pick (allowed v) (helloOf v) []
-
--- the bytes that stand at a place
-abbrev pub bytesAt : List ℕ → Place → List ℕ
-bytesAt m p = partOf m (p .from) (p .end)
+-- the values of which lists of bytes are written
+abbrev pub valuesIn : Given → Values
+valuesIn g =
+    record {
+      version = g .version;
+      random = g .random;
+      session = g .session;
+      client = entriesIn (g .client);
+      trusted = entriesIn (g .trusted);
+      suites = g .suites;
+      methods = g .methods;
+      numbering = g .numbering;
+      refresh = g .refresh;
+    }
 
 -- the values that stand at the places of a hello
 abbrev pub valuesAt : List ℕ → Hello → Values
-valuesAt m h =
-    record {
-      version = getD m (h .version .from) 0;
-      random = bytesAt m (h .random);
-      session = bytesAt m (h .session);
-      client = bytesAt m (h .client);
-      trusted = bytesAt m (h .trusted);
-      suites = bytesAt m (h .suites);
-      methods = bytesAt m (h .methods);
-      numbering = getD m (h .numbering .from) 0;
-      refresh = getD m (h .refresh .from) 0;
-    }
+valuesAt m h = valuesIn (givenAt m h)
+
+-- where the fields of a hello stand, by the sizes of what is written
+abbrev pub placesFrom : Given → Hello
+placesFrom g =
+    let s = 21 + length (g .session) in
+    let c = s + 2 + length (g .client) in
+    let t = c + 2 + length (g .trusted) in
+    let p = t + 1 + length (g .suites) in
+    let z = p + 1 + length (g .methods) in
+    placed 4 20 s c t p z (z + 1) (z + 1 + 1)
+
+abbrev pub placesOf : Values → Hello
+placesOf v = placesFrom (bytesOf v)

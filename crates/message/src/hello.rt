@@ -2,7 +2,7 @@
 ghost use mathlib.Core.Path.{_≡_};
 ghost use Prim.Native.Nat.{_≤_};
 ghost use lib.ListN.{length};
-ghost use Rattle.message.specs.Hello.{readOf, suitesEnd, placed};
+ghost use Rattle.message.specs.Hello.{readOf, toldBy, suitesEnd, placed};
 use crate::field;
 use crate::handshake;
 use crate::keys;
@@ -61,45 +61,105 @@ pub fn read(m: &[u8]) -> Reading
         return Reading::Malformed(Field::Size);
     }
     let version = field::field_end(m, 3, 1);
+    let random = field::field_end(m, version, 16);
+    let session = field::short_end(m, random, 0, 8);
+    let client = keys::keys_end(m, session);
+    let trusted = keys::keys_end(m, client);
+    let suites = suites_end(m, trusted);
+    let methods = field::short_end(m, suites, 1, 255);
+    let numbering = field::field_end(m, methods, 1);
+    let refresh = field::field_end(m, numbering, 1);
+    told(
+        version,
+        random,
+        session,
+        client,
+        trusted,
+        suites,
+        methods,
+        numbering,
+        refresh,
+        m.len(),
+    )
+}
+
+// The first field that is not there is at fault, whatever was found behind it. Where all are there, the last ends the
+// message.
+fn told(
+    version: usize,
+    random: usize,
+    session: usize,
+    client: usize,
+    trusted: usize,
+    suites: usize,
+    methods: usize,
+    numbering: usize,
+    refresh: usize,
+    size: usize,
+) -> Reading
+    requires { ⌜ (random ≤ size) × (session ≤ size) × (client ≤ size) × (trusted ≤ size) × (suites ≤ size) × (refresh ≤ size) ⌝ }
+    requires { ⌜ size ≤ 256 ⌝ }
+    ensures { λ r. ⌜ r ≡ toldBy version random session client trusted suites methods numbering refresh size ⌝ }
+{
     if version == 0 {
         return Reading::Malformed(Field::Version);
     }
-    let random = field::field_end(m, version, 16);
     if random == 0 {
         return Reading::Malformed(Field::Random);
     }
-    let session = field::short_end(m, random, 0, 8);
     if session == 0 {
         return Reading::Malformed(Field::SessionId);
     }
-    let client = keys::keys_end(m, session);
     if client == 0 {
         return Reading::Malformed(Field::ClientKeyIds);
     }
-    let trusted = keys::keys_end(m, client);
     if trusted == 0 {
         return Reading::Malformed(Field::TrustedKeyIds);
     }
-    let suites = suites_end(m, trusted);
     if suites == 0 {
         return Reading::Malformed(Field::CipherSuites);
     }
-    let methods = field::short_end(m, suites, 1, 255);
     if methods == 0 {
         return Reading::Malformed(Field::CompressionMethods);
     }
-    let numbering = field::field_end(m, methods, 1);
     if numbering == 0 {
         return Reading::Malformed(Field::SequenceNumberMode);
     }
-    let refresh = field::field_end(m, numbering, 1);
     if refresh == 0 {
         return Reading::Malformed(Field::KeyRefresh);
     }
-    if refresh < m.len() {
+    if refresh < size {
         return Reading::Malformed(Field::Rest);
     }
-    Reading::WellFormed(Hello {
+    Reading::WellFormed(placed(
+        version,
+        random,
+        session,
+        client,
+        trusted,
+        suites,
+        methods,
+        numbering,
+        refresh,
+    ))
+}
+
+// The fields, each told by its end: a vector's contents begin after its length.
+fn placed(
+    version: usize,
+    random: usize,
+    session: usize,
+    client: usize,
+    trusted: usize,
+    suites: usize,
+    methods: usize,
+    numbering: usize,
+    refresh: usize,
+) -> Hello
+    requires { ⌜ (random ≤ 256) × (session ≤ 256) × (client ≤ 256) × (trusted ≤ 256) × (suites ≤ 256) ⌝ }
+    ensures { λ r. ⌜ r ≡ placed version random session client trusted suites methods numbering refresh ⌝ }
+{
+    Hello {
         version: Place {
             from: 3,
             end: version,
@@ -136,7 +196,7 @@ pub fn read(m: &[u8]) -> Reading
             from: numbering,
             end: refresh,
         },
-    })
+    }
 }
 
 // The end of cipher_suites, a vector of pairs: its length is even.

@@ -3,7 +3,7 @@ ghost use mathlib.Core.Path.{_≡_};
 ghost use Prim.Native.Nat.{ℕ};
 ghost use lib.ListN.{length};
 ghost use Rattle.message.specs.Buffer.{over, fitting};
-ghost use Rattle.message.specs.Values.{valuesOf, fieldsAllowed, offersAllowed, sentOf};
+ghost use Rattle.message.specs.Given.{givenOf, fieldsGiven, offersAllowed, sentOf};
 use crate::keys;
 use crate::put;
 
@@ -21,8 +21,8 @@ pub fn write(
     refresh: u8,
     out: &mut [u8],
 ) -> usize
-    ensures { λ r. ⌜ r ≡ length (fitting (length (now (out .entry))) (sentOf (valuesOf version (now (random .entry)) (now (session .entry)) (now (client .entry)) (now (trusted .entry)) (now (suites .entry)) (now (methods .entry)) numbering refresh))) ⌝ }
-    ensures { λ r. ⌜ now (out .exit) ≡ over (now (out .entry)) (fitting (length (now (out .entry))) (sentOf (valuesOf version (now (random .entry)) (now (session .entry)) (now (client .entry)) (now (trusted .entry)) (now (suites .entry)) (now (methods .entry)) numbering refresh))) ⌝ }
+    ensures { λ r. ⌜ r ≡ length (fitting (length (now (out .entry))) (sentOf (givenOf version (now (random .entry)) (now (session .entry)) (now (client .entry)) (now (trusted .entry)) (now (suites .entry)) (now (methods .entry)) numbering refresh))) ⌝ }
+    ensures { λ r. ⌜ now (out .exit) ≡ over (now (out .entry)) (fitting (length (now (out .entry))) (sentOf (givenOf version (now (random .entry)) (now (session .entry)) (now (client .entry)) (now (trusted .entry)) (now (suites .entry)) (now (methods .entry)) numbering refresh))) ⌝ }
 {
     let size = size_of(random, session, client, trusted, suites, methods);
     if size == 0 {
@@ -53,7 +53,7 @@ fn size_of(
     suites: &[u8],
     methods: &[u8],
 ) -> usize
-    ensures { λ r. ⌜ ((version numbering refresh : ℕ) → r ≡ length (sentOf (valuesOf version (now (random .entry)) (now (session .entry)) (now (client .entry)) (now (trusted .entry)) (now (suites .entry)) (now (methods .entry)) numbering refresh))) ⌝ }
+    ensures { λ r. ⌜ ((version numbering refresh : ℕ) → r ≡ length (sentOf (givenOf version (now (random .entry)) (now (session .entry)) (now (client .entry)) (now (trusted .entry)) (now (suites .entry)) (now (methods .entry)) numbering refresh))) ⌝ }
 {
     if !fields_allowed(random, session, client, trusted) {
         return 0;
@@ -76,7 +76,7 @@ fn size_of(
 
 // Whether a hello can have this random, session identifier and key lists.
 fn fields_allowed(random: &[u8], session: &[u8], client: &[u8], trusted: &[u8]) -> bool
-    ensures { λ r. ⌜ r ≡ fieldsAllowed (now (random .entry)) (now (session .entry)) (now (client .entry)) (now (trusted .entry)) ⌝ }
+    ensures { λ r. ⌜ r ≡ fieldsGiven (now (random .entry)) (now (session .entry)) (now (client .entry)) (now (trusted .entry)) ⌝ }
 {
     if random.len() != 16 {
         return false;

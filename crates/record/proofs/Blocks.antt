@@ -46,7 +46,7 @@ begun s =
     record { a = 0; b = 0; c = 0; d = 0; small-a = omega arith; small-b = omega arith; small-c = omega arith; small-d = omega arith; spells = refl; inside = omega arith; so-far = refl }
 
 -- four bytes in front need no more padding
-padded-four : (p q r t : ℕ) (s : List ℕ) → padded (p ∷ q ∷ r ∷ t ∷ s) ≡ p ∷ q ∷ r ∷ t ∷ padded s
+pub padded-four : (p q r t : ℕ) (s : List ℕ) → padded (p ∷ q ∷ r ∷ t ∷ s) ≡ p ∷ q ∷ r ∷ t ∷ padded s
 unfolding padded
 padded-four p q r t s =
     let n : ℕ = length s in

@@ -29,6 +29,7 @@ use Rattle.record.proofs.code.write_protected as code-write-protected
 use Rattle.record.proofs.written.write_clear as written-write-clear
 use Rattle.record.proofs.written.type_byte as written-type-byte
 use Rattle.record.proofs.checksum.checksum as checksum-checksum
+use Rattle.record.proofs.mask.mask as mask-mask
 
 pub header-split-one : OneOutcome header-split.ended header-split.Reads.Learnt
 header-split-one κs a x y s u e f = (e ∙ sym f, refl)
@@ -107,3 +108,6 @@ protection-protection-with-window-one κs a x y s u e f = (e ∙ sym f, refl)
 
 pub protection-wrote-size-one : OneOutcome protection-wrote-size.ended protection-wrote-size.Reads.Learnt
 protection-wrote-size-one κs a x y s u e f = (e ∙ sym f, refl)
+
+pub mask-mask-one : OneOutcome mask-mask.ended mask-mask.Reads.Learnt
+mask-mask-one κs a x y s u e f = (refl, ap (λ w. (w, (tt, tt))) (e ∙ sym f))

@@ -18,7 +18,7 @@ use Rattle.record.specs.History.{accepted, highestOf, markOf, marksFrom,
 use Rattle.record.specs.declared.window.Window.{Window}
 use Rattle.record.specs.declared.window.Acceptance.the-variants.{New, TooOld, Repeated}
 
-decide : {P : Type 0} (b : Bool) → (b ≡ true → P) → (b ≡ false → P) → P
+pub decide : {P : Type 0} (b : Bool) → (b ≡ true → P) → (b ≡ false → P) → P
 decide true y n = y refl
 decide false y n = n refl
 

@@ -14,3 +14,7 @@ pub mod Protected
 pub mod CasesHold
 pub mod Coincide
 pub mod Edges
+pub mod Joining
+pub mod Masking
+pub mod Swapping
+pub mod Bench

@@ -10,3 +10,5 @@ pub mod Written
 pub mod Code
 pub mod Protection
 pub mod Cases
+pub mod Mask
+pub mod Bench

@@ -6,6 +6,7 @@ pub mod code;
 pub mod datagram;
 pub mod header;
 pub mod keys;
+pub mod mask;
 pub mod protection;
 pub mod reader;
 pub mod window;

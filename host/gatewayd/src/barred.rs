@@ -4,6 +4,7 @@
 use crate::clock::Moment;
 use crate::hex;
 use crate::sessions::{Identifier, Session};
+use std::collections::HashSet;
 use std::fs::{self, File, OpenOptions};
 use std::io::{self, Write};
 use std::os::unix::fs::OpenOptionsExt;
@@ -11,7 +12,7 @@ use std::path::{Path, PathBuf};
 
 pub struct Barred {
     path: PathBuf,
-    identifiers: Vec<Identifier>,
+    identifiers: HashSet<Identifier>,
 }
 
 const NAME: &str = "barred";
@@ -26,11 +27,11 @@ impl Barred {
         };
         // A last line without its end was cut by a crash; the journal knows that session.
         let end = bytes.iter().rposition(|byte| *byte == b'\n').map_or(0, |last| last + 1);
-        let mut identifiers = Vec::new();
+        let mut identifiers = HashSet::new();
         for (index, line) in String::from_utf8_lossy(&bytes[..end]).lines().enumerate() {
             let first = line.split('\t').next().unwrap_or("");
             let identifier = hex::read(first).ok().and_then(|bytes| bytes.try_into().ok());
-            identifiers.push(identifier.ok_or_else(|| {
+            identifiers.insert(identifier.ok_or_else(|| {
                 format!(
                     "{}:{}:1: the identifier is not 16 hexadecimal digits",
                     path.display(),
@@ -60,7 +61,7 @@ impl Barred {
         if let Some(directory) = self.path.parent() {
             File::open(directory)?.sync_all()?;
         }
-        self.identifiers.push(session.id);
+        self.identifiers.insert(session.id);
         Ok(())
     }
 }

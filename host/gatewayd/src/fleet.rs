@@ -1,38 +1,48 @@
 //! All ships, and what a datagram does to them. Nothing here touches the disk or the network: what
 //! is to be saved, listed, sent and logged comes back, and the caller does it in that order.
 
+use crate::budget::Shares;
 use crate::datagram;
+use crate::handshakes::{self, Handshakes};
+use crate::hints::Hints;
 use crate::note::Note;
+use crate::routes::Routes;
+use crate::search::{self, Arrival, Found, Known, Target, Trials};
 use crate::sessions::Identifier;
-use crate::ship::Ship;
+use crate::ship::{Handshake, Ship};
 use crate::throttle::Throttle;
-use gateway::{Answer, Connection, Received, Refusal, Refused, Sense, State, REPLY_ROOM};
+use crate::trial::{self, Trial, Worth};
+use crate::way::{self, Way};
+use gateway::{Answer, Refusal, Refused, Sense, State, REPLY_ROOM};
 use std::collections::HashMap;
-use std::net::SocketAddr;
 use std::time::{Duration, Instant};
 
-/// Behind one address (a relay, a network that shares addresses) there may be some ships.
-const SHIPS_AT_AN_ADDRESS: usize = 4;
-
 const WARNING: u32 = 1;
-const CRITICAL: u32 = 2;
-const CONNECTION_CLOSE_NOTIFY: u32 = 0;
 const DUPLICATE_FINISHED_RECEIVED: u32 = 57;
 
+/// Hellos answered for one share of the hosts, and for all.
+const HELLOS_OF_A_SHARE: u32 = 100;
+const HELLOS_EACH_SECOND: u32 = 4_000;
+
 pub struct Rules {
-    /// How long a connection must have been silent before a hello may end it; never, if none.
-    pub reopen_after: Option<Duration>,
+    /// How long a connection must have been silent before a hello is answered beside it.
+    pub reopen_after: Duration,
     /// At most one warning 57 for each ship in this time.
     pub warn_every: Duration,
+    /// At most one no_connection to a sender in this time; none at all, if none.
+    pub hint_every: Option<Duration>,
 }
 
 pub struct Fleet {
     pub ships: Vec<Ship>,
     by_identifier: HashMap<Identifier, usize>,
-    /// The ships behind an address. Each ship has at most one, so strangers cannot make it grow.
-    by_address: HashMap<SocketAddr, Vec<usize>>,
-    reopen_after: Option<Duration>,
+    routes: Routes,
+    handshakes: Handshakes,
+    reopen_after: Duration,
     warnings: Throttle<usize>,
+    hints: Option<Hints>,
+    hellos: Shares,
+    trials: Trials,
 }
 
 #[derive(Clone, PartialEq, Eq, Debug)]
@@ -49,152 +59,236 @@ pub struct Taken {
     /// Whether the ship must be saved before anything is listed or sent.
     pub changed: bool,
     pub reports: Vec<Report>,
-    pub send: Vec<(SocketAddr, Vec<u8>)>,
+    pub send: Vec<(Way, Vec<u8>)>,
     pub notes: Vec<Note>,
 }
 
-/// A datagram with all that is needed to take it.
-struct Arrival<'a> {
-    sender: SocketAddr,
-    datagram: &'a [u8],
-    random: &'a [u8; 16],
-    now: Instant,
-}
-
 impl Fleet {
-    pub fn new(ships: Vec<Ship>, rules: Rules) -> Fleet {
+    pub fn new(mut ships: Vec<Ship>, rules: Rules) -> Fleet {
         let by_identifier =
             ships.iter().enumerate().map(|(index, ship)| (ship.session.id, index)).collect();
-        let mut by_address: HashMap<SocketAddr, Vec<usize>> = HashMap::new();
-        for (index, ship) in ships.iter().enumerate() {
-            if let Some(address) = ship.route {
-                by_address.entry(address).or_default().push(index);
+        let mut handshakes = Handshakes::default();
+        for index in 0..ships.len() {
+            for handshake in std::mem::take(&mut ships[index].started) {
+                handshakes.add(&mut ships, index, handshake);
             }
         }
-        let warnings = Throttle::new(rules.warn_every);
-        Fleet { ships, by_identifier, by_address, reopen_after: rules.reopen_after, warnings }
+        let mut fleet = Fleet {
+            ships,
+            by_identifier,
+            routes: Routes::default(),
+            handshakes,
+            reopen_after: rules.reopen_after,
+            warnings: Throttle::new(rules.warn_every),
+            hints: rules.hint_every.map(Hints::new),
+            hellos: Shares::new(HELLOS_EACH_SECOND, HELLOS_OF_A_SHARE),
+            trials: Trials::default(),
+        };
+        for index in 0..fleet.ships.len() {
+            fleet.set_route(index);
+        }
+        fleet
     }
 
     /// Takes a datagram. The random must be fresh.
-    pub fn take(
-        &mut self,
-        sender: SocketAddr,
-        datagram: &[u8],
-        random: &[u8; 16],
-        now: Instant,
-    ) -> Taken {
-        let arrival = Arrival { sender, datagram, random, now };
-        match self.ship_for(&arrival) {
-            Ok(index) => self.give(index, &arrival),
-            Err(note) => Taken { notes: vec![note], ..Taken::default() },
+    pub fn take(&mut self, way: Way, datagram: &[u8], random: &[u8; 16], now: Instant) -> Taken {
+        let arrival = Arrival { way, datagram, random, now };
+        match datagram::hello(datagram) {
+            Some(hello) => self.take_hello(&hello, &arrival),
+            None => self.take_records(&arrival),
         }
     }
+}
 
-    /// A hello is for the ship that it names, anything else for the ship behind its sender.
-    fn ship_for(&self, arrival: &Arrival) -> Result<usize, Note> {
-        let here = self.by_address.get(&arrival.sender).map_or(&[][..], |ships| ships);
-        if let Some(identifier) = datagram::named(arrival.datagram) {
-            let index = *self.by_identifier.get(&identifier).ok_or(Note::UnknownSession)?;
-            let crowded = here.len() >= SHIPS_AT_AN_ADDRESS && !here.contains(&index);
-            return if crowded { Err(Note::TooManyShips) } else { Ok(index) };
-        }
-        match here {
-            [] => Err(Note::Stranger),
-            [index] => Ok(*index),
-            // Of several ships, the first with which one of the records counts for something.
-            _ => Ok(here
-                .iter()
-                .copied()
-                .find(|index| self.takes(*index, arrival))
-                .unwrap_or(here[0])),
-        }
-    }
-
-    fn takes(&self, index: usize, arrival: &Arrival) -> bool {
+/// Hellos. Each is for the ship that it names and is answered to its sender; no route moves.
+impl Fleet {
+    fn take_hello(&mut self, hello: &datagram::Hello, arrival: &Arrival) -> Taken {
+        let Some(index) = self.by_identifier.get(&hello.session).copied() else {
+            return noted(None, Note::UnknownSession);
+        };
         let ship = &self.ships[index];
-        let (mut connection, mut tally) = (ship.connection.clone(), ship.tally);
-        let mut out = [0; REPLY_ROOM];
-        let received = connection.receive(&mut tally, arrival.datagram, arrival.random, &mut out);
-        received.is_ok_and(|received| {
-            received.answers().any(|answer| !matches!(answer, Answer::Refused(_)))
-        })
+        if ship.barred {
+            return noted(Some(index), Note::Refused { refusal: Refusal::Ended, record: 0 });
+        }
+        let silent = arrival.now.saturating_duration_since(ship.heard) >= self.reopen_after;
+        if ship.is_open() && (!silent || ship.hello == hello.message) {
+            let refusal = Refusal::HelloWhileOpen;
+            return noted(Some(index), Note::Refused { refusal, record: 0 });
+        }
+        if !self.may_answer(index, arrival) {
+            return noted(Some(index), Note::HelloPassedOver);
+        }
+        let same = |handshake: &Handshake| handshake.hello == hello.message;
+        match self.ships[index].started.iter().position(same) {
+            Some(place) => self.say_again(index, place, arrival),
+            None => self.start(index, hello, arrival),
+        }
     }
 
-    fn give(&mut self, index: usize, arrival: &Arrival) -> Taken {
-        let ship = &mut self.ships[index];
-        let mut taken = Taken { ship: Some(index), ..Taken::default() };
-        if ship.barred {
-            taken.notes.push(Note::Refused { refusal: Refusal::Ended, record: 0 });
-            return taken;
+    /// Hellos from the ship's own host have a budget that no other host can use up.
+    fn may_answer(&mut self, index: usize, arrival: &Arrival) -> bool {
+        let host = way::host(arrival.way.sender);
+        match handshakes::is_home(&self.ships[index], host) {
+            true => self.ships[index].hellos.spend(1, arrival.now),
+            false => self.hellos.spend(host, 1, arrival.now),
         }
-        let before = ship.connection.clone();
-        let mut out = [0; REPLY_ROOM];
-        match ship.connection.receive(&mut ship.tally, arrival.datagram, arrival.random, &mut out) {
-            Ok(received) => {
-                let route = self.settle(index, arrival, &before, &received, &mut taken);
-                let moved = self.set_route(index, route);
-                let differs = self.ships[index].connection != before;
-                taken.changed = moved || differs || !taken.reports.is_empty();
+    }
+
+    /// The hello of a handshake under way, once more: the same reply.
+    fn say_again(&mut self, index: usize, place: usize, arrival: &Arrival) -> Taken {
+        let sender = arrival.way.sender;
+        self.handshakes.said_again(&mut self.ships, index, place, sender);
+        let ship = &self.ships[index];
+        match arrival.tried_on(ship, Target::Started(index, place)) {
+            Ok(trial) => self.settle(Target::Started(index, place), trial, arrival),
+            Err(refused) => noted(Some(index), refused_whole(refused)),
+        }
+    }
+
+    /// A new hello: a handshake of its own, beside all others.
+    fn start(&mut self, index: usize, hello: &datagram::Hello, arrival: &Arrival) -> Taken {
+        let sender = arrival.way.sender;
+        let Some(room) = self.handshakes.room(&self.ships, index, sender, arrival.now) else {
+            return noted(Some(index), Note::HelloPassedOver);
+        };
+        let ship = &self.ships[index];
+        let Some(connection) = ship.base() else { return Taken::default() };
+        let trial = match trial::on(&connection, ship.tally, arrival.datagram, arrival.random) {
+            Ok(trial) => trial,
+            Err(refused) => return noted(Some(index), refused_whole(refused)),
+        };
+        let mut taken = Taken { ship: Some(index), ..Taken::default() };
+        tell(arrival, &trial, &mut taken);
+        // Nothing is kept of a hello that is refused, or that is taken back by what follows it.
+        let under_way = matches!(trial.connection.state(), State::Replied | State::Spec);
+        if trial.has_reply() && under_way {
+            let newcomer = Handshake {
+                serial: 0,
+                hello: hello.message.to_vec(),
+                senders: vec![sender],
+                connection: trial.connection,
+                at: arrival.now,
+            };
+            self.handshakes.start(&mut self.ships, index, room, newcomer);
+            taken.changed = true;
+            taken.notes.push(Note::Answered);
+        }
+        taken
+    }
+}
+
+/// Everything else. It is for the ship whose keys made it.
+impl Fleet {
+    fn take_records(&mut self, arrival: &Arrival) -> Taken {
+        let known =
+            Known { ships: &self.ships, routes: &self.routes, handshakes: &self.handshakes };
+        match search::find(&known, &mut self.trials, arrival) {
+            Found::Genuine(target, trial) | Found::Refused(target, trial) => {
+                self.settle(target, trial, arrival)
             }
-            Err(Refused { refusal, offset }) => {
-                taken.notes.push(Note::RefusedWhole { refusal, offset });
+            Found::RefusedWhole(ship, refused) => noted(ship, refused_whole(refused)),
+            Found::Nobodys => self.pass_over(arrival),
+        }
+    }
+
+    /// Nobody's. The sender may be told, if the operator wants it.
+    fn pass_over(&mut self, arrival: &Arrival) -> Taken {
+        let mut taken = noted(None, Note::Stranger);
+        let first = datagram::records(arrival.datagram).next();
+        let protected = first.filter(|record| datagram::is_protected(record));
+        if let (Some(hints), Some(record)) = (&mut self.hints, protected) {
+            if let Some(hint) = hints.answer(arrival.way.sender, record, arrival.now) {
+                taken.send.push((arrival.way, hint));
+                taken.notes.push(Note::Hinted);
             }
         }
         taken
     }
 
-    /// What follows from the answers of a datagram; gives the ship's route after it.
-    fn settle(
-        &mut self,
-        index: usize,
-        arrival: &Arrival,
-        before: &Connection,
-        received: &Received,
-        taken: &mut Taken,
-    ) -> Option<SocketAddr> {
-        let answered = tell(arrival, received, taken);
+    /// What comes of a datagram in the connection that takes it.
+    fn settle(&mut self, target: Target, trial: Trial, arrival: &Arrival) -> Taken {
+        let index = target.ship();
+        let mut taken = Taken { ship: Some(index), ..Taken::default() };
+        tell(arrival, &trial, &mut taken);
         let ship = &mut self.ships[index];
-        let route = if answered { Some(arrival.sender) } else { ship.route };
-        match ship.connection.state() {
-            State::Idle | State::Replied | State::Spec => route,
-            State::Open => {
-                // In Open nothing but a genuine new record changes the connection. A replayed one
-                // does not count: else a stranger could keep a rebooted ship out.
-                if ship.connection != *before {
-                    ship.heard = arrival.now;
+        ship.tally = trial.tally;
+        let mut moved = false;
+        if let Worth::New(number) = trial.worth {
+            moved = ship.route != Some(arrival.way.sender);
+            ship.route = Some(arrival.way.sender);
+            ship.ours = arrival.way.ours;
+            ship.heard = arrival.now;
+            ship.newest = if trial.opens() { number } else { number.max(ship.newest) };
+        }
+        let differs = match target {
+            Target::Settled(_) => ship.connection != trial.connection,
+            Target::Started(_, place) => ship.started[place].connection != trial.connection,
+        };
+        taken.changed = moved || differs || !taken.reports.is_empty();
+        self.put(target, &trial, &mut taken);
+        // Who is heard on the open connection has not rebooted: what strangers began beside it goes.
+        if matches!((target, trial.worth), (Target::Settled(_), Worth::New(_))) {
+            self.handshakes.end_old_of(&mut self.ships, index, arrival.now);
+        }
+        if matches!(target, Target::Settled(_)) || trial.opens() {
+            self.warn_of_repeated(index, arrival, &trial, &mut taken);
+        }
+        self.set_route(index);
+        taken
+    }
+
+    /// Puts a connection where it belongs after a datagram. A handshake that opens takes the place
+    /// of what was there, and all others end.
+    fn put(&mut self, target: Target, trial: &Trial, taken: &mut Taken) {
+        let index = target.ship();
+        let state = trial.connection.state();
+        if let Target::Started(_, place) = target {
+            if !trial.opens() && state != State::Barred {
+                self.ships[index].started[place].connection = trial.connection.clone();
+                if state == State::Closed {
+                    self.handshakes.end(&mut self.ships, index, place);
                 }
-                if received.answers().next() == Some(Answer::Refused(Refusal::HelloWhileOpen)) {
-                    return if self.reopen(index, arrival, taken) {
-                        Some(arrival.sender)
-                    } else {
-                        route
-                    };
-                }
-                if let Some(finished) = repeated_finished(arrival.datagram, received) {
-                    self.warn(index, finished, arrival, taken);
-                }
-                route
+                return;
             }
+            if self.ships[index].is_open() {
+                taken.notes.push(Note::Replaced);
+            }
+            self.ships[index].hello = self.ships[index].started[place].hello.clone();
+            self.handshakes.end_all_of(&mut self.ships, index);
+        }
+        let ship = &mut self.ships[index];
+        ship.connection = trial.connection.clone();
+        match state {
             // A closed connection is of no use: the next hello is to find it started again. (From
             // Closed, start again is never refused.)
             State::Closed => {
                 let _ = ship.connection.start();
-                None
             }
             State::Barred => {
                 ship.barred = true;
-                None
+                self.handshakes.end_all_of(&mut self.ships, index);
             }
+            State::Idle | State::Replied | State::Spec | State::Open => {}
         }
     }
 
-    /// The warning 57 of 10.4, at most one in its time: each spends one of our 65,535 numbers.
-    fn warn(&mut self, index: usize, finished: &[u8], arrival: &Arrival, taken: &mut Taken) {
-        if self.warnings.pass(index, arrival.now).is_none() {
+    /// The warning 57 of 10.4, at most one in its time: each spends one of our 65,535 numbers. It
+    /// goes where the ship is known to be.
+    fn warn_of_repeated(
+        &mut self,
+        index: usize,
+        arrival: &Arrival,
+        trial: &Trial,
+        taken: &mut Taken,
+    ) {
+        let ship = &mut self.ships[index];
+        let Some(finished) = repeated_finished(arrival.datagram, &trial.answers) else { return };
+        let Some(sender) = ship.route else { return };
+        if !ship.is_open() || self.warnings.pass(index, arrival.now).is_none() {
             return;
         }
         let mut out = [0; REPLY_ROOM];
-        let sent = self.ships[index].connection.send_alert(
+        let sent = ship.connection.send_alert(
             Sense::Protected,
             WARNING,
             DUPLICATE_FINISHED_RECEIVED,
@@ -203,88 +297,36 @@ impl Fleet {
         );
         match sent {
             Ok(warning) => {
-                taken.send.push((arrival.sender, warning.to_vec()));
+                taken.send.push((Way { sender, ours: ship.ours }, warning.to_vec()));
                 taken.notes.push(Note::Warned);
+                taken.changed = true;
             }
             Err(refusal) => taken.notes.push(Note::AlertRefused { refusal }),
         }
     }
 
-    /// A hello that names this ship was refused 18. If the ship has been silent for long enough, a
-    /// protected critical connection_close_notify goes out, the connection is closed and started
-    /// again, and the hello is received. All of it is tried on a copy: a hello that then gets no
-    /// reply ends nothing.
-    fn reopen(&mut self, index: usize, arrival: &Arrival, taken: &mut Taken) -> bool {
-        let ship = &mut self.ships[index];
-        let Some(limit) = self.reopen_after else { return false };
-        let silent = arrival.now.saturating_duration_since(ship.heard) >= limit;
-        if !silent || datagram::named(arrival.datagram) != Some(ship.session.id) {
-            return false;
-        }
-        let (mut connection, mut tally) = (ship.connection.clone(), ship.tally);
-        let hello = datagram::records(arrival.datagram)[0];
-        let mut notice = [0; REPLY_ROOM];
-        let sent = connection.send_alert(
-            Sense::Protected,
-            CRITICAL,
-            CONNECTION_CLOSE_NOTIFY,
-            hello,
-            &mut notice,
-        );
-        let mut out = [0; REPLY_ROOM];
-        let Some(received) = started_again(&mut connection)
-            .and_then(|()| {
-                connection.receive(&mut tally, arrival.datagram, arrival.random, &mut out).ok()
-            })
-            .filter(|received| matches!(received.answers().next(), Some(Answer::Reply(_))))
-        else {
-            return false;
-        };
-        match (sent, ship.route) {
-            (Ok(notice), Some(old)) => taken.send.push((old, notice.to_vec())),
-            (Err(refusal), _) => taken.notes.push(Note::AlertRefused { refusal }),
-            (Ok(_), None) => {}
-        }
-        taken.notes.push(Note::Reopened);
-        ship.connection = connection;
-        ship.tally = tally;
-        ship.heard = arrival.now;
-        tell(arrival, &received, taken)
-    }
-
-    fn set_route(&mut self, index: usize, route: Option<SocketAddr>) -> bool {
-        let before = std::mem::replace(&mut self.ships[index].route, route);
-        if before == route {
-            return false;
-        }
-        if let Some(address) = before {
-            let ships = self.by_address.entry(address).or_default();
-            ships.retain(|other| *other != index);
-            if ships.is_empty() {
-                self.by_address.remove(&address);
-            }
-        }
-        if let Some(address) = route {
-            self.by_address.entry(address).or_default().push(index);
-        }
-        true
+    /// Routes are looked up for open ships only.
+    fn set_route(&mut self, index: usize) {
+        let ship = &self.ships[index];
+        let route = ship.route.filter(|_| ship.is_open()).map(|route| (route, ship.newest));
+        self.routes.set(index, route);
     }
 }
 
-fn started_again(connection: &mut Connection) -> Option<()> {
-    connection.close().ok()?;
-    connection.start().ok()
+fn noted(ship: Option<usize>, note: Note) -> Taken {
+    Taken { ship, notes: vec![note], ..Taken::default() }
 }
 
-/// Puts down what each answer is for the outside; true if a hello was answered, so that the route
-/// is now the sender's. (In Open no hello is answered, so no route of an open connection moves.)
-fn tell(arrival: &Arrival, received: &Received, taken: &mut Taken) -> bool {
-    let mut answered = false;
-    for (record, answer) in received.answers().enumerate() {
-        match answer {
+fn refused_whole(Refused { refusal, offset }: Refused) -> Note {
+    Note::RefusedWhole { refusal, offset }
+}
+
+/// Puts down what each answer is for the outside.
+fn tell(arrival: &Arrival, trial: &Trial, taken: &mut Taken) {
+    for (record, answer) in trial.answers.iter().enumerate() {
+        match *answer {
             Answer::Reply(_) | Answer::Resent(_) => {
-                taken.send.push((arrival.sender, received.to_send().to_vec()));
-                answered = true;
+                taken.send.push((arrival.way, trial.reply.clone()));
             }
             Answer::Data { number, bytes, .. } => {
                 taken.reports.push(Report { number, bytes: bytes.to_vec() });
@@ -303,19 +345,18 @@ fn tell(arrival: &Arrival, received: &Received, taken: &mut Taken) -> bool {
             Answer::Spec | Answer::Again | Answer::Warning(_) => {}
         }
     }
-    answered
 }
 
 /// The record that is the unit's Finished once more: "again" under a new number; under its old
 /// number repeated or, later, too old. (Both are said only of records whose code is right.)
-fn repeated_finished<'a>(datagram: &'a [u8], received: &Received) -> Option<&'a [u8]> {
+fn repeated_finished<'d>(datagram: &'d [u8], answers: &[Answer]) -> Option<&'d [u8]> {
     let records = datagram::records(datagram);
-    let repeated = |(answer, record): &(Answer, &[u8])| match answer {
+    let repeated = |(answer, record): &(&Answer, &[u8])| match answer {
         Answer::Again => true,
         Answer::Refused(Refusal::TooOld | Refusal::Repeated) => {
             datagram::is_protected_handshake(record)
         }
         _ => false,
     };
-    received.answers().zip(records).find(repeated).map(|(_, record)| record)
+    answers.iter().zip(records).find(repeated).map(|(_, record)| record)
 }

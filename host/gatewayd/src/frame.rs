@@ -6,8 +6,13 @@
 //! mark 4, length of the body 4, body, SHA-1 over all of these 20
 //! body: time 8, place in the list (day 4, text 8, JSON 8), changes until its end
 //! change: identifier 8, planting 20, connection 458, tally 16, route 19, name 2 + n,
-//!         reports 2, and for each number 2, bytes 2 + n
+//!         reports 2, and for each number 2, bytes 2 + n,
+//!         highest number 2, hello 2 + n, handshakes 2, and for each hello 2 + n,
+//!         connection 458, senders 2, and for each 19
 //! ```
+//!
+//! A connection of another size has no place here, so a journal of another layout is not read: `other_layout` tells it
+//! from a damaged one.
 
 use crate::clock::{Day, Moment};
 use crate::fleet::Report;
@@ -17,10 +22,18 @@ use gateway::{STATE_SIZE, TALLY_SIZE};
 use peer::sha1::sha1;
 use std::net::{IpAddr, SocketAddr};
 
-/// "GWJ", and 1 for this layout.
-const MARK: [u8; 4] = *b"GWJ\x01";
+/// "GWJ", and 2 for this layout.
+const MARK: [u8; 4] = *b"GWJ\x02";
 const HEAD: usize = 8;
 const DIGEST: usize = 20;
+
+/// The number of another layout, where the journal is of one.
+pub fn other_layout(journal: &[u8]) -> Option<u8> {
+    match journal {
+        [b'G', b'W', b'J', number, ..] if *number != MARK[3] => Some(*number),
+        _ => None,
+    }
+}
 
 #[derive(Clone, PartialEq, Eq, Debug)]
 pub struct Frame {
@@ -41,6 +54,19 @@ pub struct Change {
     /// The ship's name at that time, for the list.
     pub ship: String,
     pub reports: Vec<Report>,
+    /// The highest number of the connection.
+    pub newest: u16,
+    /// The hello from which the connection came.
+    pub hello: Vec<u8>,
+    pub started: Vec<Started>,
+}
+
+/// A handshake under way.
+#[derive(Clone, PartialEq, Eq, Debug)]
+pub struct Started {
+    pub hello: Vec<u8>,
+    pub connection: [u8; STATE_SIZE],
+    pub senders: Vec<SocketAddr>,
 }
 
 impl Frame {
@@ -103,6 +129,12 @@ impl Change {
             bytes.extend(report.number.to_be_bytes());
             put_counted(bytes, &report.bytes);
         }
+        bytes.extend(self.newest.to_be_bytes());
+        put_counted(bytes, &self.hello);
+        bytes.extend((self.started.len() as u16).to_be_bytes());
+        for started in &self.started {
+            started.put(bytes);
+        }
     }
 
     fn take(bytes: &mut Bytes) -> Option<Change> {
@@ -118,7 +150,45 @@ impl Change {
             let number = bytes.two()?;
             reports.push(Report { number, bytes: bytes.counted()?.to_vec() });
         }
-        Some(Change { id, planting, connection, tally, route, ship, reports })
+        let newest = bytes.two()?;
+        let hello = bytes.counted()?.to_vec();
+        let mut started = Vec::new();
+        for _ in 0..bytes.two()? {
+            started.push(Started::take(bytes)?);
+        }
+        Some(Change {
+            id,
+            planting,
+            connection,
+            tally,
+            route,
+            ship,
+            reports,
+            newest,
+            hello,
+            started,
+        })
+    }
+}
+
+impl Started {
+    fn put(&self, bytes: &mut Vec<u8>) {
+        put_counted(bytes, &self.hello);
+        bytes.extend(self.connection);
+        bytes.extend((self.senders.len() as u16).to_be_bytes());
+        for sender in &self.senders {
+            bytes.extend(route_bytes(Some(*sender)));
+        }
+    }
+
+    fn take(bytes: &mut Bytes) -> Option<Started> {
+        let hello = bytes.counted()?.to_vec();
+        let connection = bytes.array()?;
+        let mut senders = Vec::new();
+        for _ in 0..bytes.two()? {
+            senders.push(route_in(bytes.array()?)??);
+        }
+        Some(Started { hello, connection, senders })
     }
 }
 
@@ -199,10 +269,19 @@ mod tests {
                 Report { number: 65535, bytes: vec![5; 1300] },
                 Report { number: 1, bytes: vec![6] },
             ],
+            newest: 0x1234,
+            hello: vec![7; 40],
+            started: vec![],
+        };
+        let started = Started {
+            hello: vec![8; 256],
+            connection: [9; STATE_SIZE],
+            senders: vec!["192.0.2.8:1".parse().unwrap(), "[2001:db8::2]:2".parse().unwrap()],
         };
         let other = Change {
             route: Some("[2001:db8::1]:65535".parse().unwrap()),
             reports: vec![],
+            started: vec![started.clone(), Started { hello: vec![], ..started }],
             ..change.clone()
         };
         let third = Change { route: None, ..change.clone() };
@@ -216,6 +295,16 @@ mod tests {
         assert_eq!(Frame::read(&bytes), Some((frame(), bytes.len())));
         let followed = [&bytes[..], b"GWJ"].concat();
         assert_eq!(Frame::read(&followed), Some((frame(), bytes.len())));
+    }
+
+    #[test]
+    fn another_layout_is_told() {
+        let mut bytes = frame().bytes();
+        assert_eq!(other_layout(&bytes), None);
+        bytes[3] = 1;
+        assert_eq!(other_layout(&bytes), Some(1));
+        assert_eq!(Frame::read(&bytes), None);
+        assert_eq!(other_layout(b"GW"), None);
     }
 
     #[test]

@@ -2,7 +2,7 @@
 //! disk; after a crash the file is read up to its last whole record. Now and then it is written anew
 //! with one record that holds every ship, so that it stays small.
 
-use crate::frame::Frame;
+use crate::frame::{self, Frame};
 use std::fs::{self, File, OpenOptions};
 use std::io::{self, Write};
 use std::os::unix::fs::OpenOptionsExt;
@@ -48,7 +48,12 @@ pub fn read(bytes: &[u8]) -> Contents {
 /// a journal gets its name when its first record is on the disk.)
 pub fn load(directory: &Path) -> io::Result<Contents> {
     match fs::read(directory.join(NAME)) {
-        Ok(bytes) => Ok(read(&bytes)),
+        Ok(bytes) => match frame::other_layout(&bytes) {
+            None => Ok(read(&bytes)),
+            Some(number) => Err(io::Error::other(format!(
+                "a journal of layout {number}, which this gateway does not read: move it away, and the ships say hello again"
+            ))),
+        },
         Err(error) if error.kind() == io::ErrorKind::NotFound => {
             Ok(Contents { frames: Vec::new(), left_over: 0, is_damaged: false })
         }

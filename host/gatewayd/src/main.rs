@@ -1,15 +1,22 @@
 //! `gatewayd`: see `gatewayd --help`.
 
 use gatewayd::options::{self, Command, HELP};
-use gatewayd::run;
+use gatewayd::run::{self, Ended, Failure};
+use gatewayd::signals;
+use gatewayd::socket::Socket;
+use std::os::unix::process::CommandExt;
 use std::process::ExitCode;
 
 fn main() -> ExitCode {
-    match options::read(std::env::args().skip(1)) {
+    match options::read(std::env::args_os().skip(1)) {
         Ok(Command::Help) => print!("{HELP}"),
         Ok(Command::Version) => println!("gatewayd {}", env!("CARGO_PKG_VERSION")),
         Ok(Command::Run(options)) => {
-            if let Err(failure) = run::run(&options) {
+            let ended = run::run(&options);
+            if let Err(failure) = ended.and_then(|ended| match ended {
+                Ended::ForGood => Ok(()),
+                Ended::WithSuccessor(socket) => Err(start_anew(socket)),
+            }) {
                 eprintln!("gatewayd: {}", failure.what);
                 return ExitCode::from(failure.status);
             }
@@ -20,4 +27,21 @@ fn main() -> ExitCode {
         }
     }
     ExitCode::SUCCESS
+}
+
+/// The program as it now lies on the disk takes the place of this one, with the same words and the
+/// same socket. Comes back only if that fails.
+fn start_anew(socket: Socket) -> Failure {
+    let mut words = std::env::args_os();
+    let program = words.next().unwrap_or_default();
+    let mut command = std::process::Command::new(program);
+    command.args(words);
+    let error = match socket.hand_over(&mut command) {
+        Ok(()) => {
+            signals::ignore_new_start();
+            command.exec()
+        }
+        Err(error) => error,
+    };
+    Failure { status: 6, what: format!("no new start: {error}") }
 }

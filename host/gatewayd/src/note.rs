@@ -6,12 +6,16 @@ use std::io::ErrorKind;
 
 #[derive(Clone, Copy, PartialEq, Eq, Debug)]
 pub enum Note {
-    /// Neither does its sender have a route, nor is it a hello with an identifier.
+    /// No ship's keys made it, and its sender is nobody that we know.
     Stranger,
     /// A hello that names no planted session.
     UnknownSession,
-    /// One more ship would share the sender's address.
-    TooManyShips,
+    /// A hello for which there was no room, or that was one of too many.
+    HelloPassedOver,
+    /// A hello that was answered.
+    Answered,
+    /// The sender was told that there is no connection.
+    Hinted,
     /// A datagram refused as a whole; 1 to 5 begin at an offset.
     RefusedWhole {
         refusal: Refusal,
@@ -32,8 +36,8 @@ pub enum Note {
     },
     /// The warning 57 went out.
     Warned,
-    /// The connection was closed and started again for a hello.
-    Reopened,
+    /// A handshake beside an open connection has taken its place.
+    Replaced,
     /// The system did not take a datagram of ours.
     NotSent(ErrorKind),
     /// The library did not write an alert of ours.
@@ -48,7 +52,7 @@ impl Note {
         match *self {
             Note::Stranger => (0, 0),
             Note::UnknownSession => (1, 0),
-            Note::TooManyShips => (2, 0),
+            Note::HelloPassedOver => (2, 0),
             Note::RefusedWhole { refusal, .. } | Note::Refused { refusal, .. } => {
                 (3, refusal.number())
             }
@@ -57,9 +61,11 @@ impl Note {
             Note::ClosedByWrongFinished => (6, 0),
             Note::BarredByAlert { .. } => (7, 0),
             Note::Warned => (8, 0),
-            Note::Reopened => (9, 0),
+            Note::Replaced => (9, 0),
             Note::AlertRefused { .. } => (10, 0),
             Note::NotSent(_) => (11, 0),
+            Note::Answered => (12, 0),
+            Note::Hinted => (13, 0),
         }
     }
 }
@@ -67,9 +73,11 @@ impl Note {
 impl fmt::Display for Note {
     fn fmt(&self, f: &mut fmt::Formatter) -> fmt::Result {
         match *self {
-            Note::Stranger => write!(f, "not routed: no hello of this sender named a session"),
-            Note::UnknownSession => write!(f, "not routed: the hello names no planted session"),
-            Note::TooManyShips => write!(f, "not routed: too many ships at this address"),
+            Note::Stranger => write!(f, "dropped: no ship's, as far as it was tried"),
+            Note::UnknownSession => write!(f, "dropped: the hello names no planted session"),
+            Note::HelloPassedOver => write!(f, "dropped: too many hellos that name this ship"),
+            Note::Answered => write!(f, "hello answered"),
+            Note::Hinted => write!(f, "told that there is no connection"),
             Note::RefusedWhole { refusal, offset } => write!(f, "{refusal}, at byte {offset}"),
             Note::Refused { refusal, record } => write!(f, "{refusal}, record {record}"),
             Note::Opened => write!(f, "open"),
@@ -81,7 +89,7 @@ impl fmt::Display for Note {
                 write!(f, "session barred by a fatal alert, description {description}")
             }
             Note::Warned => write!(f, "Finished repeated: warning 57 sent"),
-            Note::Reopened => write!(f, "silent, and a hello came: closed and started again"),
+            Note::Replaced => write!(f, "the open connection was replaced by a new one"),
             Note::NotSent(kind) => write!(f, "datagram not sent: {kind}"),
             Note::AlertRefused { refusal } => write!(f, "alert not sent: {refusal}"),
         }

@@ -1,5 +1,6 @@
 //! The command line.
 
+use std::ffi::OsString;
 use std::net::SocketAddr;
 use std::path::PathBuf;
 use std::time::Duration;
@@ -10,17 +11,23 @@ gatewayd: the shore end of the link, over UDP. One connection for each planted s
     gatewayd --sessions FILE --state DIRECTORY [OPTIONS]
 
     --sessions FILE        planted sessions, one to a line: identifier (16 hexadecimal digits),
-                           secret (40), the ship's name. Refused if others can read it.
+                           secret (40), the ship's name. Refused if others can read it, and if it
+                           belongs to another user.
     --state DIRECTORY      journal and barred sessions. Made if it is not there.
     --lists DIRECTORY      the day's lists, DAY.txt and DAY.jsonl  [STATE/lists]
-    --listen ADDRESS:PORT  where to listen  [127.0.0.1:9202]
-    --reopen-after SECONDS a hello may end an open connection that has been silent for so long
-                           [never]
+    --listen ADDRESS:PORT  where to listen  [127.0.0.1:9202]; not asked if a socket was handed over
+                           (LISTEN_FDS, as systemd does it)
+    --reopen-after SECONDS a hello is answered beside an open connection that has been silent for so
+                           long  [5]
     --warn-every SECONDS   at most one warning 57 to a ship in this time  [60]
+    --hint-every SECONDS   a datagram that no ship takes is answered by no_connection, at most once
+                           to a host in this time  [never]
     --log-every SECONDS    at most one log line of a kind for a ship in this time  [10]
     --help, --version
 
-Exit status: 0 ended by SIGINT or SIGTERM, 2 wrong command line, 3 sessions file, 4 state or lists,
+SIGINT and SIGTERM end it. SIGHUP starts it anew in the same place: sessions are read again, and
+what arrives meanwhile waits. (On a terminal, SIGHUP ends it.)
+Exit status: 0 ended by a signal, 2 wrong command line, 3 sessions file, 4 state or lists,
 5 cannot listen, 6 disk or network failed while running.
 ";
 
@@ -37,52 +44,91 @@ pub struct Options {
     pub state: PathBuf,
     pub lists: PathBuf,
     pub listen: SocketAddr,
-    pub reopen_after: Option<Duration>,
+    pub reopen_after: Duration,
     pub warn_every: Duration,
+    pub hint_every: Option<Duration>,
     pub log_every: Duration,
 }
 
-pub fn read(words: impl Iterator<Item = String>) -> Result<Command, String> {
-    let (mut sessions, mut state, mut lists) = (None, None, None);
-    let mut listen = SocketAddr::from(([127, 0, 0, 1], 9202));
-    let mut reopen_after = None;
-    let (mut warn_every, mut log_every) = (Duration::from_secs(60), Duration::from_secs(10));
-    let mut words = words;
+/// What was said so far.
+struct Said {
+    sessions: Option<PathBuf>,
+    state: Option<PathBuf>,
+    lists: Option<PathBuf>,
+    listen: SocketAddr,
+    reopen_after: Duration,
+    warn_every: Duration,
+    hint_every: Option<Duration>,
+    log_every: Duration,
+}
+
+pub fn read(mut words: impl Iterator<Item = OsString>) -> Result<Command, String> {
+    let mut said = Said {
+        sessions: None,
+        state: None,
+        lists: None,
+        listen: SocketAddr::from(([127, 0, 0, 1], 9202)),
+        reopen_after: Duration::from_secs(5),
+        warn_every: Duration::from_secs(60),
+        hint_every: None,
+        log_every: Duration::from_secs(10),
+    };
     while let Some(word) = words.next() {
-        let mut value = || words.next().ok_or_else(|| format!("{word} needs a value"));
+        let word = text(word)?;
         match &word[..] {
             "--help" | "-h" => return Ok(Command::Help),
             "--version" | "-V" => return Ok(Command::Version),
-            "--sessions" => sessions = Some(PathBuf::from(value()?)),
-            "--state" => state = Some(PathBuf::from(value()?)),
-            "--lists" => lists = Some(PathBuf::from(value()?)),
-            "--listen" => {
-                let value = value()?;
-                listen =
-                    value.parse().map_err(|_| format!("--listen: {value} is no ADDRESS:PORT"))?;
-            }
-            "--reopen-after" => reopen_after = Some(seconds(&word, &value()?)?),
-            "--warn-every" => warn_every = seconds(&word, &value()?)?,
-            "--log-every" => log_every = seconds(&word, &value()?)?,
-            _ => return Err(format!("unknown word {word}")),
+            _ => said.option(&word, || words.next())?,
         }
     }
-    let sessions = sessions.ok_or("--sessions FILE is missing")?;
-    let state = state.ok_or("--state DIRECTORY is missing")?;
-    let lists = lists.unwrap_or_else(|| state.join("lists"));
+    let sessions = said.sessions.ok_or("--sessions FILE is missing")?;
+    let state = said.state.ok_or("--state DIRECTORY is missing")?;
     Ok(Command::Run(Options {
         sessions,
+        lists: said.lists.unwrap_or_else(|| state.join("lists")),
         state,
-        lists,
-        listen,
-        reopen_after,
-        warn_every,
-        log_every,
+        listen: said.listen,
+        reopen_after: said.reopen_after,
+        warn_every: said.warn_every,
+        hint_every: said.hint_every,
+        log_every: said.log_every,
     }))
 }
 
+impl Said {
+    fn option(
+        &mut self,
+        word: &str,
+        next: impl FnOnce() -> Option<OsString>,
+    ) -> Result<(), String> {
+        let value = || next().ok_or_else(|| format!("{word} needs a value"));
+        match word {
+            "--sessions" => self.sessions = Some(value()?.into()),
+            "--state" => self.state = Some(value()?.into()),
+            "--lists" => self.lists = Some(value()?.into()),
+            "--listen" => {
+                let value = text(value()?)?;
+                self.listen =
+                    value.parse().map_err(|_| format!("--listen: {value} is no ADDRESS:PORT"))?;
+            }
+            "--reopen-after" => self.reopen_after = seconds(word, value()?)?,
+            "--warn-every" => self.warn_every = seconds(word, value()?)?,
+            "--hint-every" => self.hint_every = Some(seconds(word, value()?)?),
+            "--log-every" => self.log_every = seconds(word, value()?)?,
+            _ => return Err(format!("unknown word {word}")),
+        }
+        Ok(())
+    }
+}
+
+/// Paths may be any bytes, everything else is UTF-8.
+fn text(word: OsString) -> Result<String, String> {
+    word.into_string().map_err(|word| format!("{} is not UTF-8", word.to_string_lossy()))
+}
+
 /// Seconds, with a fraction if need be.
-fn seconds(word: &str, value: &str) -> Result<Duration, String> {
+fn seconds(word: &str, value: OsString) -> Result<Duration, String> {
+    let value = text(value)?;
     let seconds = value.parse().ok().and_then(|seconds| Duration::try_from_secs_f64(seconds).ok());
     seconds.ok_or_else(|| format!("{word}: {value} is no number of seconds"))
 }
@@ -90,9 +136,10 @@ fn seconds(word: &str, value: &str) -> Result<Duration, String> {
 #[cfg(test)]
 mod tests {
     use super::*;
+    use std::os::unix::ffi::OsStringExt;
 
     fn words(line: &str) -> Result<Command, String> {
-        read(line.split_whitespace().map(String::from))
+        read(line.split_whitespace().map(OsString::from))
     }
 
     #[test]
@@ -100,11 +147,12 @@ mod tests {
         let Ok(Command::Run(options)) = words("--state s --sessions f") else { panic!() };
         assert_eq!(options.listen.to_string(), "127.0.0.1:9202");
         assert_eq!(options.lists, PathBuf::from("s/lists"));
-        assert_eq!(options.reopen_after, None);
-        let Ok(Command::Run(options)) = words("--state s --sessions f --reopen-after 0.5") else {
-            panic!()
-        };
-        assert_eq!(options.reopen_after, Some(Duration::from_millis(500)));
+        assert_eq!(options.reopen_after, Duration::from_secs(5));
+        assert_eq!(options.hint_every, None);
+        let line = "--state s --sessions f --reopen-after 0.5 --hint-every 7";
+        let Ok(Command::Run(options)) = words(line) else { panic!() };
+        assert_eq!(options.reopen_after, Duration::from_millis(500));
+        assert_eq!(options.hint_every, Some(Duration::from_secs(7)));
         assert_eq!(words("--help"), Ok(Command::Help));
         for line in [
             "",
@@ -118,5 +166,17 @@ mod tests {
         ] {
             assert!(words(line).is_err(), "{line}");
         }
+    }
+
+    #[test]
+    fn any_bytes_in_a_path_and_none_elsewhere() {
+        let odd = || OsString::from_vec(b"a\xff".to_vec());
+        let plain = ["--state", "s", "--sessions"].map(OsString::from);
+        let Ok(Command::Run(options)) = read(plain.into_iter().chain([odd()])) else { panic!() };
+        assert_eq!(options.sessions, PathBuf::from(odd()));
+        for word in ["--listen", "--warn-every", "--help-me"] {
+            assert!(read([OsString::from(word), odd()].into_iter()).is_err());
+        }
+        assert!(read([odd()].into_iter()).unwrap_err().contains("not UTF-8"));
     }
 }

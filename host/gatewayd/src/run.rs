@@ -2,19 +2,19 @@
 
 use crate::clock::Moment;
 use crate::fleet::{Fleet, Rules};
-use crate::log::{Log, Progress};
+use crate::inbox::Inbox;
+use crate::log::{say, Log, Progress};
 use crate::note::Note;
 use crate::options::Options;
+use crate::randoms::Randoms;
 use crate::sessions;
-use crate::signals;
+use crate::signals::{self, Asked};
+use crate::socket::{Datagram, Socket};
 use crate::store::{self, Opened, Store};
 use gateway::State;
 use std::fmt;
-use std::fs::File;
-use std::io::{self, Read, Write};
-use std::net::{SocketAddr, UdpSocket};
-use std::sync::mpsc::{sync_channel, Receiver, RecvTimeoutError, SyncSender};
-use std::thread;
+use std::io::{self, IsTerminal};
+use std::path::PathBuf;
 use std::time::{Duration, Instant};
 
 /// Why the gateway ended, in one line, and the exit status that stands for it.
@@ -23,106 +23,109 @@ pub struct Failure {
     pub what: String,
 }
 
-type Datagram = (SocketAddr, Vec<u8>);
+/// How it ended, if nothing failed.
+pub enum Ended {
+    ForGood,
+    /// To be started anew, with the same socket.
+    WithSuccessor(Socket),
+}
 
-/// Longer datagrams are cut to this, and are refused 1 all the same.
-const LARGEST: usize = 2048;
-/// How many datagrams may wait, and how many are saved at once.
-const WAITING: usize = 4096;
+/// How many datagrams are saved at once, about.
 const RUN: usize = 256;
-const SIGNALS_EVERY: Duration = Duration::from_millis(50);
 
 struct Gateway {
-    socket: UdpSocket,
+    socket: Socket,
+    inbox: Inbox,
     fleet: Fleet,
     store: Store,
     log: Log,
-    randoms: File,
+    randoms: Randoms,
+    sessions: PathBuf,
     datagrams: u64,
+    told_dropped: (u64, Instant),
+    log_every: Duration,
+    on_terminal: bool,
 }
 
-pub fn run(options: &Options) -> Result<(), Failure> {
+pub fn run(options: &Options) -> Result<Ended, Failure> {
+    signals::listen();
     let failure = |status: u8| move |what: String| Failure { status, what };
     let sessions = sessions::load(&options.sessions).map_err(failure(3))?;
     let opened = Store::open(&options.state, &options.lists, sessions).map_err(failure(4))?;
     let listen =
         |error: io::Error| Failure { status: 5, what: format!("{}: {error}", options.listen) };
-    let socket = UdpSocket::bind(options.listen).map_err(listen)?;
-    let address = socket.local_addr().map_err(listen)?;
-    let datagrams = receive_beside(&socket).map_err(listen)?;
-    let randoms =
-        File::open("/dev/urandom").map_err(|error| failure(6)(format!("/dev/urandom: {error}")))?;
-    signals::listen();
+    let socket = Socket::open(options.listen).map_err(listen)?;
+    let address = socket.address().map_err(listen)?;
+    let randoms = Randoms::open().map_err(failure(6))?;
 
     let Opened { store, ships, remarks } = opened;
     let mut log = Log::new(options.log_every);
     remarks.iter().for_each(|remark| log.line(remark));
-    let rules = Rules { reopen_after: options.reopen_after, warn_every: options.warn_every };
+    let rules = Rules {
+        reopen_after: options.reopen_after,
+        warn_every: options.warn_every,
+        hint_every: options.hint_every,
+    };
     let fleet = Fleet::new(ships, rules);
+    let inbox = Inbox::open(&socket).map_err(listen)?;
     let version = env!("CARGO_PKG_VERSION");
-    say(&format!("gatewayd {version} listens on {address}: {}\n", states(&fleet)));
-    let mut gateway = Gateway { socket, fleet, store, log, randoms, datagrams: 0 };
-    let worked = gateway.work(&datagrams);
+    say(format!("gatewayd {version} listens on {address}: {}\n", states(&fleet)));
+    let mut gateway = Gateway {
+        socket,
+        inbox,
+        fleet,
+        store,
+        log,
+        randoms,
+        sessions: options.sessions.clone(),
+        datagrams: 0,
+        told_dropped: (0, Instant::now()),
+        log_every: options.log_every,
+        on_terminal: io::stderr().is_terminal(),
+    };
+    let worked = gateway.work();
+    gateway.tell_dropped();
     gateway.log.end();
-    worked.and_then(|()| gateway.end()).map_err(|error| failure(6)(error.to_string()))
-}
-
-/// Receives in a thread of its own, into a channel with a bound: behind it the socket's own buffer
-/// fills, and the system drops.
-fn receive_beside(socket: &UdpSocket) -> io::Result<Receiver<io::Result<Datagram>>> {
-    let (sender, receiver) = sync_channel(WAITING);
-    let socket = socket.try_clone()?;
-    thread::Builder::new().spawn(move || receive_all(&socket, &sender))?;
-    Ok(receiver)
-}
-
-fn receive_all(socket: &UdpSocket, sender: &SyncSender<io::Result<Datagram>>) {
-    let mut buffer = [0; LARGEST];
-    loop {
-        let received = match socket.recv_from(&mut buffer) {
-            Ok((size, from)) => Ok((from, buffer[..size].to_vec())),
-            // What an earlier send of ours met is no fault of the socket.
-            Err(error) if error.kind() == io::ErrorKind::ConnectionRefused => continue,
-            Err(error) if error.kind() == io::ErrorKind::Interrupted => continue,
-            Err(error) => Err(error),
-        };
-        let failed = received.is_err();
-        if sender.send(received).is_err() || failed {
-            return;
-        }
-    }
+    worked.and_then(|asked| gateway.end(asked)).map_err(|error| failure(6)(error.to_string()))
 }
 
 impl Gateway {
-    fn work(&mut self, datagrams: &Receiver<io::Result<Datagram>>) -> io::Result<()> {
-        while !signals::end_is_asked() {
-            match datagrams.recv_timeout(SIGNALS_EVERY) {
-                Ok(first) => self.take_waiting(vec![first?], datagrams)?,
-                Err(RecvTimeoutError::Timeout) => {}
-                Err(RecvTimeoutError::Disconnected) => {
-                    return Err(io::Error::other("the receiver ended"));
-                }
+    /// Takes datagrams until something else is asked for.
+    fn work(&mut self) -> io::Result<Asked> {
+        let asked = loop {
+            match signals::asked() {
+                Asked::Nothing => {}
+                Asked::NewStart if self.on_terminal => break Asked::End,
+                Asked::NewStart if !self.may_start_anew() => signals::refuse_new_start(),
+                asked => break asked,
+            }
+            let run = self.inbox.next(RUN)?;
+            if !run.is_empty() {
+                self.take(&run)?;
+            }
+            if self.told_dropped.1.elapsed() >= self.log_every {
+                self.tell_dropped();
             }
             self.show_progress();
+        };
+        // What was received is still taken; what was not waits in the socket.
+        self.inbox.close();
+        loop {
+            let run = self.inbox.next(RUN)?;
+            if run.is_empty() {
+                return Ok(asked);
+            }
+            self.take(&run)?;
         }
-        // What has arrived is still taken; a flood must not put off the end.
-        for _ in 0..WAITING / RUN {
-            self.take_waiting(Vec::new(), datagrams)?;
-        }
-        Ok(())
     }
 
-    /// Takes what waits, up to a run.
-    fn take_waiting(
-        &mut self,
-        mut run: Vec<Datagram>,
-        datagrams: &Receiver<io::Result<Datagram>>,
-    ) -> io::Result<()> {
-        while run.len() < RUN {
-            let Ok(next) = datagrams.try_recv() else { break };
-            run.push(next?);
+    /// A sessions file that cannot be used would be the end: better go on with the one that was.
+    fn may_start_anew(&mut self) -> bool {
+        let fault = sessions::load(&self.sessions).err();
+        if let Some(what) = &fault {
+            self.log.line(&format!("no new start: {what}"));
         }
-        self.take(&run)
+        fault.is_none()
     }
 
     /// Takes a run of datagrams. The order is the point: saved, listed, barred, and only then sent.
@@ -133,17 +136,16 @@ impl Gateway {
         let mut send = Vec::new();
         let mut barred = Vec::new();
         let mut notes = Vec::new();
-        for (sender, datagram) in run {
-            let mut random = [0; 16];
-            self.randoms.read_exact(&mut random)?;
-            let taken = self.fleet.take(*sender, datagram, &random, now);
+        for Datagram { way, bytes } in run {
+            let random = self.randoms.fresh()?;
+            let taken = self.fleet.take(*way, bytes, &random, now);
             let ship = taken.ship.map(|index| (index, &self.fleet.ships[index]));
             if let Some((index, ship)) = ship.filter(|_| taken.changed) {
                 changes.push(store::change(ship, taken.reports));
                 barred.extend(ship.barred.then_some(index));
             }
             send.extend(taken.send);
-            notes.extend(taken.notes.into_iter().map(|note| (taken.ship, *sender, note)));
+            notes.extend(taken.notes.into_iter().map(|note| (taken.ship, way.sender, note)));
         }
         self.datagrams += run.len() as u64;
         if !changes.is_empty() {
@@ -152,10 +154,10 @@ impl Gateway {
         for index in barred {
             self.store.bar(&self.fleet.ships[index].session, time)?;
         }
-        for (to, bytes) in send {
+        for (way, bytes) in send {
             // A datagram that cannot be sent is one that the link lost.
-            if let Err(error) = self.socket.send_to(&bytes, to) {
-                notes.push((None, to, Note::NotSent(error.kind())));
+            if let Err(error) = self.socket.send(way, &bytes) {
+                notes.push((None, way.sender, Note::NotSent(error.kind())));
             }
         }
         for (ship, sender, note) in notes {
@@ -163,6 +165,17 @@ impl Gateway {
             self.log.note(ship, sender, note, now);
         }
         Ok(())
+    }
+
+    /// A line if the system has dropped more than was told.
+    fn tell_dropped(&mut self) {
+        let (told, _) = self.told_dropped;
+        let dropped = self.inbox.dropped();
+        if dropped > told {
+            let more = dropped - told;
+            self.log.line(&format!("the system dropped {more} datagrams ({dropped} in all)"));
+        }
+        self.told_dropped = (dropped, Instant::now());
     }
 
     fn show_progress(&mut self) {
@@ -174,7 +187,8 @@ impl Gateway {
     }
 
     fn counts(&self) -> Progress {
-        let mut counts = Progress { datagrams: self.datagrams, ..Progress::default() };
+        let dropped = self.inbox.dropped();
+        let mut counts = Progress { datagrams: self.datagrams, dropped, ..Progress::default() };
         for ship in &self.fleet.ships {
             counts.handed_out += u64::from(ship.tally.handed_out());
             counts.forged += u64::from(ship.tally.forged());
@@ -185,20 +199,18 @@ impl Gateway {
     }
 
     /// The clean end: everything on the disk, tallies too, and the tally of each ship.
-    fn end(&mut self) -> io::Result<()> {
+    fn end(mut self, asked: Asked) -> io::Result<Ended> {
         self.store.write_anew(Moment::now(), &self.fleet.ships)?;
-        say(&Tallies(&self.fleet).to_string());
-        Ok(())
+        if asked == Asked::NewStart {
+            return Ok(Ended::WithSuccessor(self.socket));
+        }
+        say(Tallies(&self.fleet).to_string());
+        Ok(Ended::ForGood)
     }
 }
 
-/// To standard output; nobody need read it.
-fn say(text: &str) {
-    let _ = io::stdout().write_all(text.as_bytes());
-}
-
 fn states(fleet: &Fleet) -> String {
-    let open = fleet.ships.iter().filter(|ship| ship.connection.state() == State::Open).count();
+    let open = fleet.ships.iter().filter(|ship| ship.is_open()).count();
     let barred = fleet.ships.iter().filter(|ship| ship.barred).count();
     format!("{} ships, {open} open, {barred} barred", fleet.ships.len())
 }
@@ -211,8 +223,12 @@ impl fmt::Display for Tallies<'_> {
         writeln!(f, "handed out\tforged\ttoo old\trepeated\tstate\tship")?;
         for ship in &self.0.ships {
             let tally = &ship.tally;
-            let state = format!("{:?}", ship.connection.state()).to_lowercase();
-            let state = if ship.barred { "barred" } else { &state };
+            let state = match ship.connection.state() {
+                _ if ship.barred => "barred",
+                State::Open => "open",
+                _ if !ship.started.is_empty() => "replied",
+                _ => "idle",
+            };
             writeln!(
                 f,
                 "{}\t{}\t{}\t{}\t{state}\t{}",

@@ -3,10 +3,12 @@
 //! lines that begin with `#` are skipped.
 
 use crate::hex;
+use crate::signals;
+use std::collections::HashSet;
 use std::fmt;
 use std::fs::File;
 use std::io::Read;
-use std::os::unix::fs::PermissionsExt;
+use std::os::unix::fs::{MetadataExt, PermissionsExt};
 use std::path::Path;
 
 pub type Identifier = [u8; 8];
@@ -49,6 +51,12 @@ pub fn load(path: &Path) -> Result<Vec<Session>, String> {
     if mode & 0o066 != 0 {
         return Err(told(&format!("others can read or write it (mode {mode:03o}): chmod 600")));
     }
+    let (owner, user) = (found.uid(), signals::user());
+    if owner != user && owner != 0 {
+        return Err(told(&format!(
+            "belongs to user {owner}, neither to us (user {user}) nor to root"
+        )));
+    }
     if found.len() > LARGEST_FILE {
         return Err(told(&"larger than 16 MB"));
     }
@@ -64,7 +72,8 @@ pub fn load(path: &Path) -> Result<Vec<Session>, String> {
 }
 
 pub fn read(bytes: &[u8]) -> Result<Vec<Session>, Fault> {
-    let mut sessions: Vec<Session> = Vec::new();
+    let mut sessions = Vec::new();
+    let mut twice = Twice::default();
     for (index, bytes) in bytes.split(|byte| *byte == b'\n').enumerate() {
         let fault = |(column, what): (usize, String)| Fault { line: index + 1, column, what };
         let line = std::str::from_utf8(bytes).map_err(|error| {
@@ -76,7 +85,7 @@ pub fn read(bytes: &[u8]) -> Result<Vec<Session>, Fault> {
             continue;
         }
         let session = read_line(line).map_err(fault)?;
-        refuse_twice(&sessions, &session).map_err(|what| fault((1, what)))?;
+        twice.refuse(&session).map_err(|what| fault((1, what)))?;
         sessions.push(session);
     }
     Ok(sessions)
@@ -103,14 +112,22 @@ fn read_line(line: &str) -> Result<Session, (usize, String)> {
 
 /// Two sessions with one identifier could not be told apart on the wire, and two ships with one
 /// name not in the list.
-fn refuse_twice(sessions: &[Session], session: &Session) -> Result<(), String> {
-    if sessions.iter().any(|other| other.id == session.id) {
-        return Err(format!("the identifier {} is planted twice", hex::write(&session.id)));
+#[derive(Default)]
+struct Twice {
+    identifiers: HashSet<Identifier>,
+    names: HashSet<String>,
+}
+
+impl Twice {
+    fn refuse(&mut self, session: &Session) -> Result<(), String> {
+        if !self.identifiers.insert(session.id) {
+            return Err(format!("the identifier {} is planted twice", hex::write(&session.id)));
+        }
+        if !self.names.insert(session.ship.clone()) {
+            return Err(format!("two ships are named {}", session.ship));
+        }
+        Ok(())
     }
-    if sessions.iter().any(|other| other.ship == session.ship) {
-        return Err(format!("two ships are named {}", session.ship));
-    }
-    Ok(())
 }
 
 /// Takes words from the front of a line and knows its column.

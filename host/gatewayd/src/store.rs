@@ -3,15 +3,17 @@
 use crate::barred::Barred;
 use crate::clock::Moment;
 use crate::fleet::Report;
-use crate::frame::{Change, Frame};
+use crate::frame::{Change, Frame, Started};
 use crate::journal::{self, Journal};
 use crate::list::List;
 use crate::sessions::{Identifier, Session};
-use crate::ship::Ship;
+use crate::ship::{Handshake, Ship};
+use crate::way;
 use gateway::{Connection, State, Tally};
 use std::collections::HashMap;
 use std::fs::{self, DirBuilder, File, OpenOptions};
 use std::io;
+use std::net::SocketAddr;
 use std::os::unix::fs::{DirBuilderExt, OpenOptionsExt};
 use std::path::Path;
 use std::time::Instant;
@@ -116,6 +118,17 @@ pub fn change(ship: &Ship, reports: Vec<Report>) -> Change {
         route: ship.route,
         ship: ship.session.ship.clone(),
         reports,
+        newest: ship.newest,
+        hello: ship.hello.clone(),
+        started: ship.started.iter().map(started).collect(),
+    }
+}
+
+fn started(handshake: &Handshake) -> Started {
+    Started {
+        hello: handshake.hello.clone(),
+        connection: *handshake.connection.save(),
+        senders: handshake.senders.clone(),
     }
 }
 
@@ -154,12 +167,28 @@ fn restore(
     if connection.state() == State::Barred {
         barred.add(&ship.session, time).map_err(|error| format!("barred: {error}"))?;
     }
-    if change.planting == ship.planting {
-        ship.connection = connection;
-        ship.tally = Tally::load(change.tally);
-        ship.route = change.route;
+    if change.planting != ship.planting {
+        return Ok(());
     }
+    ship.tally = Tally::load(change.tally);
+    ship.route = change.route.map(way::plain);
+    ship.newest = change.newest;
+    ship.hello = change.hello.clone();
+    for started in &change.started {
+        let connection = Connection::load(&started.connection)
+            .map_err(|refusal| format!("journal: {}: {refusal}", change.ship))?;
+        let senders = started.senders.iter().copied().map(way::plain).collect();
+        resume(ship, connection, started.hello.clone(), senders);
+    }
+    ship.connection = connection;
     Ok(())
+}
+
+fn resume(ship: &mut Ship, connection: Connection, hello: Vec<u8>, senders: Vec<SocketAddr>) {
+    if !senders.is_empty() {
+        let at = ship.heard;
+        ship.started.push(Handshake { serial: 0, hello, senders, connection, at });
+    }
 }
 
 /// Makes a directory and those above it; the names of new ones are on the disk then.

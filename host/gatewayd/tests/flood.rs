@@ -1,5 +1,5 @@
-//! A flood from many addresses, of garbage or of hellos that name planted sessions, neither stops a
-//! ship's reports nor grows the memory, the journal or the log without bound.
+//! Floods of each kind. At 20,000 datagrams a second of it a ship's reports arrive; as fast as it can
+//! be sent, memory, disk and log keep their bounds, and afterwards all is as before.
 
 mod common;
 
@@ -13,114 +13,188 @@ use std::sync::atomic::{AtomicBool, AtomicUsize, Ordering};
 use std::thread;
 use std::time::{Duration, Instant};
 
-const ADDRESSES: usize = 300;
-const REPORTS: u16 = 40;
-const AT_LEAST: Duration = Duration::from_secs(3);
+const HOSTS: usize = 300;
+const EACH_SECOND: usize = 20_000;
+const REPORTS: u16 = 100;
+const AT_FULL_SPEED: Duration = Duration::from_secs(1);
 
+/// One after the other: on a small machine each needs it for itself.
 #[test]
-fn garbage_from_many_addresses() {
-    withstands("garbage", garbage, 100_000);
+fn floods() {
+    withstands("garbage", garbage, false);
+    withstands("unknown hellos", unknown_hello, false);
+    withstands("hellos of planted ships", hello, false);
+    withstands("protected garbage", protected, false);
+    withstands("protected garbage, eight records each", eight_records, false);
+    withstands("protected garbage at the ship's address", protected, true);
 }
 
-/// The hellos of ship 0 are refused 18, those of ship 1 are answered and saved: the journal grows
-/// until it is written anew.
-#[test]
-fn hellos_from_many_addresses() {
-    withstands("hellos", hello, 9 << 20);
-}
-
-fn withstands(name: &str, datagram: fn(&mut Rng) -> Vec<u8>, largest_journal: u64) {
-    let place = Place::new(&format!("flood-{name}"));
-    place.plant(2);
+fn withstands(name: &str, datagram: fn(&mut Rng) -> Vec<u8>, at_its_address: bool) {
+    let place = Place::new("flood");
+    place.plant(8);
     let gatewayd = Gatewayd::start(&place, "127.0.0.1:0", &[]);
     let address = gatewayd.address;
-    let mut ship = Ship::new(0, address);
-    ship.open(1);
-    let done = AtomicBool::new(false);
-    let sent = AtomicUsize::new(0);
-    let mut memory = (0, 0);
-    thread::scope(|scope| {
-        scope.spawn(|| flood(address, datagram, &done, &sent));
-        thread::sleep(Duration::from_millis(500));
-        memory.0 = resident(gatewayd.child.id());
-        let start = Instant::now();
-        // The system drops what does not fit into the socket's buffer, so each report is sent until
-        // it is in the list.
+    let mut ships: Vec<Ship> = (0..6).map(|index| Ship::new(index, address)).collect();
+    ships.iter_mut().for_each(|ship| ship.open(1));
+    let ship = &ships[0];
+    let sockets = match at_its_address {
+        true => vec![ship.socket.try_clone().unwrap()],
+        false => (0..HOSTS).map(stranger).collect(),
+    };
+    let flood = Flood { address, datagram, sockets, done: AtomicBool::new(false) };
+
+    let slow = flood.beside(Some(EACH_SECOND), || {
         for number in 1..=REPORTS {
-            while !place.listed(0).iter().any(|report| report.0 == number) {
-                assert!(
-                    start.elapsed() < Duration::from_secs(60),
-                    "report {number} does not arrive"
-                );
-                ship.send(&ship.data(number));
-                thread::sleep(Duration::from_millis(5));
-            }
+            ship.send(&ship.data(number));
+            thread::sleep(Duration::from_millis(10));
         }
-        thread::sleep(AT_LEAST.saturating_sub(start.elapsed()));
-        memory.1 = resident(gatewayd.child.id());
-        done.store(true, Ordering::Relaxed);
+        thread::sleep(Duration::from_millis(200));
     });
-    let sent = sent.load(Ordering::Relaxed);
-    let saved = journal_size(&place.state());
-    let log = fs::metadata(place.path.join("log")).unwrap().len();
-    let tallies = gatewayd.end();
-    let expected: Vec<_> = (1..=REPORTS).map(|number| (number, text(0, number))).collect();
-    assert_eq!(place.listed(0), expected);
-    assert!(tallies.contains(&format!("{REPORTS}\t0\t")), "{tallies}");
-    assert!(sent > 10_000, "only {sent} datagrams");
+    let listed = place.listed(0).len();
+    let before = Used::of(&gatewayd);
+    let fast = flood.beside(None, || thread::sleep(AT_FULL_SPEED));
+    let after = Used::of(&gatewayd);
+    let (journal, log) = (journal_size(&place.state()), place.path.join("log"));
+    let log = fs::metadata(log).unwrap().len();
+    arrives(&place, ship);
     println!(
-        "{sent} datagrams ({name}); memory {} kB, then {} kB; journal {saved}, log {log} bytes",
-        memory.0, memory.1
+        "{name}: at {slow}/s {listed} of {REPORTS} reports; at {fast}/s {:.0} % of a processor, \
+         memory {} kB, then {} kB; journal {journal}, log {log} bytes",
+        100.0 * (after.seconds - before.seconds) / AT_FULL_SPEED.as_secs_f64(),
+        before.memory,
+        after.memory
     );
+    let expected: Vec<_> =
+        place.listed(0).iter().map(|report| (report.0, text(0, report.0))).collect();
+    assert_eq!(place.listed(0), expected);
+    assert!(listed >= 90, "{name}: {listed} of {REPORTS} reports");
     // 4,096 datagrams may wait, and no more.
-    assert!(memory.1 < memory.0 + 8_000, "memory {memory:?} kB");
-    assert!(saved < largest_journal, "journal of {saved} bytes");
-    assert!(log < 10_000, "log of {log} bytes");
+    assert!(after.memory < before.memory + 10_000, "{name}: memory");
+    assert!(journal < 9 << 20, "{name}: journal of {journal} bytes");
+    assert!(log < 20_000, "{name}: log of {log} bytes");
+    gatewayd.end();
 }
 
-/// Random bytes, records that are none, hellos of unknown sessions, protected records.
+/// After the flood: as soon as what waits is worked off, a report that is sent once is listed.
+fn arrives(place: &Place, ship: &Ship) {
+    let start = Instant::now();
+    for number in REPORTS + 1.. {
+        ship.send(&ship.data(number));
+        thread::sleep(Duration::from_millis(20));
+        if place.listed(0).iter().any(|report| report.0 == number) {
+            return;
+        }
+        assert!(start.elapsed() < Duration::from_secs(20), "no report arrives after the flood");
+    }
+}
+
+struct Flood {
+    address: SocketAddr,
+    datagram: fn(&mut Rng) -> Vec<u8>,
+    sockets: Vec<UdpSocket>,
+    done: AtomicBool,
+}
+
+impl Flood {
+    /// Floods while something else is done; so many a second, or as many as can be sent. Gives how
+    /// many a second it were.
+    fn beside(&self, each_second: Option<usize>, other: impl FnOnce()) -> usize {
+        self.done.store(false, Ordering::Relaxed);
+        let sent = AtomicUsize::new(0);
+        let mut rng = Rng::new(5);
+        // Made before: making one takes longer than sending it.
+        let made: Vec<Vec<u8>> = (0..20_000).map(|_| (self.datagram)(&mut rng)).collect();
+        let start = Instant::now();
+        thread::scope(|scope| {
+            // At full speed by two, or FLOOD_SENDERS: one alone sends too little.
+            let senders = std::env::var("FLOOD_SENDERS").ok().and_then(|count| count.parse().ok());
+            for _ in 0..if each_second.is_some() { 1 } else { senders.unwrap_or(2) } {
+                scope.spawn(|| self.send(&made, each_second, &sent));
+            }
+            other();
+            self.done.store(true, Ordering::Relaxed);
+        });
+        (sent.into_inner() as f64 / start.elapsed().as_secs_f64()) as usize
+    }
+
+    fn send(&self, made: &[Vec<u8>], each_second: Option<usize>, sent: &AtomicUsize) {
+        let start = Instant::now();
+        for turn in 0.. {
+            if self.done.load(Ordering::Relaxed) {
+                return;
+            }
+            let socket = &self.sockets[turn % self.sockets.len()];
+            if socket.send_to(&made[turn % made.len()], self.address).is_ok() {
+                sent.fetch_add(1, Ordering::Relaxed);
+            }
+            if let Some(each_second) = each_second.filter(|_| turn % 20 == 0) {
+                let due = Duration::from_secs_f64(turn as f64 / each_second as f64);
+                thread::sleep(due.saturating_sub(start.elapsed()));
+            }
+        }
+    }
+}
+
+/// Each on a host of its own.
+fn stranger(n: usize) -> UdpSocket {
+    UdpSocket::bind((std::net::Ipv4Addr::new(127, 1, (n / 250) as u8, (n % 250) as u8 + 1), 0))
+        .unwrap()
+}
+
+/// Random bytes, records that are none, alerts, data in the clear.
 fn garbage(rng: &mut Rng) -> Vec<u8> {
     let size = rng.between(0, 400);
     let mut datagram = rng.bytes(size);
     if let Some(first) = datagram.first_mut() {
         *first = rng.pick(&[0x43, 0x64, 0xc3, 0x41, *first]);
     }
-    if let [0x43, _, _, kind, ..] = &mut datagram[..] {
-        *kind = 1;
-    }
-    if datagram.len() > 32 && rng.percent(50) {
-        datagram[23] = 8;
-    }
     datagram
 }
 
+fn unknown_hello(rng: &mut Rng) -> Vec<u8> {
+    named(rng, &[0xee; 8])
+}
+
+/// Of ships that are open, and of ships that are not.
 fn hello(rng: &mut Rng) -> Vec<u8> {
-    let id = identifier(rng.under(2));
-    let message = Hello::plain(&rng.bytes(16), &id, Kind::Sha80, 3).message();
-    Unit::new(&id, &[0; 20]).say_hello(&message)
+    let id = identifier(rng.under(8));
+    named(rng, &id)
 }
 
-fn flood(
-    address: SocketAddr,
-    datagram: fn(&mut Rng) -> Vec<u8>,
-    done: &AtomicBool,
-    sent: &AtomicUsize,
-) {
-    let mut rng = Rng::new(5);
-    let sockets: Vec<UdpSocket> =
-        (0..ADDRESSES).map(|_| UdpSocket::bind("127.0.0.1:0").unwrap()).collect();
-    while !done.load(Ordering::Relaxed) {
-        for socket in &sockets {
-            if socket.send_to(&datagram(&mut rng), address).is_ok() {
-                sent.fetch_add(1, Ordering::Relaxed);
-            }
-        }
-        thread::sleep(Duration::from_millis(1));
+fn named(rng: &mut Rng, id: &[u8; 8]) -> Vec<u8> {
+    let message = Hello::plain(&rng.bytes(16), id, Kind::Sha80, 3).message();
+    Unit::new(id, &[0; 20]).say_hello(&message)
+}
+
+/// A sound record with a wrong code, which asks for trials; some as a Finished.
+fn protected(rng: &mut Rng) -> Vec<u8> {
+    let size = rng.between(20, 100);
+    let kind = rng.pick(&[0x64, 0x64, 0x63]);
+    [&[kind, 0, rng.under(200) as u8][..], &rng.bytes(size)].concat()
+}
+
+/// The same with as many records as a datagram may have.
+fn eight_records(rng: &mut Rng) -> Vec<u8> {
+    let mut record = || peer::wire::write(0xe4, rng.under(200) as u16, &rng.bytes(20));
+    (0..8).flat_map(|_| record()).collect()
+}
+
+/// What the gateway has used so far.
+struct Used {
+    memory: u64,
+    seconds: f64,
+}
+
+impl Used {
+    fn of(gatewayd: &Gatewayd) -> Used {
+        let id = gatewayd.child.id();
+        let status = fs::read_to_string(format!("/proc/{id}/status")).unwrap();
+        let line = status.lines().find(|line| line.starts_with("VmRSS:")).unwrap();
+        let memory = line.split_whitespace().nth(1).unwrap().parse().unwrap();
+        let stat = fs::read_to_string(format!("/proc/{id}/stat")).unwrap();
+        let fields: Vec<&str> = stat.rsplit(')').next().unwrap().split_whitespace().collect();
+        // User and system time, in hundredths of a second.
+        let ticks: f64 = fields[11..13].iter().map(|ticks| ticks.parse::<f64>().unwrap()).sum();
+        Used { memory, seconds: ticks / 100.0 }
     }
-}
-
-fn resident(id: u32) -> u64 {
-    let status = fs::read_to_string(format!("/proc/{id}/status")).unwrap();
-    let line = status.lines().find(|line| line.starts_with("VmRSS:")).unwrap();
-    line.split_whitespace().nth(1).unwrap().parse().unwrap()
 }

@@ -10,8 +10,8 @@ use gatewayd::fleet::{Fleet, Rules, Taken};
 use gatewayd::journal;
 use gatewayd::sessions::Session;
 use gatewayd::store::{self, Store};
+use gatewayd::way::Way;
 use std::fs;
-use std::net::SocketAddr;
 use std::path::Path;
 use std::time::{Duration, Instant};
 
@@ -29,13 +29,17 @@ impl World {
     fn open(state: &Path) -> World {
         let sessions = vec![Session { id: identifier(0), secret: secret(0), ship: name(0) }];
         let opened = Store::open(state, &state.join("lists"), sessions).unwrap();
-        let rules = Rules { reopen_after: None, warn_every: Duration::ZERO };
+        let rules = Rules {
+            reopen_after: Duration::from_secs(5),
+            warn_every: Duration::ZERO,
+            hint_every: None,
+        };
         World { fleet: Fleet::new(opened.ships, rules), store: opened.store, time: TIME }
     }
 
     fn take(&mut self, datagram: &[u8]) -> Taken {
-        let sender: SocketAddr = "192.0.2.1:4000".parse().unwrap();
-        let mut taken = self.fleet.take(sender, datagram, &[7; 16], Instant::now());
+        let way = Way { sender: "192.0.2.1:4000".parse().unwrap(), ours: None };
+        let mut taken = self.fleet.take(way, datagram, &[7; 16], Instant::now());
         if taken.changed {
             let reports = std::mem::take(&mut taken.reports);
             let changes = vec![store::change(&self.fleet.ships[0], reports.clone())];

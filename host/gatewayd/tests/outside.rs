@@ -66,12 +66,13 @@ fn barred_for_good() {
     assert!(!tallies.contains("\tbarred\tship 1\n"), "{tallies}");
 }
 
-/// A hello ends no open connection, unless `--reopen-after` lets it; then the old address is told.
+/// A hello is answered beside an open connection that has been silent for `--reopen-after`; the open
+/// one goes on until the new one is open.
 #[test]
 fn a_rebooted_ship() {
     let place = Place::new("rebooted");
     place.plant(1);
-    let gatewayd = Gatewayd::start(&place, ANY, &[]);
+    let gatewayd = Gatewayd::start(&place, ANY, &["--reopen-after", "3600"]);
     let address = gatewayd.address;
     let mut ship = Ship::new(0, address);
     ship.open(1);
@@ -84,12 +85,43 @@ fn a_rebooted_ship() {
     gatewayd.end();
 
     let gatewayd = Gatewayd::start(&place, &address.to_string(), &["--reopen-after", "0"]);
+    // The hello from which the open connection came starts nothing.
+    let mut old = Ship::new(0, address);
+    let hello = old.hello(1);
+    old.send(&hello);
+    assert!(!old.hear(NO_ANSWER));
     rebooted.shake_hands(2);
-    ship.hear(NO_ANSWER);
-    assert_eq!(ship.notices, 1);
-    rebooted.send(&rebooted.data_behind_finished(1));
-    wait_for("the report of the rebooted ship", || place.listed(0).len() == 2);
+    ship.send(&ship.data(2));
+    wait_for("the second report", || place.listed(0).len() == 2);
     gatewayd.end();
+    // A handshake under way outlives the gateway, too.
+    let gatewayd = Gatewayd::start(&place, &address.to_string(), &[]);
+    rebooted.send(&rebooted.data_behind_finished(1));
+    wait_for("the report of the rebooted ship", || place.listed(0).len() == 3);
+    gatewayd.end();
+}
+
+/// A datagram that is nobody's is answered by no_connection if the operator wants it, and else not.
+#[test]
+fn a_hint() {
+    for (more, hints) in [(&[][..], 0), (&["--hint-every", "60"], 1)] {
+        let place = Place::new(&format!("hint-{hints}"));
+        place.plant(1);
+        let gatewayd = Gatewayd::start(&place, ANY, more);
+        let ship = Ship::new(0, gatewayd.address);
+        ship.socket.set_read_timeout(Some(NO_ANSWER)).unwrap();
+        let mut got = 0;
+        for _ in 0..3 {
+            ship.send(&[0x64, 0, 1, 1, 2, 3, 4, 5, 6, 7, 8, 9, 10, 11, 12]);
+            let mut buffer = [0; 100];
+            if let Ok(size) = ship.socket.recv(&mut buffer) {
+                assert_eq!((size, &buffer[..5]), (9, &[0x42, 0xff, 0xff, 2, 5][..]));
+                got += 1;
+            }
+        }
+        assert_eq!(got, hints);
+        gatewayd.end();
+    }
 }
 
 /// A server random is the system's, new for each reply and each life.
@@ -160,7 +192,7 @@ fn a_full_disk() {
     assert!(listed.len() < 20 && expected.starts_with(&listed), "{listed:?}");
 
     let gatewayd = Gatewayd::start(&place, &gatewayd.address.to_string(), &[]);
-    assert!(log().contains("are no whole record and are dropped"), "{}", log());
+    wait_for("the remark", || log().contains("are no whole record and are dropped"));
     assert_eq!(place.listed(0), listed);
     for number in 1..=20 {
         ship.send(&ship.data(number));

@@ -9,6 +9,7 @@ use gatewayd::fleet::{Fleet, Rules, Taken};
 use gatewayd::note::Note;
 use gatewayd::sessions::Session;
 use gatewayd::store::{self, Store};
+use gatewayd::way::Way;
 use peer::keys::Kind;
 use peer::unit::Hello;
 use peer::wire::Content;
@@ -22,37 +23,56 @@ fn address(last: u8) -> SocketAddr {
 struct World {
     fleet: Fleet,
     start: Instant,
-    random: u8,
+    random: u64,
+}
+
+fn way(sender: SocketAddr) -> Way {
+    Way { sender, ours: Some([192, 0, 2, 200].into()) }
 }
 
 impl World {
-    fn new(ships: usize, reopen_after: Option<u64>) -> World {
+    fn new(ships: usize) -> World {
+        World::with(ships, 100, None)
+    }
+
+    fn with(ships: usize, reopen_after: u64, hint_every: Option<u64>) -> World {
         let start = Instant::now();
         let session =
             |ship| Session { id: identifier(ship), secret: secret(ship), ship: name(ship) };
         let ships =
             (0..ships).map(|ship| gatewayd::ship::Ship::fresh(session(ship), start).unwrap());
         let rules = Rules {
-            reopen_after: reopen_after.map(Duration::from_secs),
+            reopen_after: Duration::from_secs(reopen_after),
             warn_every: Duration::from_secs(60),
+            hint_every: hint_every.map(Duration::from_secs),
         };
         World { fleet: Fleet::new(ships.collect(), rules), start, random: 0 }
     }
 
     fn take(&mut self, from: u8, datagram: &[u8], second: u64) -> Taken {
+        self.take_at(address(from), datagram, Duration::from_secs(second))
+    }
+
+    fn take_at(&mut self, from: SocketAddr, datagram: &[u8], at: Duration) -> Taken {
         self.random += 1;
-        let now = self.start + Duration::from_secs(second);
-        self.fleet.take(address(from), datagram, &[self.random; 16], now)
+        let random = u128::from(self.random).to_be_bytes();
+        self.fleet.take(way(from), datagram, &random, self.start + at)
+    }
+
+    /// Says hello, and hears the reply.
+    fn greet(&mut self, ship: &mut Ship, random: u8, from: u8, second: u64) {
+        let hello = ship.hello(random);
+        let taken = self.take(from, &hello, second);
+        assert!(taken.changed && taken.notes == [Note::Answered]);
+        assert_eq!(taken.send[0].0, way(address(from)));
+        ship.unit.hear_reply(&taken.send[0].1).unwrap();
     }
 
     fn open(&mut self, ship: &mut Ship, from: u8) {
-        let hello = ship.hello(1);
-        let taken = self.take(from, &hello, 0);
-        assert!(taken.changed);
-        assert_eq!(taken.send[0].0, address(from));
-        ship.unit.hear_reply(&taken.send[0].1).unwrap();
+        self.greet(ship, 1, from, 0);
         assert!(self.take(from, &ship.unit.flight().unwrap(), 0).changed);
         assert_eq!(self.state(ship.index), State::Open);
+        assert_eq!(self.route(ship.index), Some(address(from)));
     }
 
     fn state(&self, ship: usize) -> State {
@@ -79,55 +99,260 @@ fn refusals(taken: &Taken) -> Vec<u8> {
 }
 
 #[test]
-fn strangers_are_not_routed() {
-    let mut world = World::new(1, None);
+fn strangers_reach_nobody() {
+    let mut world = World::new(1);
     let mut unit = ship(0);
     world.open(&mut unit, 1);
-    let taken = world.take(2, &unit.data(1), 0);
-    assert_eq!((taken.notes, taken.changed), (vec![Note::Stranger], false));
+    let mut forged = unit.data(1);
+    forged[7] ^= 1;
+    let taken = world.take(2, &forged, 0);
+    assert_eq!((taken.notes, taken.changed, taken.ship), (vec![Note::Stranger], false, None));
+    assert_eq!(world.fleet.ships[0].tally.forged(), 0);
     let mut other = ship(7);
     assert_eq!(world.take(2, &other.hello(1), 0).notes, [Note::UnknownSession]);
     assert_eq!(world.take(2, &[], 0).notes, [Note::Stranger]);
+    assert_eq!(world.take(1, &forged, 0).ship, Some(0));
+    assert_eq!(world.fleet.ships[0].tally.forged(), 1);
     assert_eq!(world.take(1, &unit.data(1), 0).reports.len(), 1);
+}
+
+/// The sender of the last genuine new record, from wherever; a replay moves nothing.
+#[test]
+fn the_route_follows_the_key() {
+    let mut world = World::new(2);
+    let (mut unit, mut other) = (ship(0), ship(1));
+    world.open(&mut unit, 1);
+    world.open(&mut other, 9);
+    for (number, from) in [(1, 1), (2, 2), (3, 3), (4, 9), (5, 1)] {
+        let data = unit.data(number);
+        let taken = world.take(from, &data, 0);
+        assert_eq!((taken.ship, taken.reports.len(), taken.changed), (Some(0), 1, true));
+        assert_eq!(world.route(0), Some(address(from)));
+        // Whoever sends it again is nobody.
+        let replayed = world.take(7, &data, 0);
+        assert_eq!((refusals(&replayed), replayed.changed), (vec![11], false));
+        assert_eq!(world.route(0), Some(address(from)));
+        assert_eq!(world.take(9, &other.data(number), 0).reports.len(), 1);
+    }
+    assert_eq!(world.fleet.ships[1].tally.forged(), 0);
 }
 
 #[test]
 fn an_18_moves_no_route_and_silence_closes_nothing() {
-    let mut world = World::new(1, None);
+    let mut world = World::new(1);
     let mut unit = ship(0);
     world.open(&mut unit, 1);
-    let year = 365 * 86_400;
-    for second in [0, year] {
+    for second in [0, 99] {
         let hello = ship(0).hello(2);
         let taken = world.take(2, &hello, second);
         assert_eq!(refusals(&taken), [18]);
         assert!(!taken.changed && taken.send.is_empty());
     }
     assert_eq!((world.route(0), world.state(0)), (Some(address(1)), State::Open));
+    let year = 365 * 86_400;
     assert_eq!(world.take(1, &unit.data(1), year).reports.len(), 1);
 }
 
-/// Before Open nobody has shown a key, so whoever says hello last is answered and routed.
+/// A hello that somebody overheard gets its reply again, and that moves nothing: the ship's own
+/// Finished opens, and if the stranger brings it first, the ship's next record has the route.
 #[test]
-fn before_open_the_route_is_that_of_the_last_hello() {
-    let mut world = World::new(1, None);
+fn an_overheard_hello() {
+    for relayed in [false, true] {
+        let mut world = World::new(1);
+        let mut unit = ship(0);
+        let hello = unit.hello(1);
+        let reply = world.take(1, &hello, 0).send.remove(0).1;
+        unit.unit.hear_reply(&reply).unwrap();
+        for _ in 0..10 {
+            let replayed = world.take(2, &hello, 0);
+            assert_eq!(
+                (&replayed.send, replayed.changed),
+                (&vec![(way(address(2)), reply.clone())], false)
+            );
+        }
+        assert_eq!(world.route(0), None);
+        let flight = unit.unit.flight().unwrap();
+        if relayed {
+            assert!(world.take(2, &flight, 0).changed);
+            assert_eq!((world.route(0), world.state(0)), (Some(address(2)), State::Open));
+            // The Finished from the ship itself is a repeated one. The warning goes to the route.
+            let repeated = world.take(1, &flight, 0);
+            assert_eq!(refusals(&repeated), [8, 11]);
+            assert_eq!(repeated.send[0].0, way(address(2)));
+        } else {
+            assert!(world.take(1, &flight, 0).changed);
+        }
+        assert_eq!(world.take(1, &unit.data(1), 0).reports.len(), 1);
+        assert_eq!((world.route(0), world.state(0)), (Some(address(1)), State::Open));
+        // From now on that hello starts nothing, however silent the ship is.
+        let late = world.take(2, &hello, 1_000_000);
+        assert_eq!((refusals(&late), late.changed), (vec![18], false));
+        assert_eq!(world.take(1, &unit.data(2), 1_000_000).reports.len(), 1);
+    }
+}
+
+/// A ship whose address changes between its hello and its Finished.
+#[test]
+fn a_ship_that_moves_in_its_handshake() {
+    let mut world = World::new(3);
+    let (mut unit, mut other) = (ship(0), ship(1));
+    world.greet(&mut other, 1, 8, 0);
+    world.greet(&mut unit, 1, 1, 0);
+    world.greet(&mut ship(2), 1, 9, 0);
+    let taken = world.take(2, &unit.data_behind_finished(1), 0);
+    assert_eq!((taken.ship, taken.reports.len()), (Some(0), 1));
+    assert_eq!((world.route(0), world.state(0)), (Some(address(2)), State::Open));
+    assert_eq!(world.fleet.ships[1].started.len(), 1);
+}
+
+/// A hello with change cipher spec behind it.
+#[test]
+fn a_hello_with_more_behind_it() {
+    let mut world = World::new(1);
     let mut unit = ship(0);
-    let hello = unit.hello(1);
-    let reply = world.take(1, &hello, 0).send.remove(0).1;
-    unit.unit.hear_reply(&reply).unwrap();
-    let replayed = world.take(2, &hello, 0);
-    assert_eq!((&replayed.send, replayed.changed), (&vec![(address(2), reply)], true));
-    assert_eq!(world.take(1, &unit.unit.flight().unwrap(), 0).notes, [Note::Stranger]);
-    // The ship says it once more, and opens; from now on that hello moves nothing.
-    assert!(world.take(1, &hello, 0).changed);
+    unit.hello(1);
+    let hello = unit.unit.clear(Content::Handshake, true, 0, unit.unit.last_hello());
+    let change = unit.unit.clear(Content::ChangeCipherSpec, true, 1, &[1]);
+    let taken = world.take(1, &[hello, change].concat(), 0);
+    unit.unit.hear_reply(&taken.send[0].1).unwrap();
+    assert!(world.take(1, &unit.unit.finished(false, 0).unwrap(), 0).changed);
+    assert_eq!(world.state(0), State::Open);
+}
+
+/// Change cipher spec and Finished in datagrams of their own; a clear alert ends only the handshake
+/// of its own sender.
+#[test]
+fn clear_records_touch_the_handshake_of_their_sender_only() {
+    let mut world = World::new(1);
+    let mut unit = ship(0);
+    world.greet(&mut unit, 1, 1, 0);
+    let mut stranger = ship(0);
+    let hello = stranger.hello(2);
+    let reply = world.take(2, &hello, 0).send.remove(0).1;
+    let last = &reply[reply.len() - 28..];
+    assert_eq!(last[0], 0x63);
+    let alert = [&[0x42, 0, 2, 2, 0][..], &peer::alert::checksum(last)].concat();
+    let taken = world.take(2, &alert, 0);
+    assert!(taken.notes.contains(&Note::ClosedByAlert { description: 0 }), "{:?}", taken.notes);
+    assert_eq!(world.fleet.ships[0].started.len(), 1);
+    assert_eq!(world.take(3, &alert, 0).notes, [Note::Stranger]);
+    let change = unit.unit.clear(Content::ChangeCipherSpec, true, 1, &[1]);
+    assert!(world.take(1, &change, 0).changed);
+    assert!(world.take(1, &unit.unit.finished(false, 0).unwrap(), 0).changed);
+    assert_eq!(world.state(0), State::Open);
+}
+
+/// Many others say the same hello: the ship's own address is not pushed out by them.
+#[test]
+fn an_overheard_hello_said_by_many() {
+    let mut world = World::new(1);
+    let mut unit = ship(0);
+    world.greet(&mut unit, 1, 1, 0);
+    let hello = unit.unit.say_hello(&unit.unit.last_hello().to_vec());
+    for other in 2..200 {
+        assert!(!world.take(other, &hello, 0).changed);
+    }
+    assert!(world.fleet.ships[0].started[0].senders.contains(&address(1)));
+    assert!(world.fleet.ships[0].started[0].senders.len() <= 4);
     assert!(world.take(1, &unit.unit.flight().unwrap(), 0).changed);
-    assert_eq!(refusals(&world.take(2, &hello, 0)), [18]);
-    assert_eq!((world.route(0), world.state(0)), (Some(address(1)), State::Open));
+    assert_eq!(world.state(0), State::Open);
+}
+
+/// Whoever else says hello, a handshake under way can be finished; and the ship can start one.
+#[test]
+fn handshakes_under_fire() {
+    let mut world = World::new(1);
+    let mut unit = ship(0);
+    // A stranger on seven hosts, as often as he likes, before and behind the ship's hello.
+    let stranger = |world: &mut World, from: u8, second: u64| {
+        for random in 100..200 {
+            world.take(from, &ship(0).hello(random), second);
+        }
+    };
+    for from in [2, 2, 3, 4, 5, 6, 7, 8] {
+        stranger(&mut world, from, 0);
+    }
+    world.greet(&mut unit, 1, 1, 0);
+    for from in 2..9 {
+        stranger(&mut world, from, 1);
+    }
+    assert_eq!(world.fleet.ships[0].started.len(), 8);
+    assert!(world.take(1, &unit.unit.flight().unwrap(), 7).changed);
+    assert_eq!((world.state(0), world.route(0)), (State::Open, Some(address(1))));
+    assert!(world.fleet.ships[0].started.is_empty());
+    // It closes, and hundreds of addresses say hello; from its own host it comes back at once.
+    world.take(1, &unit.alert(2, 0, 1), 7);
+    for from in 2..200 {
+        world.take(from, &ship(0).hello(from), 8);
+    }
+    let mut again = ship(0);
+    world.greet(&mut again, 250, 1, 8);
+    for from in 2..200 {
+        world.take(from, &ship(0).hello(from), 9);
+    }
+    assert!(world.take(1, &again.unit.flight().unwrap(), 9).changed);
+    assert_eq!(world.state(0), State::Open);
+}
+
+/// Handshakes beyond the hold give way, and there are never more than the bound.
+#[test]
+fn room_for_handshakes_is_bounded() {
+    let mut world = World::new(1);
+    for from in 1..9 {
+        world.greet(&mut ship(0), from, from, 0);
+    }
+    let mut late = ship(0);
+    let hello = late.hello(100);
+    let taken = world.take(100, &hello, 7);
+    assert_eq!((&taken.notes[..], taken.changed), (&[Note::HelloPassedOver][..], false));
+    assert!(taken.send.is_empty());
+    world.greet(&mut late, 100, 100, 8);
+    assert_eq!(world.fleet.ships[0].started.len(), 8);
+    assert!(world.take(100, &late.unit.flight().unwrap(), 8).changed);
+    assert_eq!(world.state(0), State::Open);
+}
+
+#[test]
+fn room_for_the_handshakes_of_all_ships() {
+    let ships = 5000;
+    let mut world = World::new(ships);
+    let started =
+        |world: &World| -> usize { world.fleet.ships.iter().map(|ship| ship.started.len()).sum() };
+    let at = Duration::from_millis(1);
+    let mut passed_over = 0;
+    for index in 0..ships {
+        let from = SocketAddr::from(((index as u32).to_be_bytes(), 4000));
+        let taken = world.take_at(from, &ship(index).hello(1), at);
+        passed_over += usize::from(taken.notes == [Note::HelloPassedOver]);
+    }
+    assert_eq!(started(&world) + passed_over, ships);
+    assert!(started(&world) <= 4096 && started(&world) >= 3900, "{}", started(&world));
+    // Later all of them have had their time.
+    for index in 0..ships {
+        let from = SocketAddr::from(((index as u32).to_be_bytes(), 4000));
+        world.take_at(from, &ship(index).hello(2), Duration::from_secs(8 + index as u64 / 1000));
+    }
+    assert!(started(&world) <= 4096 && started(&world) >= 3900, "{}", started(&world));
+}
+
+/// Four forged hellos that name other ships, from the ship's own address: nothing happens to it.
+#[test]
+fn forged_hellos_at_a_ships_address() {
+    let mut world = World::new(8);
+    let mut unit = ship(0);
+    for other in 1..6 {
+        assert!(world.take(1, &ship(other).hello(1), 0).changed);
+    }
+    world.open(&mut unit, 1);
+    for other in 1..8 {
+        assert!(world.take(1, &ship(other).hello(2), 0).changed);
+    }
+    assert_eq!(world.take(1, &unit.data(1), 0).reports.len(), 1);
 }
 
 #[test]
 fn a_silent_ship_comes_back_with_a_hello() {
-    let mut world = World::new(1, Some(100));
+    let mut world = World::new(1);
     let mut unit = ship(0);
     world.open(&mut unit, 1);
     let first = unit.data(1);
@@ -138,29 +363,159 @@ fn a_silent_ship_comes_back_with_a_hello() {
     let hello = rebooted.hello(9);
     let early = world.take(2, &hello, 149);
     assert_eq!((refusals(&early), early.changed), (vec![18], false));
-    // A hello that would get no reply ends nothing.
+    // A hello that would get no reply starts nothing.
     let unacceptable = Hello { version: 2, ..Hello::plain(&[3; 16], &identifier(0), Kind::Sha, 0) };
     let unacceptable = ship(0).unit.say_hello(&unacceptable.message());
     assert!(!world.take(2, &unacceptable, 150).changed);
-    assert_eq!((world.route(0), world.state(0)), (Some(address(1)), State::Open));
+    assert!(world.fleet.ships[0].started.is_empty());
 
-    let taken = world.take(2, &hello, 150);
-    assert!(taken.changed && taken.notes.contains(&Note::Reopened));
-    assert_eq!(taken.send.len(), 2);
-    assert_eq!((taken.send[0].0, taken.send[1].0), (address(1), address(2)));
-    // Critical connection_close_notify under the old keys, with the checksum of the hello.
-    let notice = unit.unit.hear(&taken.send[0].1).unwrap();
-    assert_eq!(taken.send[0].1[0], 0x62);
-    assert_eq!(notice, [&[2, 0], &peer::alert::checksum(&hello)[..]].concat());
-    rebooted.unit.hear_reply(&taken.send[1].1).unwrap();
-    assert_eq!((world.route(0), world.state(0)), (Some(address(2)), State::Replied));
-    assert_eq!(world.take(2, &rebooted.data_behind_finished(1), 150).reports.len(), 1);
-    assert_eq!(world.take(1, &unit.data(2), 150).notes, [Note::Stranger]);
+    // The hello is answered beside the open connection, which goes on.
+    world.greet(&mut rebooted, 9, 2, 150);
+    assert_eq!((world.route(0), world.state(0)), (Some(address(1)), State::Open));
+    assert_eq!(world.take(1, &unit.data(2), 150).reports.len(), 1);
+    // Its Finished replaces it, from where it comes.
+    let taken = world.take(2, &rebooted.data_behind_finished(1), 150);
+    assert_eq!((taken.reports.len(), taken.notes), (1, vec![Note::Opened, Note::Replaced]));
+    assert_eq!((world.route(0), world.state(0)), (Some(address(2)), State::Open));
+    assert_eq!(world.take(1, &unit.data(3), 150).notes, [Note::Stranger]);
+    assert_eq!(world.take(2, &rebooted.data(2), 150).reports.len(), 1);
+}
+
+/// What was begun beside an open connection ends when that is heard, but not before its time.
+#[test]
+fn handshakes_beside_an_open_connection() {
+    let mut world = World::new(1);
+    let (mut unit, mut rebooted) = (ship(0), ship(0));
+    world.open(&mut unit, 1);
+    world.greet(&mut rebooted, 9, 2, 100);
+    for (second, left) in [(100, 1), (107, 1), (108, 0)] {
+        assert_eq!(world.take(1, &unit.data(second as u16), second).reports.len(), 1);
+        assert_eq!(world.fleet.ships[0].started.len(), left);
+    }
+    assert_eq!(world.take(2, &rebooted.data_behind_finished(1), 108).notes, [Note::Stranger]);
+}
+
+/// A fleet behind one relay: each datagram finds its ship, and counts nothing for the others.
+#[test]
+fn many_ships_behind_one_address() {
+    let mut world = World::new(300);
+    let mut units: Vec<Ship> = (0..300).map(ship).collect();
+    for (index, unit) in units.iter_mut().enumerate() {
+        let at = Duration::from_secs(index as u64);
+        let relay = address(1);
+        let reply = world.take_at(relay, &unit.hello(1), at).send.remove(0).1;
+        unit.unit.hear_reply(&reply).unwrap();
+        assert!(world.take_at(relay, &unit.unit.flight().unwrap(), at).changed);
+    }
+    for number in 1..4 {
+        for unit in &units {
+            let at = Duration::from_secs(400 + unit.index as u64);
+            let number = number + 7 * unit.index as u16;
+            let taken = world.take_at(address(1), &unit.data(number), at);
+            assert_eq!((taken.ship, taken.reports.len()), (Some(unit.index), 1));
+        }
+    }
+    assert!(world.fleet.ships.iter().all(|ship| ship.tally.forged() == 0));
+    // Damaged, it may be anybody's.
+    let mut damaged = units[5].data(100);
+    damaged[9] ^= 1;
+    assert_eq!(world.take(1, &damaged, 900).notes, [Note::Stranger]);
+    // And the whole fleet moves to another relay.
+    for unit in &units {
+        let at = Duration::from_secs(1000 + unit.index as u64);
+        let taken = world.take_at(address(2), &unit.data(10 + 7 * unit.index as u16), at);
+        assert_eq!((taken.ship, taken.reports.len()), (Some(unit.index), 1));
+    }
+}
+
+/// Datagrams that ask for trials get no more than the budget, and a ship at its route is taken all
+/// the same; one that has moved is found as soon as there is some budget again.
+#[test]
+fn trials_are_budgeted() {
+    let mut world = World::new(40);
+    let mut units: Vec<Ship> = (0..40).map(ship).collect();
+    for (index, unit) in units.iter_mut().enumerate() {
+        world.open(unit, 1 + index as u8);
+    }
+    let mut garbage = units[0].data(1);
+    garbage[5] ^= 1;
+    let start = Instant::now();
+    let at = Duration::from_secs(1);
+    for n in 0..100_000_u32 {
+        let from = SocketAddr::from(((n.wrapping_mul(2_654_435_769)).to_be_bytes(), 4000));
+        assert_eq!(world.take_at(from, &garbage, at).notes, [Note::Stranger]);
+    }
+    println!("100,000 datagrams that ask for trials: {:?}", start.elapsed());
+    let late = units[0].data(2);
+    assert_eq!(world.take_at(address(200), &late, at).notes, [Note::Stranger]);
+    for unit in &units[1..] {
+        assert_eq!(
+            world.take_at(address(1 + unit.index as u8), &unit.data(1), at).reports.len(),
+            1
+        );
+    }
+    let at = Duration::from_millis(1100);
+    assert_eq!(world.take_at(address(200), &late, at).reports.len(), 1);
+}
+
+/// A datagram of eight records costs eight times as much.
+#[test]
+fn trials_are_counted_by_codes() {
+    for (records, left) in [(1, true), (8, false)] {
+        let mut world = World::new(2);
+        let mut unit = ship(0);
+        world.open(&mut unit, 1);
+        let record = peer::wire::write(0xe4, 1, &[7; 20]);
+        for _ in 0..300 {
+            world.take(2, &record.repeat(records), 1);
+        }
+        // Of the stranger's own share, from which the ship's record is to be tried, too.
+        let taken = world.take_at(SocketAddr::from(([192, 0, 2, 2], 5)), &unit.data(1), SECOND);
+        assert_eq!(taken.reports.len() == 1, left);
+    }
+}
+
+const SECOND: Duration = Duration::from_secs(1);
+
+/// One stranger's garbage uses up his own share only.
+#[test]
+fn one_stranger_has_a_share_of_the_budget() {
+    let mut world = World::new(2);
+    let mut unit = ship(0);
+    world.open(&mut unit, 1);
+    let mut garbage = unit.data(1);
+    garbage[5] ^= 1;
+    for _ in 0..30_000 {
+        world.take(2, &garbage, 1);
+    }
+    assert_eq!(world.take(3, &unit.data(1), 1).reports.len(), 1);
+}
+
+#[test]
+fn a_hint_that_there_is_no_connection() {
+    let mut world = World::with(1, 100, Some(60));
+    let mut unit = ship(0);
+    world.open(&mut unit, 1);
+    let mut garbage = unit.data(1);
+    garbage[5] ^= 1;
+    let taken = world.take(2, &garbage, 0);
+    assert_eq!(taken.notes, [Note::Stranger, Note::Hinted]);
+    let (to, hint) = &taken.send[0];
+    assert_eq!((to.sender, hint.len() <= garbage.len()), (address(2), true));
+    assert_eq!(hint[..5], [0x42, 0xff, 0xff, 2, 5]);
+    assert_eq!(hint[5..], peer::alert::checksum(&garbage));
+    assert!(world.take(2, &garbage, 59).send.is_empty());
+    assert_eq!(world.take(2, &garbage, 60).send.len(), 1);
+    // Not where a ship is, not to clear records, not to hellos.
+    assert!(world.take(1, &garbage, 300).send.is_empty());
+    let clear = unit.unit.clear(Content::Data, false, 1, &[1; 20]);
+    assert!(world.take(3, &clear, 300).send.is_empty());
+    assert!(world.take(3, &ship(7).hello(1), 300).send.is_empty());
 }
 
 #[test]
 fn a_repeated_finished_is_warned_of_once_in_a_time() {
-    let mut world = World::new(1, None);
+    let mut world = World::new(1);
     let mut unit = ship(0);
     world.open(&mut unit, 1);
     let warned = |taken: &Taken| taken.notes.contains(&Note::Warned);
@@ -187,7 +542,7 @@ fn a_repeated_finished_is_warned_of_once_in_a_time() {
 
 #[test]
 fn what_changes_nothing_is_not_saved() {
-    let mut world = World::new(1, None);
+    let mut world = World::new(1);
     let mut unit = ship(0);
     world.open(&mut unit, 1);
     let data = unit.data(40);
@@ -219,12 +574,13 @@ fn what_changes_nothing_is_not_saved() {
 
 #[test]
 fn a_closed_connection_is_started_again() {
-    let mut world = World::new(1, None);
+    let mut world = World::new(1);
     let mut unit = ship(0);
     world.open(&mut unit, 1);
     let taken = world.take(1, &unit.alert(2, 0, 1), 0);
     assert!(taken.changed && taken.notes.contains(&Note::ClosedByAlert { description: 0 }));
-    assert_eq!((world.route(0), world.state(0)), (None, State::Idle));
+    assert_eq!((world.route(0), world.state(0)), (Some(address(1)), State::Idle));
+    assert_eq!(world.take(1, &unit.data(2), 0).notes, [Note::Stranger]);
     let mut again = ship(0);
     world.open(&mut again, 2);
     // Records of the old connection are forged in the new one.
@@ -241,7 +597,7 @@ fn a_barred_session_stays_out() {
         Store::open(&place.state(), &place.path.join("lists"), vec![session(0), session(1)])
             .unwrap()
     };
-    let mut world = World::new(2, Some(0));
+    let mut world = World::with(2, 0, None);
     let mut store = open(secret).store;
     let mut unit = ship(0);
     world.open(&mut unit, 1);
@@ -270,23 +626,4 @@ fn a_barred_session_stays_out() {
     std::fs::remove_file(place.state().join("journal")).unwrap();
     assert_eq!(barred(&open(secret)), [true, false]);
     assert_eq!(barred(&open(|_| [9; 20])), [true, false]);
-}
-
-#[test]
-fn two_ships_behind_one_address() {
-    let mut world = World::new(6, None);
-    let mut units: Vec<Ship> = (0..5).map(ship).collect();
-    for unit in &mut units[..4] {
-        world.open(unit, 1);
-    }
-    for number in 1..5 {
-        for unit in &units[..4] {
-            let taken = world.take(1, &unit.data(number), 0);
-            assert_eq!((taken.ship, taken.reports.len()), (Some(unit.index), 1));
-        }
-    }
-    assert!(world.fleet.ships.iter().all(|ship| ship.tally.forged() == 0));
-    let hello = units[4].hello(1);
-    assert_eq!(world.take(1, &hello, 0).notes, [Note::TooManyShips]);
-    world.open(&mut units[4], 2);
 }

@@ -3,7 +3,7 @@
 use std::io::{self, BufWriter, Read, Write};
 use std::process::ExitCode;
 
-use peer::{console, days, handshakes, lists, stored, wire};
+use peer::{console, dayconsole, dayfiles, days, handshakes, lists, parts, rng, stored, wire};
 
 const USAGE: &str = "\
 peer console                       the lines that the console must write for those on stdin
@@ -11,12 +11,17 @@ peer lister                        the lines that the frame lister must write fo
 peer day                           the stored day, as input for the console
 peer long-day                      the day on which the sending numbers run out (refusal 15)
 peer handshakes                    two worked handshakes, one `name hex` to a line
+peer dayconsole                    the lines that the day console must write for those on stdin
+peer dayfiles --seed S --count N   lines for the day console: N lists and damaged files
+peer daycuts --seed S --count N     lines for the day console: every cut of N files, mended
 peer days --seed S --calls N [--spent K] [--keep FILE] --console PROGRAM [ARGUMENT ..]
                                    random days through PROGRAM, each line compared; K days on
                                    which sending numbers run out (else 2 to each 200,000 calls);
                                    FILE gets the few lines that make a difference
 peer lists --seed S --count N --lister PROGRAM [ARGUMENT ..]
                                    random datagrams through a frame lister
+peer parts --seed S --count N --gatherer PROGRAM [ARGUMENT ..]
+                                   random short messages, sound and damaged, through a gatherer
 ";
 
 fn main() -> ExitCode {
@@ -28,9 +33,15 @@ fn main() -> ExitCode {
         ["day"] => print(&stored::day()),
         ["long-day"] => print(&stored::long_day()),
         ["handshakes"] => print(&handshakes::worked()),
+        ["dayconsole"] => dayconsole::run(io::stdin().lock(), BufWriter::new(io::stdout().lock())),
+        ["dayfiles", "--seed", seed, "--count", count] => day_files(seed, count, dayfiles::lines),
+        ["daycuts", "--seed", seed, "--count", count] => day_files(seed, count, dayfiles::cuts),
         ["days", ..] => return run_days(&words[1..]),
         ["lists", "--seed", seed, "--count", count, "--lister", ..] => {
-            return run_lists(seed.parse().ok(), count.parse().ok(), &words[6..])
+            return run_many(lists::run, seed.parse().ok(), count.parse().ok(), &words[6..])
+        }
+        ["parts", "--seed", seed, "--count", count, "--gatherer", ..] => {
+            return run_many(parts::run, seed.parse().ok(), count.parse().ok(), &words[6..])
         }
         _ => {
             eprint!("{USAGE}");
@@ -48,6 +59,18 @@ fn main() -> ExitCode {
 
 fn print(text: &str) -> io::Result<()> {
     io::stdout().write_all(text.as_bytes())
+}
+
+fn day_files(seed: &str, count: &str, made: fn(&mut rng::Rng) -> String) -> io::Result<()> {
+    let (Ok(seed), Ok(count)) = (seed.parse(), count.parse::<u64>()) else {
+        return Err(io::Error::other("seed and count are numbers"));
+    };
+    let mut rng = rng::Rng::new(seed);
+    let mut output = BufWriter::new(io::stdout().lock());
+    for _ in 0..count {
+        output.write_all(made(&mut rng).as_bytes())?;
+    }
+    output.flush()
 }
 
 fn lister() -> io::Result<()> {
@@ -73,12 +96,15 @@ fn run_days(words: &[&str]) -> ExitCode {
     }
 }
 
-fn run_lists(seed: Option<u64>, count: Option<u64>, program: &[&str]) -> ExitCode {
+/// A comparison of many random inputs.
+type Run = fn(u64, u64, &[&str]) -> Result<String, String>;
+
+fn run_many(run: Run, seed: Option<u64>, count: Option<u64>, program: &[&str]) -> ExitCode {
     let (Some(seed), Some(count), false) = (seed, count, program.is_empty()) else {
         eprint!("{USAGE}");
         return ExitCode::from(2);
     };
-    match lists::run(seed, count, program) {
+    match run(seed, count, program) {
         Ok(report) => {
             print!("{report}");
             ExitCode::SUCCESS

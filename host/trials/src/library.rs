@@ -154,7 +154,7 @@ impl Library {
         }
     }
 
-    /// The state as the bytes of the connection and of the tally show it (crates/gateway/specs/Saved.antt has the places).
+    /// The state as the bytes of the connection and of the tally show it (crates/lent/specs/Saved.antt has the places).
     fn state_line(&self) -> String {
         let Some(connection) = &self.connection else {
             return "state None n=- marks=00000000 arrived=0 sent=-,- checksum=00000000 tally=0,0,0,0"

@@ -2,6 +2,7 @@
 
 mod damage;
 mod differ;
+mod laws;
 mod library;
 mod limits;
 mod open;
@@ -14,6 +15,9 @@ trials differ [DATAGRAMS [SEED]]   random days through the exported calls and th
                                    datagrams as said (default 100,000), valid and damaged
 trials limits                      every exported call with lengths 0, 1, at and past each limit
 trials damage                      the bytes of saved connections damaged one at a time
+trials laws [ROUNDS [SEED]]        the laws of the test bench over random traffic: joined
+                                   stretches and swapped arrivals, as many rounds as said
+                                   (default 2,000)
 ";
 
 fn main() -> ExitCode {
@@ -31,6 +35,15 @@ fn main() -> ExitCode {
         },
         ["limits"] => limits::run(),
         ["damage"] => damage::run(),
+        ["laws"] => laws::run(2_000, 1),
+        ["laws", count] => match count.parse() {
+            Ok(count) => laws::run(count, 1),
+            Err(_) => return usage(),
+        },
+        ["laws", count, seed] => match (count.parse(), seed.parse()) {
+            (Ok(count), Ok(seed)) => laws::run(count, seed),
+            _ => return usage(),
+        },
         _ => return usage(),
     };
     match tried {

@@ -8,6 +8,7 @@ use std::collections::HashMap;
 use std::fs;
 use std::io::{BufRead, BufReader, Read};
 use std::net::{SocketAddr, UdpSocket};
+use std::os::fd::OwnedFd;
 use std::os::unix::fs::PermissionsExt;
 use std::path::{Path, PathBuf};
 use std::process::{Child, ChildStdout, Command, Stdio};
@@ -90,7 +91,9 @@ pub fn identifier(ship: usize) -> [u8; 8] {
 }
 
 pub fn secret(ship: usize) -> [u8; 20] {
-    [ship as u8 + 1; 20]
+    let mut secret = [(ship as u8).wrapping_add(1); 20];
+    secret[..8].copy_from_slice(&identifier(ship));
+    secret
 }
 
 fn session_line(ship: usize) -> String {
@@ -135,6 +138,31 @@ impl Gatewayd {
         command.args(["-c", &limits, "sh"]).arg(plain.get_program()).args(plain.get_args());
         command.stdout(Stdio::piped()).stderr(log);
         Gatewayd::begin(place, command)
+    }
+
+    /// With a socket that outlives it, as systemd hands one over.
+    pub fn start_with(place: &Place, socket: &OwnedFd) -> Gatewayd {
+        let plain = Gatewayd::command(place, "127.0.0.1:1", &[]);
+        let over = "exec 3<&0 </dev/null; LISTEN_FDS=1 LISTEN_PID=$$ exec \"$@\"";
+        let log = fs::OpenOptions::new().append(true).open(place.path.join("log")).unwrap();
+        let mut command = Command::new("sh");
+        command.args(["-c", over, "sh"]).arg(plain.get_program()).args(plain.get_args());
+        command.stdin(socket.try_clone().unwrap()).stdout(Stdio::piped()).stderr(log);
+        Gatewayd::begin(place, command)
+    }
+
+    /// Ended by one signal or the other, whichever the turn.
+    pub fn end_at(&mut self, turn: usize) {
+        signal(&self.child, if turn % 4 == 0 { "TERM" } else { "INT" });
+        assert_eq!(self.child.wait().unwrap().code(), Some(0));
+    }
+
+    /// SIGHUP; waits until it listens again.
+    pub fn start_anew(&mut self) {
+        signal(&self.child, "HUP");
+        let mut line = String::new();
+        self.out.read_line(&mut line).unwrap();
+        assert!(line.contains(&format!(" listens on {}:", self.address)), "{line}");
     }
 
     fn begin(place: &Place, mut command: Command) -> Gatewayd {
@@ -204,6 +232,14 @@ impl Ship {
             warnings: 0,
             notices: 0,
         }
+    }
+
+    /// The same ship with another socket: a modem that registers again, another port of a
+    /// translator.
+    pub fn move_to(&mut self, address: &str) {
+        let to = self.socket.peer_addr().unwrap();
+        self.socket = UdpSocket::bind(address).unwrap();
+        self.socket.connect(to).unwrap();
     }
 
     pub fn hello(&mut self, random: u8) -> Vec<u8> {

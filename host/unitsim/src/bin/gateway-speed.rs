@@ -38,20 +38,23 @@ fn main() -> Outcome<()> {
     let datagrams: usize = words.get(2).map_or(Ok(20_000), |word| word.parse())?;
     println!("reports of {REPORT_SIZE} bytes, {datagrams} datagrams, at most {WINDOW} under way");
     println!("medians of {REPETITIONS}");
-    println!("ships  gatewayd/s    echo/s  ratio  memory of gatewayd");
+    println!("ships  gatewayd/s    echo/s  ratio  processor/datagram  memory of gatewayd");
     for ships in [1, 10, 100] {
-        let (mut rates, mut echoes, mut ratios, mut memories) = (vec![], vec![], vec![], vec![]);
+        let (mut rates, mut echoes, mut ratios) = (vec![], vec![], vec![]);
+        let (mut times, mut memories) = (vec![], vec![]);
         for repetition in 0..REPETITIONS {
             let work = Path::new(directory).join(format!("{ships}-{repetition}"));
-            let (rate, memory) = measure(Path::new(gatewayd), &work, ships, datagrams)?;
+            let (rate, time, memory) = measure(Path::new(gatewayd), &work, ships, datagrams)?;
             let echo = measure_echo(ships, datagrams)?;
             rates.push(rate);
             echoes.push(echo);
             ratios.push(rate / echo);
+            times.push(1e6 * time / datagrams as f64);
             memories.push(memory as f64);
         }
         let (rate, echo, ratio) = (median(rates), median(echoes), median(ratios));
-        println!("{ships:5}  {rate:10.0}  {echo:8.0}  {ratio:5.2}  {:.0} kB", median(memories));
+        let (time, memory) = (median(times), median(memories));
+        println!("{ships:5}  {rate:10.0}  {echo:8.0}  {ratio:5.2}  {time:15.1} us  {memory:.0} kB");
     }
     Ok(())
 }
@@ -78,7 +81,13 @@ struct Ship {
     number: u16,
 }
 
-fn measure(gatewayd: &Path, work: &Path, ships: usize, datagrams: usize) -> Outcome<(f64, u64)> {
+/// Datagrams a second, and of the gateway the seconds of a processor and the memory.
+fn measure(
+    gatewayd: &Path,
+    work: &Path,
+    ships: usize,
+    datagrams: usize,
+) -> Outcome<(f64, f64, u64)> {
     fs::create_dir_all(work)?;
     let sessions = plant(work, ships)?;
     let mut gateway = Running(
@@ -98,6 +107,7 @@ fn measure(gatewayd: &Path, work: &Path, ships: usize, datagrams: usize) -> Outc
     // Made before the clock runs: the ships' work is not the gateway's.
     let made: Vec<(usize, Vec<u8>)> =
         (0..datagrams).map(|turn| (turn % ships, fleet[turn % ships].data())).collect();
+    let before = processor(&gateway.0)?;
     let start = Instant::now();
     for (sent, (ship, datagram)) in made.iter().enumerate() {
         list.wait_for(ships + (sent + 1).saturating_sub(WINDOW))?;
@@ -105,7 +115,7 @@ fn measure(gatewayd: &Path, work: &Path, ships: usize, datagrams: usize) -> Outc
     }
     list.wait_for(ships + datagrams)?;
     let rate = datagrams as f64 / start.elapsed().as_secs_f64();
-    Ok((rate, most_memory(&gateway.0)?))
+    Ok((rate, processor(&gateway.0)? - before, most_memory(&gateway.0)?))
 }
 
 fn session(ship: usize) -> ([u8; 8], [u8; 20]) {
@@ -144,9 +154,9 @@ fn open(ship: usize, to: SocketAddr) -> Outcome<Ship> {
     let (id, secret) = session(ship);
     let mut unit = Unit::new(&id, &secret);
     let hello = Hello::plain(&[7; 16], &id, Kind::Sha80, 6).message();
-    socket.send(&unit.say_hello(&hello))?;
+    let hello = unit.say_hello(&hello);
     let mut buffer = [0; 2048];
-    let size = socket.recv(&mut buffer)?;
+    let size = said_until_heard(&socket, &hello, &mut buffer)?;
     unit.hear_reply(&buffer[..size])?;
     let mut ship = Ship { socket, unit, number: 1 };
     let change = ship.unit.clear(Content::ChangeCipherSpec, true, 1, &[1]);
@@ -154,6 +164,21 @@ fn open(ship: usize, to: SocketAddr) -> Outcome<Ship> {
     let first = [change, finished, ship.data()].concat();
     ship.socket.send(&first)?;
     Ok(ship)
+}
+
+/// All ships are on one host here, whose hellos are not all answered at once.
+fn said_until_heard(socket: &UdpSocket, hello: &[u8], buffer: &mut [u8]) -> io::Result<usize> {
+    socket.set_read_timeout(Some(Duration::from_millis(200)))?;
+    let mut heard = Err(io::ErrorKind::TimedOut.into());
+    for _ in 0..50 {
+        socket.send(hello)?;
+        heard = socket.recv(buffer);
+        if heard.is_ok() {
+            break;
+        }
+    }
+    socket.set_read_timeout(Some(PATIENCE))?;
+    heard
 }
 
 impl Ship {
@@ -195,6 +220,14 @@ impl List {
         }
         Ok(())
     }
+}
+
+/// User and system time so far. Less than the rate does it depend on what else the machine does.
+fn processor(child: &Child) -> Outcome<f64> {
+    let stat = fs::read_to_string(format!("/proc/{}/stat", child.id()))?;
+    let fields = stat.rsplit(')').next().unwrap_or_default().split_whitespace();
+    let ticks = fields.skip(11).take(2).map(str::parse::<f64>).sum::<Result<f64, _>>()?;
+    Ok(ticks / 100.0)
 }
 
 fn most_memory(child: &Child) -> Outcome<u64> {

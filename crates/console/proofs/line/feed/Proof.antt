@@ -21,6 +21,9 @@ shared-slice-read-byte c = search needs
 add-i : tie.Need-add-i Inv-loop μ-loop
 add-i c = search needs
 
+is-newline-requires : tie.Need-is-newline-requires Inv-loop μ-loop
+is-newline-requires c κs = search needs
+
 hold-requires : tie.Need-hold-requires Inv-loop μ-loop
 hold-requires c κs = search needs
 
@@ -60,6 +63,7 @@ feed-spec =
     loop-holds
     shared-slice-read-byte
     add-i
+    is-newline-requires
     hold-requires
     loop-less
     loop-again

@@ -1,13 +1,13 @@
--- `block::late4`: each turn is a word of the schedule and a round, with the function and the constant of its twenty.
-use Prim.Native.Nat.{ℕ, _+_, _-_, _≤_}
+-- `block::late4`: each turn is a word turned over and its round, with the function and the constant of its twenty.
+use Prim.Native.Nat.{ℕ, _+_, _-_, _%_, _≤_}
 use mathlib.Core.Path.{_≡_, _∙_}
 use mathlib.Core.List.{List}
 use lib.ListN.{length, length-set}
 use Rattle.digest.specs.Midway.{Reached}
 use Rattle.digest.specs.declared.block.State.{State}
-use Rattle.digest.proofs.Rounds.{late-more, f-fourth, k-fourth}
-use borrow.Author.Needs.{needs}
+use Rattle.digest.proofs.Rounds.{turned-over, round-more, f-fourth, k-fourth}
 use native.Mathlib.Omega.{arith}
+use borrow.Author.Needs.{needs}
 use Rattle.digest.proofs.block.late4.Statement.{statement}
 use Rattle.digest.proofs.block.late4.Tie as tie
 
@@ -15,7 +15,7 @@ abbrev Inv-loop : tie.InvT-loop
 Inv-loop from end g₀ w₀ t₀ g w t =
     (from ≤ t)
     × (t ≤ end)
-    × (length w ≡ 80)
+    × (length w ≡ 16)
     × ((m : List ℕ) (h : State) → length m ≡ 16 → Reached m h from (record { state = g₀; words = w₀ }) → Reached m h t (record { state = g; words = w }))
 
 abbrev μ-loop : tie.MeasureT-loop
@@ -26,9 +26,6 @@ loop-holds c = (omega arith, omega arith, search needs, λ m h l p. p)
 
 next-requires : tie.Need-next-requires Inv-loop μ-loop
 next-requires c κs = search needs
-
-add-w : tie.Need-add-w Inv-loop μ-loop
-add-w c = search needs
 
 mul-w : tie.Need-mul-w Inv-loop μ-loop
 mul-w c = search needs
@@ -50,10 +47,12 @@ loop-again c = let at = c .before .before .before .before .before .loop in
     let x = c .before .before .before .next in (
       omega arith,
       omega arith,
-      length-set (at .w) (at .t + 16) (x .result) ∙ at .inv .2,
+      length-set (at .w) (at .t % 16) (x .result) ∙ at .inv .2,
       λ m h l p.
-          late-more m (at .w) (at .t) (x .result) h (at .g) (c .turned .result) l (at .inv .2) (omega arith) (at .inv .3 m h l p) (x .ensures m)
-          (c .turned .ensures (at .t + 16) (f-fourth (at .t + 16) _ _ _ (omega arith)) (k-fourth (at .t + 16) (omega arith))),
+          let here = at .inv .3 m h l p in
+          round-more m (at .w) (at .t) (x .result) h (at .g) (c .turned .result) (at .inv .2) here
+          (x .ensures ∙ turned-over m (at .w) (at .t) h (at .g) l (omega arith) (omega arith) here)
+          (c .turned .ensures (at .t) (f-fourth (at .t) _ _ _ (omega arith)) (k-fourth (at .t) (omega arith))),
     )
 
 returns : tie.Need-returns Inv-loop μ-loop
@@ -69,7 +68,6 @@ late4-spec =
     μ-loop
     loop-holds
     next-requires
-    add-w
     mul-w
     array-write-w
     turned-requires

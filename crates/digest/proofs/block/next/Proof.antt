@@ -1,6 +1,5 @@
--- `block::next`: the four words that it reads stand in the schedule up to there.
-use mathlib.Core.Path.{_∙_}
-use Rattle.digest.proofs.Rounds.{next-from}
+-- `block::next`: the four words that it reads, and the shift.
+use Rattle.digest.specs.Midway.{turnedOver}
 use borrow.Author.Needs.{needs}
 use Rattle.digest.proofs.block.next.Statement.{statement}
 use Rattle.digest.proofs.block.next.Tie as tie
@@ -42,7 +41,8 @@ rotated-requires : tie.Need-rotated-requires
 rotated-requires c κs = search needs
 
 returns : tie.Need-returns
-returns c = λ m e. c .rotated .ensures ∙ next-from _ m _ e
+unfolding turnedOver
+returns c = c .rotated .ensures
 
 pub next-spec : {M : Type 1} → statement M
 next-spec =

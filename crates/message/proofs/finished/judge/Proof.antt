@@ -9,14 +9,14 @@ use Rattle.message.proofs.finished.judge.Tie as tie
 
 returns : tie.Need-returns
 unfolding judgedOf
-returns c = search picks
+returns c = search picks depth 2
 
 fills-with-requires : tie.Need-fills-with-requires
 fills-with-requires c κs = search needs
 
 returns-2 : tie.Need-returns-2
 unfolding judgedOf
-returns-2 c = rw (sym (c .before .fills-with .ensures), not-true (c .before .fills-with .result) (c .if2 .taken)) (search picks)
+returns-2 c = rw (sym (c .before .fills-with .ensures), not-true (c .before .fills-with .result) (c .if2 .taken)) (search picks depth 2)
 
 part-requires : tie.Need-part-requires
 part-requires c κs = search needs
@@ -34,7 +34,7 @@ returns-3 c =
       sym (c .before .same-code .ensures),
       c .if3 .taken,
     )
-    (search picks)
+    (search picks depth 2)
 
 returns-4 : tie.Need-returns-4
 unfolding judgedOf
@@ -46,7 +46,7 @@ returns-4 c =
       sym (c .before .same-code .ensures),
       c .if3 .left,
     )
-    (search picks)
+    (search picks depth 2)
 
 pub judge-spec : {M : Type 1} → statement M
 judge-spec =

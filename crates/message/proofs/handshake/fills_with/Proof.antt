@@ -9,14 +9,14 @@ use Rattle.message.proofs.handshake.fills_with.Tie as tie
 
 returns : tie.Need-returns
 unfolding fills
-returns c = search picks
+returns c = search picks depth 2
 
 shared-slice-read-if2 : tie.Need-shared-slice-read-if2
 shared-slice-read-if2 c = search needs
 
 returns-2 : tie.Need-returns-2
 unfolding fills
-returns-2 c = search picks
+returns-2 c = search picks depth 2
 
 two-at-requires : tie.Need-two-at-requires
 two-at-requires c κs = omega arith
@@ -26,7 +26,7 @@ sub-result c = search needs
 
 returns-3 : tie.Need-returns-3
 unfolding fills
-returns-3 c = rw (sym (c .two-at .ensures .0)) (search picks)
+returns-3 c = rw (sym (c .two-at .ensures .0)) (search picks depth 2)
 
 pub fills-with-spec : {M : Type 1} → statement M
 fills-with-spec =

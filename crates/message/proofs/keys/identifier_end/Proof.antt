@@ -8,7 +8,7 @@ use Rattle.message.proofs.keys.identifier_end.Tie as tie
 
 returns : tie.Need-returns
 unfolding identifierEnd
-returns c = (search picks, omega arith)
+returns c = (search picks depth 2, omega arith)
 
 shared-slice-read-match : tie.Need-shared-slice-read-match
 shared-slice-read-match c = search needs
@@ -42,27 +42,27 @@ short-end-requires-3 c κs = search needs
 
 returns-2 : tie.Need-returns-2
 unfolding identifierEnd
-returns-2 c = (search picks, omega arith)
+returns-2 c = (search picks depth 2, omega arith)
 
 returns-3 : tie.Need-returns-3
 unfolding identifierEnd
-returns-3 c = (rw (c .before .match .keys2) (search picks), omega arith)
+returns-3 c = (rw (c .before .match .keys2) (search picks depth 2), omega arith)
 
 returns-4 : tie.Need-returns-4
 unfolding identifierEnd
-returns-4 c = (rw (c .before .match .keys3) (search picks), omega arith)
+returns-4 c = (rw (c .before .match .keys3) (search picks depth 2), omega arith)
 
 returns-5 : tie.Need-returns-5
 unfolding identifierEnd
-returns-5 c = (rw (c .before .match .keys4) (search picks), omega arith)
+returns-5 c = (rw (c .before .match .keys4) (search picks depth 2), omega arith)
 
 returns-6 : tie.Need-returns-6
 unfolding identifierEnd
-returns-6 c = (rw (c .before .match .keys5) (search picks), omega arith)
+returns-6 c = (rw (c .before .match .keys5) (search picks depth 2), omega arith)
 
 returns-7 : tie.Need-returns-7
 unfolding identifierEnd
-returns-7 c = (search picks, omega arith)
+returns-7 c = (search picks depth 2, omega arith)
 
 pub identifier-end-spec : {M : Type 1} → statement M
 identifier-end-spec =

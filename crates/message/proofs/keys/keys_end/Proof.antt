@@ -1,11 +1,8 @@
 -- `message::keys::keys_end` meets its contract: each return is a case of `keysEnd`. Assumes nothing.
-use Rattle.message.proofs.Fields.{long-there}
-use Rattle.message.proofs.Entries.{keys-cut}
+use Rattle.message.proofs.Entries.{keys-cut, keys-sound, keys-unsound}
 use native.Mathlib.Omega.{arith}
-use Rattle.digest.proofs.Picks.{picks}
 use denote.Ref.{now}
-use mathlib.Core.Path.{_≡_, refl, sym, _∙_, ap}
-use Rattle.message.specs.Keys.{keysEnd}
+use mathlib.Core.Path.{_≡_, sym, _∙_}
 use Rattle.message.proofs.Fields.{long-there}
 use borrow.Author.Needs.{needs}
 use Rattle.message.proofs.keys.keys_end.Statement.{statement}
@@ -15,7 +12,6 @@ long-end-requires : tie.Need-long-end-requires
 long-end-requires c κs = search needs
 
 returns : tie.Need-returns
-unfolding keysEnd
 returns c =
     let a = c .before .before .before .args in
     (keys-cut (now (a .m)) (a .at) (sym (c .before .long-end .ensures .0) ∙ c .if1 .taken), omega arith)
@@ -32,18 +28,20 @@ key-list-requires : tie.Need-key-list-requires
 key-list-requires c κs = search needs
 
 returns-2 : tie.Need-returns-2
-unfolding keysEnd
-returns-2 c = (
-  rw (sym (c .before .before .before .before .long-end .ensures .0), sym (c .before .before .part .ensures), sym (c .before .key-list .ensures), c .if2 .taken) refl,
-  c .before .before .before .before .long-end .ensures .1,
-)
+returns-2 c =
+    let b = c .before .before .before .before in
+    let a = b .before .before .args in (
+      keys-sound (now (a .m)) (a .at) _ _ _ (b .long-end .ensures .0) (c .before .before .part .ensures) (c .before .key-list .ensures) (c .if2 .taken),
+      b .long-end .ensures .1,
+    )
 
 returns-3 : tie.Need-returns-3
-unfolding keysEnd
-returns-3 c = (
-  rw (sym (c .before .before .before .before .long-end .ensures .0), sym (c .before .before .part .ensures), sym (c .before .key-list .ensures), c .if2 .left) refl,
-  omega arith,
-)
+returns-3 c =
+    let b = c .before .before .before .before in
+    let a = b .before .before .args in (
+      keys-unsound (now (a .m)) (a .at) _ _ _ (b .long-end .ensures .0) (c .before .before .part .ensures) (c .before .key-list .ensures) (c .if2 .left),
+      omega arith,
+    )
 
 pub keys-end-spec : {M : Type 1} → statement M
 keys-end-spec =

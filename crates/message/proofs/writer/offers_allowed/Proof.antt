@@ -1,6 +1,6 @@
 -- `message::writer::offers_allowed` meets its contract: each return is a case of `offersAllowed`. Assumes nothing.
 use Rattle.digest.proofs.Picks.{picks}
-use Rattle.message.specs.Values.{offersAllowed}
+use Rattle.message.specs.Given.{offersAllowed}
 use Rattle.message.proofs.writer.offers_allowed.Statement.{statement}
 use Rattle.message.proofs.writer.offers_allowed.Tie as tie
 

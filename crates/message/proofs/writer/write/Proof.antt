@@ -7,9 +7,9 @@ use mathlib.Core.Path.{_≡_, refl, sym, _∙_, ap, subst}
 use mathlib.Core.List.{List}
 use Prim.Native.Nat.{ℕ, _≤_}
 use lib.ListN.{length}
-use Rattle.message.specs.Values.{valuesOf, helloOf, sentOf}
+use Rattle.message.specs.Given.{givenOf, helloFrom, sentOf}
 use Rattle.message.specs.Buffer.{Puts}
-use Rattle.message.proofs.Written.{sent-allowed, allowed-parts, sent-hello, put-hello, length-hello}
+use Rattle.message.proofs.Givens.{sent-allowed, allowed-parts, sent-hello, put-hello, length-hello}
 use borrow.Author.Needs.{needs}
 use Rattle.message.proofs.writer.write.Statement.{statement}
 use Rattle.message.proofs.writer.write.Tie as tie
@@ -20,21 +20,21 @@ size-of-requires c κs = search needs
 returns : tie.Need-returns
 returns c =
     let a = c .before .before .before .before .before .before .before .before .before .args in
-    let v = valuesOf (a .version) (now (a .random)) (now (a .session)) (now (a .client)) (now (a .trusted)) (now (a .suites)) (now (a .methods)) (a .numbering) (a .refresh) in
+    let v = givenOf (a .version) (now (a .random)) (now (a .session)) (now (a .client)) (now (a .trusted)) (now (a .suites)) (now (a .methods)) (a .numbering) (a .refresh) in
     let e : c .before .size-of .result ≡ length (sentOf v) = c .before .size-of .ensures (a .version) (a .numbering) (a .refresh) in
     wrote-none (now (a .out)) (sentOf v) (sym e ∙ c .if1 .taken)
 
 returns-2 : tie.Need-returns-2
 returns-2 c =
     let a = c .before .before .before .before .before .before .before .before .before .before .args in
-    let v = valuesOf (a .version) (now (a .random)) (now (a .session)) (now (a .client)) (now (a .trusted)) (now (a .suites)) (now (a .methods)) (a .numbering) (a .refresh) in
+    let v = givenOf (a .version) (now (a .random)) (now (a .session)) (now (a .client)) (now (a .trusted)) (now (a .suites)) (now (a .methods)) (a .numbering) (a .refresh) in
     let e : c .before .before .size-of .result ≡ length (sentOf v) = c .before .before .size-of .ensures (a .version) (a .numbering) (a .refresh) in
     wrote-no-room (now (a .out)) (sentOf v) (omega arith)
 
 sub-body : tie.Need-sub-body
 sub-body c =
     let a = c .before .before .before .before .before .before .before .before .before .before .args in
-    let v = valuesOf (a .version) (now (a .random)) (now (a .session)) (now (a .client)) (now (a .trusted)) (now (a .suites)) (now (a .methods)) (a .numbering) (a .refresh) in
+    let v = givenOf (a .version) (now (a .random)) (now (a .session)) (now (a .client)) (now (a .trusted)) (now (a .suites)) (now (a .methods)) (a .numbering) (a .refresh) in
     let e : c .before .before .size-of .result ≡ length (sentOf v) = c .before .before .size-of .ensures (a .version) (a .numbering) (a .refresh) in
     let t = sent-allowed v (λ z. c .before .if1 .left (e ∙ z)) in
     omega (arith, ap length (sent-hello v t))
@@ -42,7 +42,7 @@ sub-body c =
 cast-t18 : tie.Need-cast-t18
 cast-t18 c =
     let a = c .before .before .before .before .before .before .before .before .before .before .args in
-    let v = valuesOf (a .version) (now (a .random)) (now (a .session)) (now (a .client)) (now (a .trusted)) (now (a .suites)) (now (a .methods)) (a .numbering) (a .refresh) in
+    let v = givenOf (a .version) (now (a .random)) (now (a .session)) (now (a .client)) (now (a .trusted)) (now (a .suites)) (now (a .methods)) (a .numbering) (a .refresh) in
     let e : c .before .before .size-of .result ≡ length (sentOf v) = c .before .before .size-of .ensures (a .version) (a .numbering) (a .refresh) in
     let t = sent-allowed v (λ z. c .before .if1 .left (e ∙ z)) in
     omega (arith, ap length (sent-hello v t), allowed-parts v t .size)
@@ -86,12 +86,12 @@ same-length c = search needs
 returns-3 : tie.Need-returns-3
 returns-3 c =
     let a = c .before .before .before .before .before .before .before .before .before .before .before .before .before .before .before .before .before .before .before .before .before .before .before .before .before .before .before .before .before .before .before .before .before .before .before .before .before .before .before .before .before .before .before .before .args in
-    let v = valuesOf (a .version) (now (a .random)) (now (a .session)) (now (a .client)) (now (a .trusted)) (now (a .suites)) (now (a .methods)) (a .numbering) (a .refresh) in
+    let v = givenOf (a .version) (now (a .random)) (now (a .session)) (now (a .client)) (now (a .trusted)) (now (a .suites)) (now (a .methods)) (a .numbering) (a .refresh) in
     let e : c .before .before .before .before .before .before .before .before .before .before .before .before .before .before .before .before .before .before .before .before .before .before .before .before .before .before .before .before .before .before .before .before .before .before .before .before .size-of .result ≡ length (sentOf v) = c .before .before .before .before .before .before .before .before .before .before .before .before .before .before .before .before .before .before .before .before .before .before .before .before .before .before .before .before .before .before .before .before .before .before .before .before .size-of .ensures (a .version) (a .numbering) (a .refresh) in
     let t = sent-allowed v (λ z. c .before .before .before .before .before .before .before .before .before .before .before .before .before .before .before .before .before .before .before .before .before .before .before .before .before .before .before .before .before .before .before .before .before .before .before .if1 .left (e ∙ z)) in
     let w = allowed-parts v t in
     let g = sent-hello v t in
-    let p : Puts (helloOf v) (now (a .out)) 0 _ _ =
+    let p : Puts (helloFrom v) (now (a .out)) 0 _ _ =
     put-hello v (c .before .before .before .before .before .before .before .before .before .before .before .before .before .before .before .before .before .before .before .before .before .before .before .before .before .before .before .before .before .before .before .before .before .before .before .before .size-of .result) (e ∙ ap length g) (omega (arith, ap length g, w .size)) _ _ _ _ _ _ _ _ _ _ _ _ _ _ _ _ _
     (c .before .before .before .before .before .before .before .before .before .before .before .before .before .before .before .before .before .before .before .before .before .before .before .before .before .before .before .before .before .before .before .put .ensures)
     (c .before .before .before .before .before .before .before .before .before .before .before .before .before .before .before .before .before .before .before .before .before .before .before .before .before .before .before .put2 .ensures)
@@ -102,7 +102,7 @@ returns-3 c =
     (c .before .before .before .before .before .before .before .put-short3 .ensures (w .methods-ceiling))
     (c .before .before .put3 .ensures) in
     wrote-all (now (a .out)) (sentOf v) _ _ (omega (arith, e, c .before .before .before .before .before .before .before .before .before .before .before .before .before .before .before .before .before .before .before .before .before .before .before .before .before .before .before .before .before .before .before .before .before .before .if2 .left))
-    (puts-as (helloOf v) (sentOf v) _ _ _ _ (sym g) p)
+    (puts-as (helloFrom v) (sentOf v) _ _ _ _ (sym g) p)
 
 pub write-spec : {M : Type 1} → statement M
 write-spec =

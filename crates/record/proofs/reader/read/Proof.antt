@@ -8,7 +8,7 @@ use Rattle.record.proofs.reader.read.Tie as tie
 
 returns : tie.Need-returns
 unfolding readOf
-returns c = search picks
+returns c = search picks depth 2
 
 shared-slice-read-byte : tie.Need-shared-slice-read-byte
 shared-slice-read-byte c = search needs
@@ -21,7 +21,7 @@ read-as-requires c κs = search needs
 
 returns-2 : tie.Need-returns-2
 unfolding readOf
-returns-2 c = rw (sym (c .before .split .ensures)) (search picks)
+returns-2 c = rw (sym (c .before .split .ensures)) (search picks depth 2)
 
 pub read-spec : {M : Type 1} → statement M
 read-spec =

@@ -1,54 +1,39 @@
--- `Key::new`: each pad is one block absorbed from the start.
-use mathlib.Core.Path.{_∙_}
-use Rattle.digest.specs.Sha1.{absorb}
-use Rattle.digest.proofs.Codes.{key-by}
+-- `Key::new`: a longer key is hashed first.
+use mathlib.Core.Path.{_∙_, ap}
+use lib.ListN.{length}
+use native.Mathlib.Omega.{arith}
+use Rattle.digest.proofs.Codes.{long-key, short-key, length-sha1}
 use borrow.Author.Needs.{needs}
 use Rattle.digest.proofs.key.Key.new.Statement.{statement}
 use Rattle.digest.proofs.key.Key.new.Tie as tie
 
-key-block-requires : tie.Need-key-block-requires
-key-block-requires c κs = search needs
+sha1-requires : tie.Need-sha1-requires
+sha1-requires c κs = search needs
 
-masked-requires : tie.Need-masked-requires
-masked-requires c κs = search needs
+slice-aggregate-keyed : tie.Need-slice-aggregate-keyed
+slice-aggregate-keyed c = search needs
 
-masked-requires-2 : tie.Need-masked-requires-2
-masked-requires-2 c κs = search needs
-
-initial-requires : tie.Need-initial-requires
-initial-requires c κs = search needs
-
-slice-aggregate-absorbed : tie.Need-slice-aggregate-absorbed
-slice-aggregate-absorbed c = search needs
-
-absorbed-requires : tie.Need-absorbed-requires
-absorbed-requires c κs = search needs
-
-initial-requires-2 : tie.Need-initial-requires-2
-initial-requires-2 c κs = search needs
-
-slice-aggregate-absorbed-2 : tie.Need-slice-aggregate-absorbed-2
-slice-aggregate-absorbed-2 c = search needs
-
-absorbed-requires-2 : tie.Need-absorbed-requires-2
-absorbed-requires-2 c κs = search needs
+keyed-requires : tie.Need-keyed-requires
+keyed-requires c κs = search needs
 
 returns : tie.Need-returns
-returns c = key-by _ (c .before .before .before .before .before .before .before .before .key-block .result) _ _ (c .before .before .before .before .before .before .before .before .key-block .ensures .0)
-    (c .before .before .before .absorbed .ensures ∙ (λ i. absorb (c .before .before .before .before .before .before .before .masked .ensures i) 1 (c .before .before .before .before .before .initial .ensures i)))
-    (c .absorbed2 .ensures ∙ (λ i. absorb (c .before .before .before .before .before .before .masked2 .ensures i) 1 (c .before .before .initial2 .ensures i)))
+returns c = let k = c .before .before .before .before .before .args .k .now in
+    c .keyed .ensures k (c .before .before .sha1 .ensures ∙ long-key k (c .before .before .before .if1 .taken))
+
+keyed-requires-2 : tie.Need-keyed-requires-2
+keyed-requires-2 c κs = search needs
+
+returns-2 : tie.Need-returns-2
+returns-2 c = let k = c .before .before .before .args .k .now in
+    c .keyed2 .ensures k (short-key k (c .before .if1 .left))
 
 pub new-spec : {M : Type 1} → statement M
 new-spec =
     tie.close
     (tie.spec
-    key-block-requires
-    masked-requires
-    masked-requires-2
-    initial-requires
-    slice-aggregate-absorbed
-    absorbed-requires
-    initial-requires-2
-    slice-aggregate-absorbed-2
-    absorbed-requires-2
-    returns)
+    sha1-requires
+    slice-aggregate-keyed
+    keyed-requires
+    returns
+    keyed-requires-2
+    returns-2)

@@ -19,7 +19,7 @@ arrived-requires c κs = search needs
 
 returns : tie.Need-returns
 unfolding acceptBy
-returns c = rw (sym (c .before .before .cut .ensures)) (search picks)
+returns c = rw (sym (c .before .before .cut .ensures)) (search picks depth 2)
 
 cast-n : tie.Need-cast-n
 cast-n c = search needs
@@ -35,14 +35,14 @@ arrived-requires-2 c κs = search needs
 
 returns-2 : tie.Need-returns-2
 unfolding acceptBy
-returns-2 c = rw (sym (c .before .before .before .before .cut .ensures), sym (c .before .moved .ensures)) (search picks)
+returns-2 c = rw (sym (c .before .before .before .before .cut .ensures), sym (c .before .moved .ensures)) (search picks depth 2)
 
 add-if3 : tie.Need-add-if3
 add-if3 c = search needs
 
 returns-3 : tie.Need-returns-3
 unfolding acceptBy
-returns-3 c = rw (sym (c .before .before .before .cut .ensures)) (search picks)
+returns-3 c = rw (sym (c .before .before .before .cut .ensures)) (search picks depth 2)
 
 shr-if4 : tie.Need-shr-if4
 shr-if4 c = search needs
@@ -51,7 +51,7 @@ returns-4 : tie.Need-returns-4
 unfolding acceptBy
 returns-4 c =
     let m : ℕ = c .before .before .before .before .cut .result in
-    rw (sym (c .before .before .before .before .cut .ensures), sym (and-mask (m / 2 ^ (c .before .before .before .before .before .args .self .highest - c .before .before .before .before .before .args .number)) 1)) (search picks)
+    rw (sym (c .before .before .before .before .cut .ensures), sym (and-mask (m / 2 ^ (c .before .before .before .before .before .args .self .highest - c .before .before .before .before .before .args .number)) 1)) (search picks depth 2)
 
 marked-requires : tie.Need-marked-requires
 unfolding acceptBy
@@ -66,7 +66,7 @@ returns-5 : tie.Need-returns-5
 unfolding acceptBy
 returns-5 c =
     let x : ℕ = c .before .before .before .before .before .before .cut .result / 2 ^ (c .before .before .before .before .before .before .before .args .self .highest - c .before .before .before .before .before .before .before .args .number) in
-    rw (sym (c .before .before .before .before .before .before .cut .ensures), sym (c .before .marked .ensures), sym (and-mask x 1)) (search picks)
+    rw (sym (c .before .before .before .before .before .before .cut .ensures), sym (c .before .marked .ensures), sym (and-mask x 1)) (search picks depth 2)
 
 pub accept-within-spec : {M : Type 1} → statement M
 accept-within-spec =

@@ -1,0 +1,51 @@
+-- Two outcomes that meet the contract of one exported call are the same: a theorem for each call, over the very predicate of its
+-- `ensures` (`Determined`, in `digest`, says what is stated). `exact` is an equation for the result; each other clause but `loads`,
+-- which is not needed, is one for a lent buffer, in its place among the parameters.
+use mathlib.Core.Path.{_≡_, refl, sym, _∙_}
+use Rattle.digest.specs.Determined.{OneOutcome}
+use Rattle.lent.proofs.fresh as fresh
+use Rattle.lent.proofs.receive as receive
+use Rattle.lent.proofs.send_data as send-data
+use Rattle.lent.proofs.send_alert as send-alert
+use Rattle.lent.proofs.close as close
+use Rattle.lent.proofs.start as start
+use Rattle.lent.proofs.state as state
+
+pub fresh-one : OneOutcome fresh.ended fresh.Reads.Learnt
+fresh-one κs a x y s u e f = (
+  e .0 ∙ sym (f .0),
+  λ i. (tt, (tt, ((e .1 .0 ∙ sym (f .1 .0)) i, tt))),
+)
+
+pub receive-one : OneOutcome receive.ended receive.Reads.Learnt
+receive-one κs a x y s u e f = (
+  e .0 ∙ sym (f .0),
+  λ i. ((e .1 .0 ∙ sym (f .1 .0)) i, ((e .1 .1 .0 ∙ sym (f .1 .1 .0)) i, (tt, (tt, ((e .1 .1 .1 .0 ∙ sym (f .1 .1 .1 .0)) i, ((e .1 .1 .1 .1 .0 ∙ sym (f .1 .1 .1 .1 .0)) i, tt)))))),
+)
+
+pub send-data-one : OneOutcome send-data.ended send-data.Reads.Learnt
+send-data-one κs a x y s u e f = (
+  e .0 ∙ sym (f .0),
+  λ i. ((e .1 .0 ∙ sym (f .1 .0)) i, (tt, ((e .1 .1 .0 ∙ sym (f .1 .1 .0)) i, tt))),
+)
+
+pub send-alert-one : OneOutcome send-alert.ended send-alert.Reads.Learnt
+send-alert-one κs a x y s u e f = (
+  e .0 ∙ sym (f .0),
+  λ i. ((e .1 .0 ∙ sym (f .1 .0)) i, (tt, (tt, (tt, (tt, ((e .1 .1 .0 ∙ sym (f .1 .1 .0)) i, tt)))))),
+)
+
+pub close-one : OneOutcome close.ended close.Reads.Learnt
+close-one κs a x y s u e f = (
+  e .0 ∙ sym (f .0),
+  λ i. ((e .1 .0 ∙ sym (f .1 .0)) i, tt),
+)
+
+pub start-one : OneOutcome start.ended start.Reads.Learnt
+start-one κs a x y s u e f = (
+  e .0 ∙ sym (f .0),
+  λ i. ((e .1 .0 ∙ sym (f .1 .0)) i, tt),
+)
+
+pub state-one : OneOutcome state.ended state.Reads.Learnt
+state-one κs a x y s u e f = (e ∙ sym f, refl)

@@ -1,0 +1,44 @@
+-- `save::put_session`: two fields.
+use mathlib.Core.Path.{_≡_, refl}
+use native.Mathlib.Omega.{arith}
+use lib.ListN.{length}
+use Rattle.lent.proofs.Laying.{laid-none, laid-more}
+use borrow.Author.Needs.{needs}
+use Rattle.lent.proofs.save.put_session.Statement.{statement}
+use Rattle.lent.proofs.save.put_session.Tie as tie
+
+slice-aggregate-put : tie.Need-slice-aggregate-put
+slice-aggregate-put c = search needs
+
+put-requires : tie.Need-put-requires
+put-requires c κs = search needs
+
+slice-aggregate-put-2 : tie.Need-slice-aggregate-put-2
+slice-aggregate-put-2 c = search needs
+
+put-requires-2 : tie.Need-put-requires-2
+put-requires-2 c κs = search needs
+
+same-length : tie.Need-same-length
+same-length c = search needs
+
+returns : tie.Need-returns
+returns c =
+    let d = c .before .before .before .before .before .before .before .before .before .before .before .before .before .args .d .now in
+    let session = c .before .before .before .before .before .before .before .before .before .before .before .before .before .args .session in
+    let l-id : length (session .id) ≡ 8 = search (needs, c .before .before .before .before .before .before .before .before .before .before .before .before .before .good .1 .0) in
+    let l-secret : length (session .secret) ≡ 20 = search (needs, c .before .before .before .before .before .before .before .before .before .before .before .before .before .good .1 .0) in
+    let one = laid-more 5 8 (session .id) (session .id) (c .before .before .before .before .before .before .before .before .put .last .0) (laid-none d 5 (omega (arith, c .before .before .before .before .before .before .before .before .before .before .before .before .before .pre))) refl refl l-id (omega (arith, c .before .before .before .before .before .before .before .before .before .before .before .before .before .pre)) (c .before .before .before .before .before .before .before .before .put .ensures) in
+    let two = laid-more 13 20 (session .secret) (session .secret) (c .before .before .put2 .last .0) one refl refl l-secret (omega (arith, c .before .before .before .before .before .before .before .before .before .before .before .before .before .pre)) (c .before .before .put2 .ensures) in
+    (two .bytes, (two .count, (l-id, l-secret)))
+
+pub put-session-spec : {M : Type 1} → statement M
+put-session-spec =
+    tie.close
+    (tie.spec
+    slice-aggregate-put
+    put-requires
+    slice-aggregate-put-2
+    put-requires-2
+    same-length
+    returns)

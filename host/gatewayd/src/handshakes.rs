@@ -1,0 +1,183 @@
+//! Room for handshakes under way. A hello has no code, so anybody can start one for any ship whose
+//! identifier he knows: the room is bounded, and divided so that a stranger cannot take it all.
+
+use crate::ship::{Handshake, Ship};
+use crate::way;
+use std::collections::{HashMap, VecDeque};
+use std::net::{IpAddr, SocketAddr};
+use std::time::{Duration, Instant};
+
+/// Handshakes of one ship, and of all.
+pub const OF_A_SHIP: usize = 8;
+pub const OF_ALL: usize = 4096;
+/// So long one is kept, whoever else says hello: some round trips of a slow link.
+pub const HOLD: Duration = Duration::from_secs(8);
+
+/// Where the handshakes of all ships are to be found. They themselves are with their ships.
+#[derive(Default)]
+pub struct Handshakes {
+    next: u64,
+    /// Ship and serial, the oldest first; those that have ended are still in it for a while.
+    order: VecDeque<(usize, u64)>,
+    count: usize,
+    by_sender: HashMap<SocketAddr, Vec<usize>>,
+}
+
+/// Room for a newcomer.
+pub enum Room {
+    Free,
+    /// In the place of this one: a ship, and its place there.
+    Instead(usize, usize),
+}
+
+impl Handshakes {
+    /// The ships for which this sender has a handshake under way.
+    pub fn at(&self, sender: SocketAddr) -> &[usize] {
+        self.by_sender.get(&sender).map_or(&[], |ships| ships)
+    }
+
+    /// All handshakes, the newest first: ship and serial.
+    pub fn all(&self) -> impl Iterator<Item = (usize, u64)> + '_ {
+        self.order.iter().rev().copied()
+    }
+
+    /// Whether there is room for a handshake of a ship, and which one gives way to it.
+    pub fn room(
+        &mut self,
+        ships: &[Ship],
+        ship: usize,
+        sender: SocketAddr,
+        now: Instant,
+    ) -> Option<Room> {
+        if ships[ship].started.len() >= OF_A_SHIP {
+            return Some(Room::Instead(ship, gives_way(&ships[ship], sender, now)?));
+        }
+        if self.count < OF_ALL {
+            return Some(Room::Free);
+        }
+        let (other, place) = self.oldest(ships)?;
+        let had_its_time = is_held_no_more(&ships[other].started[place], now);
+        let may = had_its_time || is_home(&ships[ship], way::host(sender));
+        may.then_some(Room::Instead(other, place))
+    }
+
+    /// Starts one, in its room.
+    pub fn start(&mut self, ships: &mut [Ship], ship: usize, room: Room, newcomer: Handshake) {
+        if let Room::Instead(other, place) = room {
+            self.end(ships, other, place);
+        }
+        self.add(ships, ship, newcomer);
+    }
+
+    /// Adds one; there is room.
+    pub fn add(&mut self, ships: &mut [Ship], ship: usize, newcomer: Handshake) {
+        let serial = self.next;
+        self.next += 1;
+        self.count += 1;
+        self.order.push_back((ship, serial));
+        for sender in &newcomer.senders {
+            self.note_sender(*sender, ship);
+        }
+        ships[ship].started.push(Handshake { serial, ..newcomer });
+    }
+
+    /// Somebody else said the hello of a handshake.
+    pub fn said_again(&mut self, ships: &mut [Ship], ship: usize, place: usize, by: SocketAddr) {
+        let pushed_out = ships[ship].started[place].add_sender(by);
+        self.note_sender(by, ship);
+        if let Some(sender) = pushed_out {
+            self.forget_sender(sender, &ships[ship], ship);
+        }
+    }
+
+    /// Ends one.
+    pub fn end(&mut self, ships: &mut [Ship], ship: usize, place: usize) -> Handshake {
+        let ended = ships[ship].started.remove(place);
+        self.count -= 1;
+        for sender in &ended.senders {
+            self.forget_sender(*sender, &ships[ship], ship);
+        }
+        if self.order.len() > 2 * self.count + OF_A_SHIP {
+            let is_there =
+                |(ship, serial): &(usize, u64)| place_of(&ships[*ship], *serial).is_some();
+            self.order.retain(is_there);
+        }
+        ended
+    }
+
+    /// Ends those of a ship that have had their time.
+    pub fn end_old_of(&mut self, ships: &mut [Ship], ship: usize, now: Instant) {
+        while ships[ship].started.first().is_some_and(|first| is_held_no_more(first, now)) {
+            self.end(ships, ship, 0);
+        }
+    }
+
+    pub fn end_all_of(&mut self, ships: &mut [Ship], ship: usize) {
+        while !ships[ship].started.is_empty() {
+            self.end(ships, ship, 0);
+        }
+    }
+
+    fn oldest(&mut self, ships: &[Ship]) -> Option<(usize, usize)> {
+        loop {
+            let (ship, serial) = *self.order.front()?;
+            match place_of(&ships[ship], serial) {
+                Some(place) => return Some((ship, place)),
+                None => self.order.pop_front(),
+            };
+        }
+    }
+
+    fn note_sender(&mut self, sender: SocketAddr, ship: usize) {
+        let ships = self.by_sender.entry(sender).or_default();
+        if !ships.contains(&ship) {
+            ships.push(ship);
+        }
+    }
+
+    fn forget_sender(&mut self, sender: SocketAddr, left: &Ship, ship: usize) {
+        if left.started.iter().any(|handshake| handshake.senders.contains(&sender)) {
+            return;
+        }
+        if let Some(ships) = self.by_sender.get_mut(&sender) {
+            ships.retain(|other| *other != ship);
+            if ships.is_empty() {
+                self.by_sender.remove(&sender);
+            }
+        }
+    }
+}
+
+/// Where in its ship a handshake stands.
+pub fn place_of(ship: &Ship, serial: u64) -> Option<usize> {
+    ship.started.iter().position(|handshake| handshake.serial == serial)
+}
+
+/// Whether the ship's last genuine new record came from this host.
+pub fn is_home(ship: &Ship, host: IpAddr) -> bool {
+    ship.route.is_some_and(|route| way::host(route) == host)
+}
+
+fn is_held_no_more(handshake: &Handshake, now: Instant) -> bool {
+    now.saturating_duration_since(handshake.at) >= HOLD
+}
+
+/// Which handshake of a ship gives way to a newcomer: the oldest, if it has had its time; for one
+/// from the ship's own host the oldest from elsewhere, until half of the room is its own; else the
+/// oldest from the host with most of them, if that has two more than the newcomer's.
+fn gives_way(ship: &Ship, sender: SocketAddr, now: Instant) -> Option<usize> {
+    let host = way::host(sender);
+    let hosts: Vec<IpAddr> = ship.started.iter().map(|one| way::host(one.senders[0])).collect();
+    let count = |of: IpAddr| hosts.iter().filter(|other| **other == of).count();
+    if is_held_no_more(&ship.started[0], now) {
+        return Some(0);
+    }
+    if is_home(ship, host) && count(host) < OF_A_SHIP / 2 {
+        return hosts.iter().position(|other| *other != host);
+    }
+    let most = hosts.iter().map(|other| count(*other)).max()?;
+    if count(host) + 1 < most {
+        return hosts.iter().position(|other| count(*other) == most);
+    }
+    None
+}

@@ -1,0 +1,157 @@
+//! Which open ships may be behind a sender. The route of a ship is the sender of its last genuine
+//! new record; here they are found by it, those with the nearest number first.
+
+use crate::way;
+use std::collections::{BTreeSet, HashMap};
+use std::net::{IpAddr, SocketAddr};
+
+#[derive(Default)]
+pub struct Routes {
+    ships: HashMap<usize, Route>,
+    at: HashMap<SocketAddr, Numbers>,
+    on: HashMap<IpAddr, Numbers>,
+    all: Numbers,
+}
+
+#[derive(Clone, Copy, PartialEq, Eq)]
+struct Route {
+    sender: SocketAddr,
+    newest: u16,
+}
+
+/// Ships by the highest number that each has sent. A record's number is in the clear, and is mostly
+/// one more than that of the record before, so of many ships the right one is among the first. It
+/// is no more than a hint: the code decides.
+#[derive(Default)]
+pub struct Numbers(BTreeSet<(u16, usize)>);
+
+impl Routes {
+    /// The route of a ship, and the highest number that it has sent; none if it is not open.
+    pub fn set(&mut self, ship: usize, route: Option<(SocketAddr, u16)>) {
+        let route = route.map(|(sender, newest)| Route { sender, newest });
+        let before = self.ships.get(&ship).copied();
+        match (before, route) {
+            (before, route) if before == route => {}
+            (Some(before), Some(route)) if before.sender == route.sender => {
+                self.renumber(ship, before, route);
+            }
+            _ => {
+                self.leave(ship, before);
+                self.enter(ship, route);
+            }
+        }
+    }
+
+    /// The common case: the next number at the same address.
+    fn renumber(&mut self, ship: usize, before: Route, route: Route) {
+        let (old, new) = ((before.newest, ship), (route.newest, ship));
+        let at = self.at.get_mut(&route.sender);
+        let on = self.on.get_mut(&way::host(route.sender));
+        for set in [at, on, Some(&mut self.all)].into_iter().flatten() {
+            set.0.remove(&old);
+            set.0.insert(new);
+        }
+        self.ships.insert(ship, route);
+    }
+
+    fn leave(&mut self, ship: usize, route: Option<Route>) {
+        let Some(Route { sender, newest }) = route else { return };
+        remove(&mut self.at, sender, (newest, ship));
+        remove(&mut self.on, way::host(sender), (newest, ship));
+        self.all.0.remove(&(newest, ship));
+        self.ships.remove(&ship);
+    }
+
+    fn enter(&mut self, ship: usize, route: Option<Route>) {
+        let Some(route) = route else { return };
+        let entry = (route.newest, ship);
+        self.at.entry(route.sender).or_default().0.insert(entry);
+        self.on.entry(way::host(route.sender)).or_default().0.insert(entry);
+        self.all.0.insert(entry);
+        self.ships.insert(ship, route);
+    }
+
+    /// The ships with this route.
+    pub fn at(&self, sender: SocketAddr) -> &Numbers {
+        self.at.get(&sender).unwrap_or(&NONE)
+    }
+
+    /// The ships with a route on the same host, whatever its port.
+    pub fn on(&self, host: IpAddr) -> &Numbers {
+        self.on.get(&host).unwrap_or(&NONE)
+    }
+
+    pub fn all(&self) -> &Numbers {
+        &self.all
+    }
+}
+
+static NONE: Numbers = Numbers(BTreeSet::new());
+
+fn remove<Key: std::hash::Hash + Eq>(
+    sets: &mut HashMap<Key, Numbers>,
+    key: Key,
+    entry: (u16, usize),
+) {
+    if let Some(set) = sets.get_mut(&key) {
+        set.0.remove(&entry);
+        if set.0.is_empty() {
+            sets.remove(&key);
+        }
+    }
+}
+
+impl Numbers {
+    /// The ship, if it is the only one.
+    pub fn only(&self) -> Option<usize> {
+        self.0.first().filter(|_| self.0.len() == 1).map(|(_, ship)| *ship)
+    }
+
+    /// The ships for a record with this number, the likeliest first.
+    pub fn nearest(&self, number: u16) -> impl Iterator<Item = usize> + '_ {
+        let mut below = self.0.range(..=(number, usize::MAX)).rev().peekable();
+        let mut above = self.0.range((number, usize::MAX)..).peekable();
+        std::iter::from_fn(move || {
+            let next = match (below.peek(), above.peek()) {
+                (Some((low, _)), Some((high, _))) if high - number < number - low => above.next(),
+                (Some(_), _) => below.next(),
+                (None, _) => above.next(),
+            };
+            next.map(|(_, ship)| *ship)
+        })
+    }
+}
+
+#[cfg(test)]
+mod tests {
+    use super::*;
+
+    #[test]
+    fn the_nearest_first_and_each_once() {
+        let mut routes = Routes::default();
+        let sender = SocketAddr::from(([192, 0, 2, 1], 4000));
+        for (ship, newest) in [(0, 10), (1, 100), (2, 65535), (3, 99), (4, 0), (5, 102)] {
+            routes.set(ship, Some((sender, newest)));
+        }
+        let order = |number| routes.at(sender).nearest(number).collect::<Vec<_>>();
+        assert_eq!(order(101), [1, 5, 3, 0, 4, 2]);
+        assert_eq!(order(0), [4, 0, 3, 1, 5, 2]);
+        assert_eq!(order(65535), [2, 5, 1, 3, 0, 4]);
+    }
+
+    #[test]
+    fn a_ship_has_one_route() {
+        let mut routes = Routes::default();
+        let sender = |port| SocketAddr::from(([192, 0, 2, 1], port));
+        routes.set(7, Some((sender(1), 3)));
+        assert_eq!(routes.at(sender(1)).only(), Some(7));
+        routes.set(7, Some((sender(2), 4)));
+        routes.set(8, Some((sender(2), 4)));
+        assert_eq!(routes.at(sender(1)).only(), None);
+        assert_eq!(routes.at(sender(2)).only(), None);
+        assert_eq!(routes.on(way::host(sender(9))).nearest(5).collect::<Vec<_>>(), [8, 7]);
+        routes.set(8, None);
+        routes.set(7, None);
+        assert!(routes.at.is_empty() && routes.on.is_empty() && routes.all.0.is_empty());
+    }
+}
