@@ -19,6 +19,10 @@ use Rattle.digest.specs.declared.mac.Mac.{Mac}
 use Rattle.digest.specs.declared.mac.Mac.the-variants.{Sha80, Sha}
 use Rattle.digest.specs.declared.mac.Listed.the-variants.{Other}
 
+-- The entry of a number that is known.
+pub row-at : (k n : ℕ) (r : Entry) → n ≡ k → r ≡ entryOf k → r ≡ entryOf n
+row-at k n r h e = e ∙ ap entryOf (sym h)
+
 -- The entry as the older edition lists it, and as that of April 2001 does.
 pub in-older : (r : Named) (e : Entry) (edition n : ℕ) → e ≡ entryOf n → r ≡ pick (e .older) (named e) (nameless Unlisted) → edition ≡ 1
     → r ≡ namedIn edition n

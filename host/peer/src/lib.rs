@@ -21,6 +21,7 @@ pub mod hmac;
 pub mod keys;
 pub mod lines;
 pub mod lists;
+pub mod macs;
 pub mod report;
 pub mod rng;
 pub mod script;
