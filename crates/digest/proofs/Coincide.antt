@@ -18,6 +18,7 @@ use Rattle.digest.proofs.key.Key.end as key-key-end
 use Rattle.digest.proofs.key.Key.code as key-key-code
 use Rattle.digest.proofs.key.Key.expand as key-key-expand
 use Rattle.digest.proofs.key.prf as key-prf
+use Rattle.digest.proofs.edition.mac_named as edition-mac-named
 use Rattle.digest.proofs.mac.Mac.number as mac-mac-number
 use Rattle.digest.proofs.mac.Mac.size as mac-mac-size
 use Rattle.digest.proofs.mac.Mac.secret_size as mac-mac-secret-size
@@ -59,6 +60,9 @@ key-key-expand-one κs a x y s u e f = (refl, ap (λ w. (tt, (tt, (tt, (tt, (tt,
 
 pub key-prf-one : OneOutcome key-prf.ended key-prf.Reads.Learnt
 key-prf-one κs a x y s u e f = (refl, ap (λ w. (tt, (tt, (tt, (tt, (tt, (w, tt))))))) (e ∙ sym f))
+
+pub edition-mac-named-one : OneOutcome edition-mac-named.ended edition-mac-named.Reads.Learnt
+edition-mac-named-one κs a x y s u e f = (e ∙ sym f, refl)
 
 pub mac-mac-number-one : OneOutcome mac-mac-number.ended mac-mac-number.Reads.Learnt
 mac-mac-number-one κs a x y s u e f = (e ∙ sym f, refl)

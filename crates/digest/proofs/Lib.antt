@@ -7,4 +7,5 @@ pub mod Hashing
 pub mod Codes
 pub mod Terms
 pub mod Same
+pub mod Editions
 pub mod Coincide

@@ -7,4 +7,5 @@ pub mod Hasher
 pub mod Hmac
 pub mod Expansion
 pub mod Mac
+pub mod Edition
 pub mod Determined

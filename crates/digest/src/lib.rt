@@ -2,12 +2,17 @@
 // function (002 section 11.3), the MAC kinds (002 appendix A), and the comparison of codes.
 mod block;
 mod bytes;
+mod edition;
 mod key;
 mod mac;
 mod pieces;
 
 pub use block::State;
 pub use bytes::put;
+pub use edition::Listing;
+pub use edition::Named;
+pub use edition::Sizes;
+pub use edition::mac_named;
 pub use key::Key;
 pub use key::prf;
 pub use mac::Listed;

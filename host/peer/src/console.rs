@@ -3,6 +3,7 @@
 use std::io::{self, BufRead, Write};
 
 use crate::hex;
+use crate::macs::{self, Kind, UnknownEdition};
 use crate::shore::{Answer, Judged, Received, Refusal, Shore, State, Tally};
 
 const LONGEST_LINE: usize = 8192;
@@ -22,6 +23,7 @@ enum Call {
     Alert { protected: bool, level: u8, description: u8, record: Vec<u8>, room: usize },
     Close,
     Start,
+    Mac { edition: u8, number: u8 },
 }
 
 /// Runs every line of the input.
@@ -47,6 +49,8 @@ impl Console {
         let mut lines = Vec::new();
         if let Call::Fresh { identifier, secret } = call {
             lines.push(self.fresh(&identifier, &secret));
+        } else if let Call::Mac { edition, number } = call {
+            lines.push(mac(edition, number));
         } else {
             let Some(shore) = &mut self.shore else { return bad_line() };
             run_call(shore, &mut self.tally, call, &mut lines);
@@ -107,9 +111,19 @@ fn refused(call: &str, refusal: Refusal) -> String {
     format!("{call} refused {}", refusal as u8)
 }
 
+/// What an edition of the list says of a MAC kind's number.
+fn mac(edition: u8, number: u8) -> String {
+    match macs::kind(edition, number) {
+        Err(UnknownEdition) => refused("mac", Refusal::Argument),
+        Ok(None) => "mac unlisted".to_string(),
+        Ok(Some(Kind { name, sizes: None })) => format!("mac {name} - -"),
+        Ok(Some(Kind { name, sizes: Some((key, code)) })) => format!("mac {name} {key} {code}"),
+    }
+}
+
 fn run_call(shore: &mut Shore, tally: &mut Tally, call: Call, lines: &mut Vec<String>) {
     match call {
-        Call::Fresh { .. } => unreachable!("fresh needs no connection"),
+        Call::Fresh { .. } | Call::Mac { .. } => unreachable!("these need no connection"),
         Call::Receive { datagram, random, room } => {
             write_received(shore.receive(&datagram, &random, room, tally), lines)
         }
@@ -199,6 +213,10 @@ fn read(line: &[u8]) -> Option<Call> {
             record: bytes(record)?,
             room: number(room, MOST_ROOM)?,
         }),
+        [b"mac", edition, mac] => Some(Call::Mac {
+            edition: number(edition, 255)? as u8,
+            number: number(mac, 255)? as u8,
+        }),
         [b"close"] => Some(Call::Close),
         [b"start"] => Some(Call::Start),
         _ => None,
@@ -252,6 +270,28 @@ mod tests {
         assert_eq!(bytes(b"0aff"), Some(vec![10, 255]));
         for bad in ["", "0", "0A", "--", "-00", "0g"] {
             assert_eq!(bytes(bad.as_bytes()), None, "{bad}");
+        }
+    }
+
+    #[test]
+    fn mac_kinds() {
+        let mut console = Console::default();
+        for (line, answer) in [
+            ("mac 1 4", "mac SHA_XOR_40 - -"),
+            ("mac 2 4", "mac unlisted"),
+            ("mac 2 2", "mac SHA_80 20 10"),
+            ("mac 1 0", "mac SHA_0 0 0"),
+            ("mac 1 8", "mac unlisted"),
+            ("mac 2 255", "mac unlisted"),
+            ("mac 0 2", "mac refused 16"),
+            ("mac 3 2", "mac refused 16"),
+        ] {
+            let lines = console.line(line.as_bytes());
+            assert_eq!(lines[0], answer, "{line}");
+            assert!(lines[1].starts_with("state None "), "{line}");
+        }
+        for bad in ["mac 1", "mac 1 256", "mac 256 1", "mac 1 2 3", "mac 01 2"] {
+            assert_eq!(console.line(bad.as_bytes()), ["bad line"], "{bad}");
         }
     }
 

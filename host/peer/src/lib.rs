@@ -24,6 +24,7 @@ pub mod hmac;
 pub mod keys;
 pub mod lines;
 pub mod lists;
+pub mod macs;
 pub mod parts;
 pub mod report;
 pub mod rng;
