@@ -5,6 +5,7 @@ ghost use lib.ListN.{length};
 ghost use Rattle.lent.specs.Saved.{isSaved, stateSize, stateNumbered, macNumbered, connectionIn};
 ghost use Rattle.lent.specs.Saved.{keysIn, keptIn, windowIn, protectionIn};
 ghost use Rattle.lent.specs.Calls.{lentFor};
+ghost use Rattle.lent.specs.Fields.{bytesIn};
 use crate::bytes::eight_in;
 use crate::bytes::four_in;
 use crate::bytes::two_in;

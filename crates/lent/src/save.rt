@@ -37,12 +37,12 @@ pub(crate) fn put_connection(d: &mut [u8], c: Connection)
     let protection = h.protection;
     let keys = protection.keys;
     let window = protection.window;
-    let session = Session {
-        id: h.id,
-        secret: keys.secret,
-    };
+    let id = h.id;
+    let secret = keys.secret;
+    let session = Session { id, secret };
     put_session(d, session);
-    put_agreed(d, keys, h.expected);
+    let expected = h.expected;
+    put_agreed(d, keys, expected);
     put_kept(d, h.kept);
     put_window(d, window);
     put_sending(d, protection, h.last);

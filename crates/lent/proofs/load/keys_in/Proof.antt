@@ -58,8 +58,8 @@ shared-slice-read-mac-numbered c = search needs
 mac-numbered-requires : tie.Need-mac-numbered-requires
 mac-numbered-requires c κs = search needs
 
-shared-slice-read-t28 : tie.Need-shared-slice-read-t28
-shared-slice-read-t28 c = search needs
+shared-slice-read-t29 : tie.Need-shared-slice-read-t29
+shared-slice-read-t29 c = search needs
 
 returns : tie.Need-returns
 unfolding keysIn
@@ -94,5 +94,5 @@ keys-in-spec =
     put-requires-3
     shared-slice-read-mac-numbered
     mac-numbered-requires
-    shared-slice-read-t28
+    shared-slice-read-t29
     returns)
