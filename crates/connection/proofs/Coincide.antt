@@ -34,8 +34,8 @@ use Rattle.connection.proofs.tally.Tally.fresh as tally-tally-fresh
 use Rattle.connection.proofs.tally.Tally.with_answer as tally-tally-with-answer
 use Rattle.connection.proofs.tally.Tally.with_answers as tally-tally-with-answers
 use Rattle.connection.proofs.handshake.Handshake.with_state as handshake-handshake-with-state
-use Rattle.connection.proofs.handshake.Handshake.with_window as handshake-handshake-with-window
-use Rattle.connection.proofs.handshake.Handshake.with_sending as handshake-handshake-with-sending
+use Rattle.connection.proofs.handshake.Handshake.with_protection as handshake-handshake-with-protection
+use Rattle.connection.proofs.handshake.Handshake.with_sent as handshake-handshake-with-sent
 use Rattle.connection.proofs.handshake.Handshake.reopened as handshake-handshake-reopened
 use Rattle.connection.proofs.handshake.Handshake.barred as handshake-handshake-barred
 use Rattle.connection.proofs.handshake.blank as handshake-blank
@@ -108,11 +108,11 @@ tally-tally-with-answers-one κs a x y s u e f = (e ∙ sym f, refl)
 pub handshake-handshake-with-state-one : OneOutcome handshake-handshake-with-state.ended handshake-handshake-with-state.Reads.Learnt
 handshake-handshake-with-state-one κs a x y s u e f = (e ∙ sym f, refl)
 
-pub handshake-handshake-with-window-one : OneOutcome handshake-handshake-with-window.ended handshake-handshake-with-window.Reads.Learnt
-handshake-handshake-with-window-one κs a x y s u e f = (e ∙ sym f, refl)
+pub handshake-handshake-with-protection-one : OneOutcome handshake-handshake-with-protection.ended handshake-handshake-with-protection.Reads.Learnt
+handshake-handshake-with-protection-one κs a x y s u e f = (e ∙ sym f, refl)
 
-pub handshake-handshake-with-sending-one : OneOutcome handshake-handshake-with-sending.ended handshake-handshake-with-sending.Reads.Learnt
-handshake-handshake-with-sending-one κs a x y s u e f = (e ∙ sym f, refl)
+pub handshake-handshake-with-sent-one : OneOutcome handshake-handshake-with-sent.ended handshake-handshake-with-sent.Reads.Learnt
+handshake-handshake-with-sent-one κs a x y s u e f = (e ∙ sym f, refl)
 
 pub handshake-handshake-reopened-one : OneOutcome handshake-handshake-reopened.ended handshake-handshake-reopened.Reads.Learnt
 handshake-handshake-reopened-one κs a x y s u e f = (e ∙ sym f, refl)

@@ -26,6 +26,7 @@ use Rattle.message.specs.Server.{serverHelloOf}
 use Rattle.message.specs.Finished.{serverVerify, clientVerify, serverLabel, finishedOf}
 use Rattle.message.specs.declared.acceptance.Plan.{Plan}
 use Rattle.message.proofs.Replies.{length-server}
+use Rattle.connection.specs.Handshake.{planted}
 use Rattle.connection.specs.Reply.{clientRandom, ourHello, ourFinished, expectedOf, helloRecord, changeRecord, finishedRecord, flightOf, flightWith, joinedOf, replyTo, lastOf, padTo, answeredWith}
 use Rattle.connection.proofs.Sending.{protected-size}
 use Rattle.connection.proofs.Filling.{written-front, written-whole, counted-front, padded-last}
@@ -128,31 +129,41 @@ flown-by secret server client mac hello ours one first second third size key lh 
 -- the parts of a new reply, put together
 module _ (h : Handshake) (random m : List ℕ) (plan : Plan) where
   pub answered-by : (client hello verify ours expected kept : List ℕ) (sent : Flight) (size : ℕ)
-      → client ≡ clientRandom m → hello ≡ serverHelloOf random (h .session .id) plan
-      → verify ≡ serverVerify (h .session .secret) m hello → ours ≡ finishedOf verify
-      → expected ≡ clientVerify (h .session .secret) m hello ours
-      → sent ≡ flightWith (h .session .secret) random client (plan .mac) hello ours
-      → kept ≡ padTo 256 m → size ≡ length (replyTo (h .session) random m plan)
+      → client ≡ clientRandom m → hello ≡ serverHelloOf random (h .id) plan
+      → verify ≡ serverVerify (h .protection .keys .secret) m hello → ours ≡ finishedOf verify
+      → expected ≡ clientVerify (h .protection .keys .secret) m hello ours
+      → sent ≡ flightWith (h .protection .keys .secret) random client (plan .mac) hello ours
+      → kept ≡ padTo 256 m → size ≡ length (replyTo (planted h) random m plan)
       → _≡_ {A = Handshake} (record {
         state = Replied;
-        session = h .session;
-        agreed = record { server = random; client = client; mac = plan .mac; refresh = plan .refresh; expected = expected };
+        id = h .id;
+        expected = expected;
         kept = record { hello = kept; heard = length m; reply = sent .reply; size = size };
-        window = h .window;
-        sending = record { protected = 1; clear = 2; last = sent .last };
+        last = sent .last;
+        protection = record {
+          keys = record { secret = h .protection .keys .secret; server = random; client = client; mac = plan .mac; refresh = plan .refresh };
+          window = h .protection .window;
+          protected = 1;
+          clear = 2;
+        };
       }) (answeredWith h random m plan)
   unfolding answeredWith replyTo lastOf expectedOf ourFinished ourHello
   answered-by client hello verify ours expected kept sent size ec eh ev eo ee es ek ez =
-      let secret = h .session .secret in
-      let ours-is : ours ≡ ourFinished (h .session) random m plan = eo ∙ ap finishedOf (ev ∙ ap (serverVerify secret m) eh) in
-      let expected-is : expected ≡ expectedOf (h .session) random m plan = ee ∙ ap₂ (clientVerify secret m) eh ours-is in
-      let sent-is : sent ≡ flightWith secret random (clientRandom m) (plan .mac) (ourHello (h .session) random plan) (ourFinished (h .session) random m plan)
+      let secret = h .protection .keys .secret in
+      let ours-is : ours ≡ ourFinished (planted h) random m plan = eo ∙ ap finishedOf (ev ∙ ap (serverVerify secret m) eh) in
+      let expected-is : expected ≡ expectedOf (planted h) random m plan = ee ∙ ap₂ (clientVerify secret m) eh ours-is in
+      let sent-is : sent ≡ flightWith secret random (clientRandom m) (plan .mac) (ourHello (planted h) random plan) (ourFinished (planted h) random m plan)
       = es ∙ (λ i. flightWith secret random (ec i) (plan .mac) (eh i) (ours-is i)) in
       λ i. record {
         state = Replied;
-        session = h .session;
-        agreed = record { server = random; client = ec i; mac = plan .mac; refresh = plan .refresh; expected = expected-is i };
+        id = h .id;
+        expected = expected-is i;
         kept = record { hello = ek i; heard = length m; reply = sent-is i .reply; size = ez i };
-        window = h .window;
-        sending = record { protected = 1; clear = 2; last = sent-is i .last };
+        last = sent-is i .last;
+        protection = record {
+          keys = record { secret = h .protection .keys .secret; server = random; client = ec i; mac = plan .mac; refresh = plan .refresh };
+          window = h .protection .window;
+          protected = 1;
+          clear = 2;
+        };
       }

@@ -10,7 +10,7 @@ use lib.Dec.{leb, ltb, eqb}
 use borrow.Author.Tests.{le-leb, ltb-false}
 use Rattle.digest.specs.Bytes.{wordAt, laidOver}
 use Rattle.digest.specs.Hmac.{hmac}
-use Rattle.digest.specs.Mac.{sizeOf, serverExpansion}
+use Rattle.digest.specs.Mac.{sizeOf}
 use Rattle.digest.specs.declared.mac.Mac.{Mac}
 use Rattle.digest.proofs.Lay.{laid-front}
 use Rattle.record.specs.Checksum.{checksumOf}
@@ -24,7 +24,11 @@ use Rattle.digest.specs.Pick.{pick}
 use Rattle.message.specs.declared.alert.Graded.the-variants as G
 use Rattle.message.specs.declared.alert.Sorted.{Sorted}
 use Rattle.message.specs.declared.alert.Sorted.the-variants as D
-use Rattle.connection.specs.Keys.{secretFor}
+use Rattle.record.specs.Protection.{nextRecord, countedOn, wroteSize, writing, wroteBy, outputBy}
+use Rattle.record.specs.declared.keys.Sense.the-variants.{FromShore}
+use Rattle.record.specs.declared.protection.Writing.{Writing}
+use Rattle.record.specs.declared.protection.Wrote.the-variants as W
+use Rattle.record.proofs.Protecting.{record-under-length, wrote-when, output-when}
 use Rattle.connection.specs.Send.{andThen, mayData, numberedBy, dataRefused, alertRefused, unsent, sentTo, outputTo, nextProtected, nextClear, alertSentAs, alertOutputAs}
 use Rattle.connection.specs.declared.state.State.{State}
 use Rattle.connection.specs.declared.refusal.Refusal.{Refusal}
@@ -63,6 +67,23 @@ wrote out bytes other after n e h en ea =
       bytes-are = after-is;
       front = ap (take n) after-is ∙ laid-front out 0 n bytes (omega arith) all;
     }
+
+-- the next protected record, written where there is a number to spend, and room
+pub protected-wrote : (h : Handshake) (content : Content) (body out after : List ℕ) (w : Writing) (n : ℕ)
+    → h .protection .protected ≤ 65535 → length (nextProtected h content body) ≤ length out
+    → w ≡ wroteBy (h .protection) FromShore content body (length out) → after ≡ outputBy (h .protection) FromShore content body out
+    → n ≡ wroteSize (w .wrote) → Wrote out (nextProtected h content body) after n × (w .protection ≡ countedOn (h .protection))
+unfolding nextProtected
+protected-wrote h content body out after w n few fits ew ea en =
+    let p = h .protection in
+    let next = nextRecord p FromShore content body in
+    let done-is : w ≡ writing (W.Done (length next)) (countedOn p) = ew ∙ wrote-when p FromShore content body out few fits in
+    let count-is : n ≡ length next = en ∙ ap (λ (x : Writing). wroteSize (x .wrote)) done-is in
+    let after-is : after ≡ laidOver out 0 next = ea ∙ output-when p FromShore content body out few fits in
+    let all : n ≡ 0 + length next = count-is ∙ sym (zero-add (length next)) in (
+      record { count = count-is; bytes-are = after-is; front = ap (take n) after-is ∙ laid-front out 0 n next (omega arith) all },
+      ap (λ (x : Writing). x .protection) done-is,
+    )
 
 -- A send that is refused, and one that is done.
 pub refused-send : (c : Connection) (success : Sent) (out bytes : List ℕ) (o : Outcome) (r : Refusal) → o ≡ Refused r
@@ -106,14 +127,14 @@ alert-done may lent number code room e =
 
 -- the sizes of our records
 pub next-size : (h : Handshake) (content : Content) (body : List ℕ)
-    → length (nextProtected h content body) ≡ 3 + length body + sizeOf (h .agreed .mac)
+    → length (nextProtected h content body) ≡ 3 + length body + sizeOf (h .protection .keys .mac)
 unfolding nextProtected
 next-size h content body =
-    protected-size (secretFor h serverExpansion (h .sending .protected)) (h .agreed .mac) content (h .sending .protected) body
+    record-under-length (h .protection .keys) FromShore content (h .protection .protected) body ∙ omega arith
 
 pub clear-size : (h : Handshake) (body : List ℕ) → length (nextClear h body) ≡ 3 + length body
 unfolding nextClear
-clear-size h body = record-length false false C.Alert (h .sending .clear) body
+clear-size h body = record-length false false C.Alert (h .protection .clear) body
 
 -- an unknown level or description is refused, whatever else is said
 pub no-level : (c : Connection) (sealed : Bool) (answered : List ℕ) (room : ℕ) (s : Sorted) → unsent c Argument ≡ alertSentAs c sealed answered room G.Unassigned s

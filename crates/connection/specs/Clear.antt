@@ -18,7 +18,7 @@ use Rattle.message.specs.declared.alert.Level.the-variants as L
 use Rattle.message.specs.declared.alert.Description.{Description}
 use Rattle.message.specs.declared.alert.Reading.{Reading}
 use Rattle.message.specs.declared.alert.Reading.the-variants as R
-use Rattle.connection.specs.Handshake.{withState, withWindow}
+use Rattle.connection.specs.Handshake.{planted, withState, withWindow}
 use Rattle.connection.specs.Answer.{judged, refusing}
 use Rattle.connection.specs.Reply.{replyTo, answeredWith}
 use Rattle.connection.specs.declared.state.State.the-variants as S
@@ -30,12 +30,12 @@ use Rattle.connection.specs.declared.handshake.Kept.{Kept}
 
 -- "Idle, clear ClientHello: reply; Replied". A hello that is malformed is 12, one that is not acceptable 13.
 abbrev pub heardTo : Handshake → List ℕ → List ℕ → Heard → Judged
-heardTo h random m (H.Accepted plan) = judged (Reply (length (replyTo (h .session) random m plan))) (answeredWith h random m plan)
+heardTo h random m (H.Accepted plan) = judged (Reply (length (replyTo (planted h) random m plan))) (answeredWith h random m plan)
 heardTo h random m (H.Unacceptable condition) = refusing Unacceptable h
 heardTo h random m (H.Malformed fault) = refusing Malformed h
 
 unfoldable pub greetedBy : Handshake → List ℕ → List ℕ → Judged
-greetedBy h random m = heardTo h random m (heardOf m (h .session .id))
+greetedBy h random m = heardTo h random m (heardOf m (h .id))
 
 -- "Replied, Spec: the same ClientHello message: the same reply bytes; no change"
 abbrev pub isKept : Kept → List ℕ → Bool
@@ -51,7 +51,7 @@ greetedAgain h random m = pick (isKept (h .kept) m) (judged (Resent (keptSize (h
 -- "Replied: clear change cipher spec (one byte 1): Spec, window empty"
 unfoldable pub changedBy : Handshake → List ℕ → Judged
 changedBy h fragment =
-    pick (isChange fragment) (judged Spec (withState (withWindow h (emptied (h .window))) S.Spec)) (refusing Malformed h)
+    pick (isChange fragment) (judged Spec (withState (withWindow h (emptied (h .protection .window))) S.Spec)) (refusing Malformed h)
 
 -- "Level alone decides": "warning changes nothing beyond the mark of a protected one's number, critical closes the connection". "A
 -- clear fatal alert closes only" (house rules)
@@ -64,7 +64,7 @@ byLevel h L.Fatal description = judged (Fatal description) (withState h S.Closed
 abbrev pub heardBy : Handshake → Reading → Judged
 heardBy h R.Malformed = refusing Malformed h
 heardBy h (R.WellFormed a) =
-    pick (eqb (a .checksum) (h .sending .last)) (byLevel h (a .level) (a .description)) (refusing Checksum h)
+    pick (eqb (a .checksum) (h .last)) (byLevel h (a .level) (a .description)) (refusing Checksum h)
 
 unfoldable pub heardAlert : Handshake → List ℕ → Judged
 heardAlert h fragment = heardBy h (alertOf fragment)

@@ -3,7 +3,6 @@ pub mod Refusal
 pub mod State
 pub mod Handshake
 pub mod Answer
-pub mod Keys
 pub mod Reply
 pub mod Clear
 pub mod Sealed

@@ -8,6 +8,7 @@ use Rattle.digest.specs.Hmac.{hmac}
 use Rattle.digest.specs.Mac.{sizeOf, serverExpansion}
 use Rattle.digest.specs.declared.mac.Mac.{Mac}
 use Rattle.record.specs.Keys.{macSecret}
+use Rattle.record.specs.declared.keys.Keys.{Keys}
 use Rattle.record.specs.Written.{recordOf}
 use Rattle.record.specs.Code.{protectedBy}
 use Rattle.record.specs.Checksum.{checksumOf}
@@ -16,6 +17,7 @@ use Rattle.message.specs.Server.{serverHelloOf}
 use Rattle.message.specs.Change.{changeBytes}
 use Rattle.message.specs.Finished.{serverVerify, clientVerify, finishedOf}
 use Rattle.message.specs.declared.acceptance.Plan.{Plan}
+use Rattle.connection.specs.Handshake.{planted}
 use Rattle.connection.specs.declared.state.State.the-variants.{Replied}
 use Rattle.connection.specs.declared.reply.Flight.{Flight}
 use Rattle.connection.specs.declared.handshake.Session.{Session}
@@ -79,27 +81,27 @@ abbrev pub joinedOf : List ℕ → List ℕ → List ℕ → ℕ → Flight
 joinedOf first second third size =
     record { reply = first ++ (second ++ third); last = wordAt (checksumOf (take size third)) 0 }
 
+-- what the keys are made of after a new reply
+abbrev pub agreedKeys : Session → List ℕ → List ℕ → Plan → Keys
+agreedKeys session random m plan =
+    record { secret = session .secret; server = random; client = clientRandom m; mac = plan .mac; refresh = plan .refresh }
+
 -- The handshake after a new reply: Replied, the randoms, MAC kind, refresh and expected Finished of these hellos, the
 -- hello and the reply kept. "After each new reply our data and protected alerts count on from 1, clear alerts from 2."
 -- The last record that we sent is the protected Finished. A new reply leaves the window alone.
 unfoldable pub answeredWith : Handshake → List ℕ → List ℕ → Plan → Handshake
 answeredWith h random m plan =
-    let reply = replyTo (h .session) random m plan in
+    let reply = replyTo (planted h) random m plan in
     record {
       state = Replied;
-      session = h .session;
-      agreed = record {
-        server = random;
-        client = clientRandom m;
-        mac = plan .mac;
-        refresh = plan .refresh;
-        expected = expectedOf (h .session) random m plan;
-      };
+      id = h .id;
+      expected = expectedOf (planted h) random m plan;
       kept = record { hello = padTo 256 m; heard = length m; reply = padTo 84 reply; size = length reply };
-      window = h .window;
-      sending = record {
+      last = wordAt (checksumOf (lastOf (planted h) random m plan)) 0;
+      protection = record {
+        keys = agreedKeys (planted h) random m plan;
+        window = h .protection .window;
         protected = 1;
         clear = 2;
-        last = wordAt (checksumOf (lastOf (h .session) random m plan)) 0;
       };
     }

@@ -1,17 +1,15 @@
 -- Protected records (01, "Handshake", "Alerts" and "The record on the wire"): "checked in this order: code, too old,
--- repeated, content".
-use mathlib.Core.Bool.{Bool}
+-- repeated, content". The first three are layer 2's, where a record is opened.
 use mathlib.Core.List.{List}
-use Prim.Native.Nat.{ℕ, _-_}
+use Prim.Native.Nat.{ℕ}
 use lib.ListN.{length, take}
 use lib.Dec.{eqb}
 use Rattle.digest.specs.Pick.{pick}
-use Rattle.digest.specs.Hmac.{hmac}
-use Rattle.digest.specs.Mac.{sizeOf, clientExpansion}
-use Rattle.record.specs.Code.{genuineBy}
-use Rattle.record.specs.Window.{acceptOf}
-use Rattle.record.specs.declared.window.Acceptance.{Acceptance}
-use Rattle.record.specs.declared.window.Acceptance.the-variants as A
+use Rattle.record.specs.Protection.{openedBy}
+use Rattle.record.specs.declared.keys.Sense.the-variants.{FromUnit}
+use Rattle.record.specs.declared.protection.Protection.{Protection}
+use Rattle.record.specs.declared.protection.Opened.{Opened}
+use Rattle.record.specs.declared.protection.Opened.the-variants as O
 use Rattle.message.specs.Alert.{alertOf}
 use Rattle.message.specs.Finished.{judgedOf}
 use Rattle.message.specs.declared.alert.Level.{Level}
@@ -21,8 +19,7 @@ use Rattle.message.specs.declared.alert.Reading.{Reading}
 use Rattle.message.specs.declared.alert.Reading.the-variants as R
 use Rattle.message.specs.declared.finished.Verified.{Verified}
 use Rattle.message.specs.declared.finished.Verified.the-variants as F
-use Rattle.connection.specs.Handshake.{withState, withWindow, barred}
-use Rattle.connection.specs.Keys.{secretFor}
+use Rattle.connection.specs.Handshake.{withState, withProtection, barred}
 use Rattle.connection.specs.Answer.{judged, refusing}
 use Rattle.connection.specs.declared.state.State.{State}
 use Rattle.connection.specs.declared.state.State.the-variants as S
@@ -52,7 +49,7 @@ verifiedTo h F.Wrong = judged (W.Refused WrongFinished) (withState h S.Closed)
 verifiedTo h F.Malformed = refusing Malformed h
 
 unfoldable pub verifiedBy : Handshake → List ℕ → Judged
-verifiedBy h content = verifiedTo h (judgedOf content (h .agreed .expected))
+verifiedBy h content = verifiedTo h (judgedOf content (h .expected))
 
 -- "warning changes nothing beyond the mark of a protected one's number, critical closes the connection, fatal closes it
 -- and, if protected, bars the session"
@@ -81,23 +78,15 @@ contentBy h ClearChange number at content = refusing Malformed h
 contentBy h ClearAlert number at content = refusing Malformed h
 contentBy h OtherClear number at content = refusing Malformed h
 
--- "A genuine new record marks its number even if its content is then refused."
-abbrev pub windowedTo : Handshake → Kind → ℕ → ℕ → List ℕ → Acceptance → Judged
-windowedTo h kind number at content A.TooOld = refusing TooOld h
-windowedTo h kind number at content A.Repeated = refusing Repeated h
-windowedTo h kind number at content (A.New window arrived) = contentBy (withWindow h window) kind number at content
+-- "A genuine new record marks its number even if its content is then refused." The content is the front of the fragment.
+abbrev pub unsealedTo : Handshake → Kind → ℕ → ℕ → List ℕ → Protection → Opened → Judged
+unsealedTo h kind number at fragment p O.Forged = refusing Forged h
+unsealedTo h kind number at fragment p O.TooOld = refusing TooOld h
+unsealedTo h kind number at fragment p O.Repeated = refusing Repeated h
+unsealedTo h kind number at fragment p (O.New size) = contentBy (withProtection h p) kind number at (take size fragment)
 
--- the code is right under the key for the record's own number
-abbrev pub genuineIn : Handshake → ℕ → ℕ → List ℕ → Bool
-genuineIn h byte number fragment =
-    genuineBy (hmac (secretFor h clientExpansion number)) (sizeOf (h .agreed .mac)) number byte fragment
-
--- "Protected fragment: content, then the code."
-abbrev pub contentIn : Handshake → List ℕ → List ℕ
-contentIn h fragment = take (length fragment - sizeOf (h .agreed .mac)) fragment
-
+-- the unit's records
 unfoldable pub unsealedBy : Handshake → Kind → ℕ → ℕ → ℕ → List ℕ → Judged
 unsealedBy h kind byte number at fragment =
-    pick (genuineIn h byte number fragment)
-    (windowedTo h kind number at (contentIn h fragment) (acceptOf (h .window) number))
-    (refusing Forged h)
+    let opening = openedBy (h .protection) FromUnit number byte fragment in
+    unsealedTo h kind number at fragment (opening .protection) (opening .opened)

@@ -7,11 +7,12 @@ use lib.ListN.{length}
 use lib.Dec.{eqb, ltb}
 use Rattle.digest.specs.Pick.{pick}
 use Rattle.digest.specs.Bytes.{wordAt, laidOver}
-use Rattle.digest.specs.Hmac.{hmac}
-use Rattle.digest.specs.Mac.{sizeOf, serverExpansion}
+use Rattle.digest.specs.Mac.{sizeOf}
 use Rattle.record.specs.Checksum.{checksumOf}
 use Rattle.record.specs.Written.{recordOf}
-use Rattle.record.specs.Code.{protectedBy}
+use Rattle.record.specs.Protection.{nextRecord, countedOn}
+use Rattle.record.specs.declared.keys.Sense.the-variants.{FromShore}
+use Rattle.record.specs.declared.protection.Protection.{Protection}
 use Rattle.record.specs.declared.header.Content.{Content}
 use Rattle.record.specs.declared.header.Content.the-variants as C
 use Rattle.message.specs.Alert.{levelOf, sortedOf, alertBytes}
@@ -21,8 +22,7 @@ use Rattle.message.specs.declared.alert.Graded.{Graded}
 use Rattle.message.specs.declared.alert.Graded.the-variants as G
 use Rattle.message.specs.declared.alert.Sorted.{Sorted}
 use Rattle.message.specs.declared.alert.Sorted.the-variants as D
-use Rattle.connection.specs.Handshake.{withSending}
-use Rattle.connection.specs.Keys.{secretFor}
+use Rattle.connection.specs.Handshake.{withSent}
 use Rattle.connection.specs.declared.state.State.{State}
 use Rattle.connection.specs.declared.state.State.the-variants as S
 use Rattle.connection.specs.declared.refusal.Refusal.{Refusal}
@@ -94,19 +94,23 @@ done bytes h = doneWith (length bytes) h
 -- length".
 unfoldable pub nextProtected : Handshake → Content → List ℕ → List ℕ
 nextProtected h content body =
-    protectedBy (hmac (secretFor h serverExpansion (h .sending .protected))) (sizeOf (h .agreed .mac)) false content (h .sending .protected) body
+    nextRecord (h .protection) FromShore content body
 
 unfoldable pub nextClear : Handshake → List ℕ → List ℕ
-nextClear h body = recordOf false false C.Alert (h .sending .clear) body
+nextClear h body = recordOf false false C.Alert (h .protection .clear) body
+
+-- one clear number more
+abbrev pub clearOn : Protection → Protection
+clearOn p = record { keys = p .keys; window = p .window; protected = p .protected; clear = p .clear + 1 }
 
 -- Sending "changes only our number and our last sent record".
 abbrev pub afterProtected : Handshake → List ℕ → Handshake
 afterProtected h bytes =
-    withSending h (record { protected = h .sending .protected + 1; clear = h .sending .clear; last = wordAt (checksumOf bytes) 0 })
+    withSent h (countedOn (h .protection)) (wordAt (checksumOf bytes) 0)
 
 abbrev pub afterClear : Handshake → List ℕ → Handshake
 afterClear h bytes =
-    withSending h (record { protected = h .sending .protected; clear = h .sending .clear + 1; last = wordAt (checksumOf bytes) 0 })
+    withSent h (clearOn (h .protection)) (wordAt (checksumOf bytes) 0)
 
 -- a send that is refused, or its outcome; and what the output then holds
 abbrev pub sentTo : Connection → Sent → Outcome → Sent
@@ -119,7 +123,7 @@ outputTo out bytes (Refused refusal) = out
 
 -- send data
 abbrev pub dataOutcome : Handshake → ℕ → ℕ → Outcome
-dataOutcome h size room = dataRefused (h .state) size (h .sending .protected) (sizeOf (h .agreed .mac)) room
+dataOutcome h size room = dataRefused (h .state) size (h .protection .protected) (sizeOf (h .protection .keys .mac)) room
 
 unfoldable pub dataSent : Connection → List ℕ → ℕ → Sent
 dataSent c bytes room =
@@ -135,8 +139,8 @@ abbrev pub alertBody : Level → Description → List ℕ → List ℕ
 alertBody level description answered = alertBytes level description (wordAt (checksumOf answered) 0)
 
 abbrev pub alertOutcome : Bool → Handshake → ℕ → ℕ → Outcome
-alertOutcome true h lent room = alertRefused (maySeal (h .state)) lent (h .sending .protected) (sizeOf (h .agreed .mac)) room
-alertOutcome false h lent room = alertRefused (mayClear (h .state)) lent (h .sending .clear) 0 room
+alertOutcome true h lent room = alertRefused (maySeal (h .state)) lent (h .protection .protected) (sizeOf (h .protection .keys .mac)) room
+alertOutcome false h lent room = alertRefused (mayClear (h .state)) lent (h .protection .clear) 0 room
 
 abbrev pub nextAlert : Bool → Handshake → List ℕ → List ℕ
 nextAlert true h body = nextProtected h C.Alert body

@@ -22,8 +22,7 @@ pub(crate) fn greet(h: Handshake, random: [u8; 16], m: &[u8]) -> Judged
     requires { ⌜ length random ≡ 16 ⌝ }
     ensures { λ r. ⌜ r ≡ greetedBy h random (now (m .entry)) ⌝ }
 {
-    let session = h.session;
-    let id = session.id;
+    let id = h.id;
     match hear(m, &id) {
         Heard::Malformed(_) => refuse(h, Refusal::Malformed),
         Heard::Unacceptable(_) => refuse(h, Refusal::Unacceptable),
@@ -83,10 +82,12 @@ pub(crate) fn change(h: Handshake, fragment: &[u8]) -> Judged
     if !is_change(fragment) {
         return refuse(h, Refusal::Malformed);
     }
-    let window = h.window;
+    let protection = h.protection;
+    let window = protection.window;
+    let emptied = protection.with_window(window.emptied());
     Judged {
         answer: Answer::Spec,
-        handshake: h.with_window(window.emptied()).with_state(State::Spec),
+        handshake: h.with_protection(emptied).with_state(State::Spec),
     }
 }
 
@@ -97,8 +98,7 @@ pub(crate) fn hear_alert(h: Handshake, fragment: &[u8]) -> Judged
     match alert::read(fragment) {
         alert::Reading::Malformed => refuse(h, Refusal::Malformed),
         alert::Reading::WellFormed(a) => {
-            let sending = h.sending;
-            if a.checksum != sending.last {
+            if a.checksum != h.last {
                 return refuse(h, Refusal::Checksum);
             }
             let level = a.level;

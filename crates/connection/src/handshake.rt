@@ -1,25 +1,18 @@
-// One handshake: its session, what its hellos fixed, what is kept of them, its window, and what we sent. A connection
-// has one. Every value of these structs is safe to pass in: no length or number in them is trusted.
+// One handshake: its session, the Finished that it expects, the hello and the reply that are kept, the last record that
+// we sent, and its protection. A connection has one. Every value of these structs is safe to pass in: no length or number in
+// them is trusted.
 ghost use mathlib.Core.Path.{_≡_};
-ghost use Rattle.connection.specs.Handshake.{withState, withWindow, withSending, barred, reopened, blankHandshake, newHandshake, noSession, nothingAgreed, nothingKept};
+ghost use Rattle.connection.specs.Handshake.{withState, withProtection, withSent, barred, reopened, blankHandshake, newHandshake, noSession, nothingKept, unkeyed, newProtection};
 use crate::state::State;
 use digest::Mac;
+use record::keys::Keys;
+use record::protection::Protection;
 use record::window::Window;
 
-// The session planted at fitting out.
+// The session planted at fitting out. In a handshake its secret is what the protection's keys are made of.
 pub struct Session {
     pub id: [u8; 8],
     pub secret: [u8; 20],
-}
-
-// What the hellos fixed: both randoms, the MAC kind, the key refresh, and the contents that the unit's Finished must
-// have.
-pub struct Agreed {
-    pub server: [u8; 16],
-    pub client: [u8; 16],
-    pub mac: Mac,
-    pub refresh: u8,
-    pub expected: [u8; 12],
 }
 
 // The hello that was answered, as a whole message, and the reply to it; each at the front of its array.
@@ -30,20 +23,16 @@ pub struct Kept {
     pub size: usize,
 }
 
-// Our next protected and clear numbers, 65,536 once spent, and the checksum of the last record that we sent.
-pub struct Sending {
-    pub protected: u32,
-    pub clear: u32,
-    pub last: u32,
-}
-
 pub struct Handshake {
     pub state: State,
-    pub session: Session,
-    pub agreed: Agreed,
+    // the session's identifier
+    pub id: [u8; 8],
+    // the contents that the unit's Finished must have
+    pub expected: [u8; 12],
     pub kept: Kept,
-    pub window: Window,
-    pub sending: Sending,
+    // the checksum of the last record that we sent
+    pub last: u32,
+    pub protection: Protection,
 }
 
 impl Handshake {
@@ -51,36 +40,37 @@ impl Handshake {
     pub fn with_state(self, state: State) -> Handshake
         ensures { λ r. ⌜ r ≡ withState self state ⌝ }
     {
-        let session = self.session;
-        let agreed = self.agreed;
+        let id = self.id;
+        let expected = self.expected;
         let kept = self.kept;
-        let window = self.window;
-        let sending = self.sending;
+        let last = self.last;
+        let protection = self.protection;
         Handshake {
             state,
-            session,
-            agreed,
+            id,
+            expected,
             kept,
-            window,
-            sending,
+            last,
+            protection,
         }
     }
 
-    // The handshake with another window.
-    pub fn with_window(self, window: Window) -> Handshake
-        ensures { λ r. ⌜ r ≡ withWindow self window ⌝ }
+    // The handshake with another protection.
+    pub fn with_protection(self, protection: Protection) -> Handshake
+        ensures { λ r. ⌜ r ≡ withProtection self protection ⌝ }
     {
         let mut h = self;
-        h.window = window;
+        h.protection = protection;
         h
     }
 
-    // The handshake after something was sent.
-    pub fn with_sending(self, sending: Sending) -> Handshake
-        ensures { λ r. ⌜ r ≡ withSending self sending ⌝ }
+    // The handshake after a record was sent.
+    pub fn with_sent(self, protection: Protection, last: u32) -> Handshake
+        ensures { λ r. ⌜ r ≡ withSent self protection last ⌝ }
     {
         let mut h = self;
-        h.sending = sending;
+        h.protection = protection;
+        h.last = last;
         h
     }
 
@@ -88,17 +78,18 @@ impl Handshake {
     pub fn reopened(self) -> Handshake
         ensures { λ r. ⌜ r ≡ reopened self ⌝ }
     {
-        let session = self.session;
-        let agreed = self.agreed;
-        let window = self.window;
-        let sending = self.sending;
+        let id = self.id;
+        let expected = self.expected;
+        let last = self.last;
+        let protection = self.protection;
+        let window = protection.window;
         Handshake {
             state: State::Idle,
-            session,
-            agreed,
+            id,
+            expected,
             kept: nothing_kept(),
-            window: window.emptied(),
-            sending,
+            last,
+            protection: protection.with_window(window.emptied()),
         }
     }
 
@@ -107,17 +98,15 @@ impl Handshake {
     pub fn barred(self) -> Handshake
         ensures { λ r. ⌜ r ≡ barred self ⌝ }
     {
-        let agreed = self.agreed;
-        let mac = agreed.mac;
-        let window = self.window;
-        let sending = self.sending;
+        let last = self.last;
+        let protection = self.protection;
         Handshake {
             state: State::Barred,
-            session: no_session(),
-            agreed: nothing_agreed(mac, agreed.refresh),
+            id: [0; 8],
+            expected: [0; 12],
             kept: nothing_kept(),
-            window,
-            sending,
+            last,
+            protection: unkeyed(protection),
         }
     }
 }
@@ -133,17 +122,54 @@ pub fn blank() -> Handshake
 pub fn made(session: Session, state: State) -> Handshake
     ensures { λ r. ⌜ r ≡ newHandshake session state ⌝ }
 {
+    let id = session.id;
+    let secret = session.secret;
     Handshake {
         state,
-        session,
-        agreed: nothing_agreed(Mac::Sha80, 0),
+        id,
+        expected: [0; 12],
         kept: nothing_kept(),
-        window: Window::fresh(),
-        sending: Sending {
-            protected: 0,
-            clear: 0,
-            last: 0,
+        last: 0,
+        protection: new_protection(secret),
+    }
+}
+
+// The protection of a secret under which nothing has happened.
+fn new_protection(secret: [u8; 20]) -> Protection
+    ensures { λ r. ⌜ r ≡ newProtection secret ⌝ }
+{
+    Protection {
+        keys: Keys {
+            secret,
+            server: [0; 16],
+            client: [0; 16],
+            mac: Mac::Sha80,
+            refresh: 0,
         },
+        window: Window::fresh(),
+        protected: 0,
+        clear: 0,
+    }
+}
+
+// The protection without its secret and its randoms.
+fn unkeyed(protection: Protection) -> Protection
+    ensures { λ r. ⌜ r ≡ unkeyed protection ⌝ }
+{
+    let keys = protection.keys;
+    let mac = keys.mac;
+    let window = protection.window;
+    Protection {
+        keys: Keys {
+            secret: [0; 20],
+            server: [0; 16],
+            client: [0; 16],
+            mac,
+            refresh: keys.refresh,
+        },
+        window,
+        protected: protection.protected,
+        clear: protection.clear,
     }
 }
 
@@ -153,18 +179,6 @@ fn no_session() -> Session
     Session {
         id: [0; 8],
         secret: [0; 20],
-    }
-}
-
-fn nothing_agreed(mac: Mac, refresh: u8) -> Agreed
-    ensures { λ r. ⌜ r ≡ nothingAgreed mac refresh ⌝ }
-{
-    Agreed {
-        server: [0; 16],
-        client: [0; 16],
-        mac,
-        refresh,
-        expected: [0; 12],
     }
 }
 

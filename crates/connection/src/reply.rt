@@ -4,11 +4,8 @@ ghost use mathlib.Core.Path.{_≡_};
 ghost use lib.ListN.{length, take, drop};
 ghost use Rattle.connection.specs.Reply.{answeredWith, clientRandom, flightWith, joinedOf, padTo};
 ghost use Rattle.message.specs.Server.{serverHelloOf};
-use crate::handshake::Agreed;
 use crate::handshake::Handshake;
 use crate::handshake::Kept;
-use crate::handshake::Sending;
-use crate::handshake::Session;
 use crate::state::State;
 use digest::Mac;
 use message::acceptance::Plan;
@@ -18,7 +15,9 @@ use message::server;
 use record::checksum::checksum;
 use record::code::write_protected;
 use record::header::Content;
+use record::keys::Keys;
 use record::keys::derived;
+use record::protection::Protection;
 use record::written::write_clear;
 
 // The bytes of a reply, and the checksum of its last record.
@@ -32,9 +31,10 @@ pub(crate) fn answered(h: Handshake, random: [u8; 16], m: &[u8], plan: Plan) -> 
     requires { ⌜ (length random ≡ 16) × ((20 ≤ length (now m)) × (length (now m) ≤ 256)) ⌝ }
     ensures { λ r. ⌜ r ≡ answeredWith h random (now (m .entry)) plan ⌝ }
 {
-    let session = h.session;
-    let id = session.id;
-    let secret = session.secret;
+    let id = h.id;
+    let protection = h.protection;
+    let keys = protection.keys;
+    let secret = keys.secret;
     let mac = plan.mac;
     let client = client_random(m);
     let hello = server_hello(random, id, plan);
@@ -42,28 +42,29 @@ pub(crate) fn answered(h: Handshake, random: [u8; 16], m: &[u8], plan: Plan) -> 
     let expected = finished::client_verify(&secret, m, &hello, &ours);
     let sent = flown(secret, random, client, mac, hello, ours);
     let reply = sent.reply;
-    let window = h.window;
+    let window = protection.window;
     Handshake {
         state: State::Replied,
-        session,
-        agreed: Agreed {
-            server: random,
-            client,
-            mac,
-            refresh: plan.refresh,
-            expected,
-        },
+        id,
+        expected,
         kept: Kept {
             hello: kept_hello(m),
             heard: m.len(),
             reply,
             size: 64 + mac.size(),
         },
-        window,
-        sending: Sending {
+        last: sent.last,
+        protection: Protection {
+            keys: Keys {
+                secret,
+                server: random,
+                client,
+                mac,
+                refresh: plan.refresh,
+            },
+            window,
             protected: 1,
             clear: 2,
-            last: sent.last,
         },
     }
 }

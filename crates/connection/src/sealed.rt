@@ -1,4 +1,4 @@
-// Protected records: code, then window, then content (01, "Handshake").
+// Protected records: they are opened, and then their content decides (01, "Handshake").
 ghost use Prim.Native.Nat.{ℕ};
 ghost use mathlib.Core.Path.{_≡_};
 ghost use lib.ListN.{length};
@@ -10,17 +10,14 @@ use crate::handshake::Handshake;
 use crate::refusal::Refusal;
 use crate::state::Kind;
 use crate::state::State;
-use digest::Mac;
 use message::alert;
 use message::alert::Level;
 use message::finished;
 use message::finished::Verified;
-use record::code::genuine;
-use record::keys::record_key;
-use record::window::Acceptance;
+use record::keys::Sense;
+use record::protection::Opened;
 
-// A protected record of an allowed kind: its type byte, its number, and its fragment, which stands at `at`. The window is
-// looked at only after the code is right, and the key is that of the record's own number.
+// A protected record of an allowed kind: its type byte, its number, and its fragment, which stands at `at`.
 pub(crate) fn unseal(
     h: Handshake,
     kind: Kind,
@@ -31,25 +28,20 @@ pub(crate) fn unseal(
 ) -> Judged
     ensures { λ r. ⌜ r ≡ unsealedBy h kind byte number at (now (fragment .entry)) ⌝ }
 {
-    let session = h.session;
-    let secret = session.secret;
-    let agreed = h.agreed;
-    let server = agreed.server;
-    let client = agreed.client;
-    let mac = agreed.mac;
-    let label = Mac::CLIENT_EXPANSION;
-    let key = record_key(&secret, &label, agreed.refresh, number, &server, &client);
-    if !genuine(key, mac, number, byte, fragment) {
-        return refuse(h, Refusal::Forged);
-    }
-    let end = fragment.len() - mac.size();
-    let window = h.window;
-    match window.accept(number) {
-        Acceptance::TooOld => refuse(h, Refusal::TooOld),
-        Acceptance::Repeated => refuse(h, Refusal::Repeated),
-        Acceptance::New(marked, _) => {
-            content(h.with_window(marked), kind, number, at, &fragment[..end])
-        }
+    let protection = h.protection;
+    let opening = protection.open(Sense::FromUnit, number, byte, fragment);
+    let opened = opening.opened;
+    match opened {
+        Opened::Forged => refuse(h, Refusal::Forged),
+        Opened::TooOld => refuse(h, Refusal::TooOld),
+        Opened::Repeated => refuse(h, Refusal::Repeated),
+        Opened::New(size) => content(
+            h.with_protection(opening.protection),
+            kind,
+            number,
+            at,
+            &fragment[..size],
+        ),
     }
 }
 
@@ -112,8 +104,7 @@ fn alerted(h: Handshake, content: &[u8]) -> Judged
 fn verified(h: Handshake, content: &[u8]) -> Judged
     ensures { λ r. ⌜ r ≡ verifiedBy h (now (content .entry)) ⌝ }
 {
-    let agreed = h.agreed;
-    let expected = agreed.expected;
+    let expected = h.expected;
     match finished::judge(content, &expected) {
         Verified::Malformed => refuse(h, Refusal::Malformed),
         Verified::Wrong => Judged {

@@ -3,25 +3,18 @@ ghost use Prim.Native.Nat.{ℕ, _+_, _≤_, _<_};
 ghost use mathlib.Core.Path.{_≡_};
 ghost use lib.ListN.{length};
 ghost use Rattle.connection.specs.Send.{dataRefused, alertRefused, numberedBy, dataSent, dataOutput, alertSent, alertOutput, mayData, maySeal, mayClear, unsent, done, doneWith, nextProtected, nextClear, afterProtected, afterClear};
-ghost use Rattle.digest.specs.Mac.{serverExpansion};
-ghost use Rattle.connection.specs.Keys.{secretFor};
 ghost use Rattle.digest.specs.Bytes.{laidOver};
-ghost use Rattle.digest.specs.Hmac.{keyOf};
 use crate::calls::Connection;
 use crate::calls::Outcome;
 use crate::handshake::Handshake;
-use crate::handshake::Sending;
 use crate::refusal::Refusal;
 use crate::state::State;
-use digest::Key;
-use digest::Mac;
 use message::alert;
 use message::alert::Graded;
 use message::alert::Sorted;
 use record::checksum::checksum;
-use record::code::write_protected;
 use record::header::Content;
-use record::keys::record_key;
+use record::keys::Sense;
 use record::written::write_clear;
 
 // The outcome of a send, how many bytes stand at the front of the output, and the connection that it leaves.
@@ -38,10 +31,16 @@ pub fn send_data(c: Connection, data: &[u8], out: &mut [u8]) -> Sent
 {
     let h = c.handshake;
     let state = h.state;
-    let sending = h.sending;
-    let agreed = h.agreed;
-    let mac = agreed.mac;
-    match data_refusal(state, data.len(), sending.protected, mac.size(), out.len()) {
+    let protection = h.protection;
+    let keys = protection.keys;
+    let mac = keys.mac;
+    match data_refusal(
+        state,
+        data.len(),
+        protection.protected,
+        mac.size(),
+        out.len(),
+    ) {
         Outcome::Refused(refusal) => refused(c, refusal),
         Outcome::Done => protected(h, Content::Data, data, out),
     }
@@ -68,14 +67,14 @@ pub fn send_alert(
     };
     let h = c.handshake;
     let state = h.state;
-    let sending = h.sending;
-    let agreed = h.agreed;
-    let mac = agreed.mac;
+    let protection = h.protection;
+    let keys = protection.keys;
+    let mac = keys.mac;
     if sealed {
         return match alert_refusal(
             may_seal(state),
             answered.len(),
-            sending.protected,
+            protection.protected,
             mac.size(),
             out.len(),
         ) {
@@ -89,7 +88,7 @@ pub fn send_alert(
     match alert_refusal(
         may_clear(state),
         answered.len(),
-        sending.clear,
+        protection.clear,
         0,
         out.len(),
     ) {
@@ -200,61 +199,31 @@ fn refused(c: Connection, refusal: Refusal) -> Sent
 
 // The next protected record, with this content.
 fn protected(h: Handshake, content: Content, body: &[u8], out: &mut [u8]) -> Sent
-    requires { ⌜ (h .sending .protected ≤ 65535) × (length (nextProtected h content (now body)) ≤ length (now out)) ⌝ }
+    requires { ⌜ (h .protection .protected ≤ 65535) × (length (nextProtected h content (now body)) ≤ length (now out)) ⌝ }
     ensures { λ r. ⌜ r ≡ done (nextProtected h content (now (body .entry))) (afterProtected h (nextProtected h content (now (body .entry)))) ⌝ }
     ensures { λ _. ⌜ now (out .exit) ≡ laidOver (now (out .entry)) 0 (nextProtected h content (now (body .entry))) ⌝ }
 {
-    let sending = h.sending;
-    let agreed = h.agreed;
-    let mac = agreed.mac;
-    let number = sending.protected as u16;
-    let size = write_protected(
-        server_key(h, number),
-        mac,
-        false,
-        content,
-        number,
-        body,
-        out,
-    );
+    let protection = h.protection;
+    let writing = protection.write(Sense::FromShore, content, body, out);
+    let wrote = writing.wrote;
+    let size = wrote.size();
     let last = checksum(&out[..size]);
-    let next = Sending {
-        protected: sending.protected + 1,
-        clear: sending.clear,
-        last,
-    };
-    finish(h.with_sending(next), size)
+    finish(h.with_sent(writing.protection, last), size)
 }
 
 // The next clear record, an alert.
 fn clear(h: Handshake, body: &[u8], out: &mut [u8]) -> Sent
-    requires { ⌜ (h .sending .clear ≤ 65535) × (length (nextClear h (now body)) ≤ length (now out)) ⌝ }
+    requires { ⌜ (h .protection .clear ≤ 65535) × (length (nextClear h (now body)) ≤ length (now out)) ⌝ }
     ensures { λ r. ⌜ r ≡ done (nextClear h (now (body .entry))) (afterClear h (nextClear h (now (body .entry)))) ⌝ }
     ensures { λ _. ⌜ now (out .exit) ≡ laidOver (now (out .entry)) 0 (nextClear h (now (body .entry))) ⌝ }
 {
-    let sending = h.sending;
-    let number = sending.clear as u16;
+    let mut protection = h.protection;
+    let number = protection.clear as u16;
     let size = write_clear(false, Content::Alert, number, body, out);
     let last = checksum(&out[..size]);
-    let next = Sending {
-        protected: sending.protected,
-        clear: sending.clear + 1,
-        last,
-    };
-    finish(h.with_sending(next), size)
-}
-
-// Our key for a number.
-fn server_key(h: Handshake, number: u16) -> Key
-    ensures { λ r. ⌜ r ≡ keyOf (secretFor h serverExpansion number) ⌝ }
-{
-    let session = h.session;
-    let secret = session.secret;
-    let agreed = h.agreed;
-    let server = agreed.server;
-    let client = agreed.client;
-    let label = Mac::SERVER_EXPANSION;
-    record_key(&secret, &label, agreed.refresh, number, &server, &client)
+    let next = protection.clear + 1;
+    protection.clear = next;
+    finish(h.with_sent(protection, last), size)
 }
 
 fn finish(h: Handshake, written: usize) -> Sent

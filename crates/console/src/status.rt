@@ -1,7 +1,6 @@
 // The state line.
 use crate::console::Console;
 use connection::handshake::Handshake;
-use connection::handshake::Sending;
 use connection::state::State;
 use connection::tally::Tally;
 use lines::text::put;
@@ -14,12 +13,12 @@ pub fn put_status(console: Console, text: &mut [u8], at: usize) -> usize {
     let connection = console.connection;
     let h = connection.handshake;
     let state = h.state;
-    let window = h.window;
-    let sending = h.sending;
+    let protection = h.protection;
+    let window = protection.window;
     let tally = console.tally;
     let end = put_name(console.connected, state, text, at);
     let end = put_window(window, text, end);
-    let end = put_sending(sending, text, end);
+    let end = put_sending(protection.protected, protection.clear, h.last, text, end);
     put_tally(tally, text, end)
 }
 
@@ -58,11 +57,11 @@ fn put_highest(highest: u16, marks: u32, text: &mut [u8], at: usize) -> usize {
 }
 
 // The next protected and clear numbers, `-,-` before the first reply, which takes number 0 of each; and the last checksum.
-fn put_sending(sending: Sending, text: &mut [u8], at: usize) -> usize {
+fn put_sending(protected: u32, clear: u32, last: u32, text: &mut [u8], at: usize) -> usize {
     let end = put(text, at, b" sent=");
-    let end = put_numbers(sending.protected, sending.clear, text, end);
+    let end = put_numbers(protected, clear, text, end);
     let end = put(text, end, b" checksum=");
-    put_word(text, end, sending.last)
+    put_word(text, end, last)
 }
 
 fn put_numbers(protected: u32, clear: u32, text: &mut [u8], at: usize) -> usize {

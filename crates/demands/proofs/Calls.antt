@@ -130,32 +130,32 @@ module _ (c : Connection) (bytes out : List ℕ) where
   unfolding stepOf dataSent dataOutput
   step-data = refl
 
-  data-by-room : GoodData bytes → h .state ≡ S.Open → h .sending .protected ≤ 65535 → (b : Bool) → ltb (length out) (3 + length bytes + sizeOf (h .agreed .mac)) ≡ b
+  data-by-room : GoodData bytes → h .state ≡ S.Open → h .protection .protected ≤ 65535 → (b : Bool) → ltb (length out) (3 + length bytes + sizeOf (h .protection .keys .mac)) ≡ b
       → CallRow c (send-data bytes out) (dataStep (pick b (O.Refused X.Room) O.Done))
-  data-by-room g s n true e = data-6 g s n (ltb-true (length out) (3 + length bytes + sizeOf (h .agreed .mac)) e)
-  data-by-room g s n false e = data-sent g s n (ltb-false (length out) (3 + length bytes + sizeOf (h .agreed .mac)) e)
+  data-by-room g s n true e = data-6 g s n (ltb-true (length out) (3 + length bytes + sizeOf (h .protection .keys .mac)) e)
+  data-by-room g s n false e = data-sent g s n (ltb-false (length out) (3 + length bytes + sizeOf (h .protection .keys .mac)) e)
 
-  data-by-number : GoodData bytes → h .state ≡ S.Open → (b : Bool) → ltb 65535 (h .sending .protected) ≡ b
-      → CallRow c (send-data bytes out) (dataStep (pick b (O.Refused X.Spent) (pick (ltb (length out) (3 + length bytes + sizeOf (h .agreed .mac))) (O.Refused X.Room) O.Done)))
-  data-by-number g s true e = data-15 g s (ltb-true 65535 (h .sending .protected) e)
+  data-by-number : GoodData bytes → h .state ≡ S.Open → (b : Bool) → ltb 65535 (h .protection .protected) ≡ b
+      → CallRow c (send-data bytes out) (dataStep (pick b (O.Refused X.Spent) (pick (ltb (length out) (3 + length bytes + sizeOf (h .protection .keys .mac))) (O.Refused X.Room) O.Done)))
+  data-by-number g s true e = data-15 g s (ltb-true 65535 (h .protection .protected) e)
   data-by-number g s false e =
-      data-by-room g s (ltb-false 65535 (h .sending .protected) e) (ltb (length out) (3 + length bytes + sizeOf (h .agreed .mac))) refl
+      data-by-room g s (ltb-false 65535 (h .protection .protected) e) (ltb (length out) (3 + length bytes + sizeOf (h .protection .keys .mac))) refl
 
   not-open : (s : State) → h .state ≡ s → (s ≡ S.Open → ⊥) → h .state ≢ S.Open
   not-open s e n z = n (sym e ∙ z)
 
   data-by-state : GoodData bytes → (s : State) → h .state ≡ s
-      → CallRow c (send-data bytes out) (dataStep (andThen (mayData s) (numberedBy (h .sending .protected) (3 + length bytes + sizeOf (h .agreed .mac)) (length out))))
+      → CallRow c (send-data bytes out) (dataStep (andThen (mayData s) (numberedBy (h .protection .protected) (3 + length bytes + sizeOf (h .protection .keys .mac)) (length out))))
   unfolding numberedBy
   data-by-state g S.Idle e = data-8 g (ap ended e) (not-open S.Idle e (λ z. let w : _≡_ {A = ℕ} 0 1 = cc in omega arith))
   data-by-state g S.Replied e = data-8 g (ap ended e) (not-open S.Replied e (λ z. let w : _≡_ {A = ℕ} 0 1 = cc in omega arith))
   data-by-state g S.Spec e = data-8 g (ap ended e) (not-open S.Spec e (λ z. let w : _≡_ {A = ℕ} 0 1 = cc in omega arith))
-  data-by-state g S.Open e = data-by-number g e (ltb 65535 (h .sending .protected)) refl
+  data-by-state g S.Open e = data-by-number g e (ltb 65535 (h .protection .protected)) refl
   data-by-state g S.Closed e = data-7 g (ap ended e)
   data-by-state g S.Barred e = data-7 g (ap ended e)
 
   abbrev dataRest : Outcome
-  dataRest = andThen (mayData (h .state)) (numberedBy (h .sending .protected) (3 + length bytes + sizeOf (h .agreed .mac)) (length out))
+  dataRest = andThen (mayData (h .state)) (numberedBy (h .protection .protected) (3 + length bytes + sizeOf (h .protection .keys .mac)) (length out))
 
   data-by-size : (b : Bool) → eqb (length bytes) 0 ≡ b → (m : Bool) → ltb 1300 (length bytes) ≡ m
       → CallRow c (send-data bytes out) (dataStep (pick b (O.Refused X.Argument) (pick m (O.Refused X.Argument) dataRest)))
@@ -439,23 +439,23 @@ call-is c (receive-records {d = d} {random = random} {out = out} {rs = rs} e l f
     ∙ ap₂ (λ answers left. taken out rs answers (firstReply (c .handshake) random d rs) left) (q .0) (q .1)
 call-is c (data-16 {bytes = bytes} {out = out} b) = data-bad c bytes out b
 call-is c (data-7 {bytes = bytes} {out = out} g e) =
-    data-good c bytes out g (O.Refused X.Ended) (ap (λ o. andThen o (numberedBy (c .handshake .sending .protected) (3 + length bytes + sizeOf (c .handshake .agreed .mac)) (length out))) (ended-data (c .handshake .state) e))
+    data-good c bytes out g (O.Refused X.Ended) (ap (λ o. andThen o (numberedBy (c .handshake .protection .protected) (3 + length bytes + sizeOf (c .handshake .protection .keys .mac)) (length out))) (ended-data (c .handshake .state) e))
 call-is c (data-8 {bytes = bytes} {out = out} g e n) =
-    data-good c bytes out g (O.Refused X.NotAllowed) (ap (λ o. andThen o (numberedBy (c .handshake .sending .protected) (3 + length bytes + sizeOf (c .handshake .agreed .mac)) (length out))) (other-data (c .handshake .state) e n))
+    data-good c bytes out g (O.Refused X.NotAllowed) (ap (λ o. andThen o (numberedBy (c .handshake .protection .protected) (3 + length bytes + sizeOf (c .handshake .protection .keys .mac)) (length out))) (other-data (c .handshake .state) e n))
 call-is c (data-15 {bytes = bytes} {out = out} g e n) =
     data-good c bytes out g (O.Refused X.Spent)
-    (ap (λ s. andThen (mayData s) (numberedBy (c .handshake .sending .protected) (3 + length bytes + sizeOf (c .handshake .agreed .mac)) (length out))) e
-    ∙ spent-is (c .handshake .sending .protected) (3 + length bytes + sizeOf (c .handshake .agreed .mac)) (length out) n)
+    (ap (λ s. andThen (mayData s) (numberedBy (c .handshake .protection .protected) (3 + length bytes + sizeOf (c .handshake .protection .keys .mac)) (length out))) e
+    ∙ spent-is (c .handshake .protection .protected) (3 + length bytes + sizeOf (c .handshake .protection .keys .mac)) (length out) n)
 call-is c (data-6 {bytes = bytes} {out = out} g e n l) =
     data-good c bytes out g (O.Refused X.Room)
-    (ap (λ s. andThen (mayData s) (numberedBy (c .handshake .sending .protected) (3 + length bytes + sizeOf (c .handshake .agreed .mac)) (length out))) e
-    ∙ numbered-is (c .handshake .sending .protected) (3 + length bytes + sizeOf (c .handshake .agreed .mac)) (length out) n (O.Refused X.Room)
-    (ap (λ b. pick b (O.Refused X.Room) O.Done) (lt-ltb (length out) (3 + length bytes + sizeOf (c .handshake .agreed .mac)) l)))
+    (ap (λ s. andThen (mayData s) (numberedBy (c .handshake .protection .protected) (3 + length bytes + sizeOf (c .handshake .protection .keys .mac)) (length out))) e
+    ∙ numbered-is (c .handshake .protection .protected) (3 + length bytes + sizeOf (c .handshake .protection .keys .mac)) (length out) n (O.Refused X.Room)
+    (ap (λ b. pick b (O.Refused X.Room) O.Done) (lt-ltb (length out) (3 + length bytes + sizeOf (c .handshake .protection .keys .mac)) l)))
 call-is c (data-sent {bytes = bytes} {out = out} g e n l) =
     data-good c bytes out g O.Done
-    (ap (λ s. andThen (mayData s) (numberedBy (c .handshake .sending .protected) (3 + length bytes + sizeOf (c .handshake .agreed .mac)) (length out))) e
-    ∙ numbered-is (c .handshake .sending .protected) (3 + length bytes + sizeOf (c .handshake .agreed .mac)) (length out) n O.Done
-    (ap (λ b. pick b (O.Refused X.Room) O.Done) (le-ltb (length out) (3 + length bytes + sizeOf (c .handshake .agreed .mac)) l)))
+    (ap (λ s. andThen (mayData s) (numberedBy (c .handshake .protection .protected) (3 + length bytes + sizeOf (c .handshake .protection .keys .mac)) (length out))) e
+    ∙ numbered-is (c .handshake .protection .protected) (3 + length bytes + sizeOf (c .handshake .protection .keys .mac)) (length out) n O.Done
+    (ap (λ b. pick b (O.Refused X.Room) O.Done) (le-ltb (length out) (3 + length bytes + sizeOf (c .handshake .protection .keys .mac)) l)))
 call-is c (alert-16 {sealed = sealed} {level = level} {description = description} {answered = answered} {out = out} b) =
     alert-bad c sealed level description answered out b
 call-is c (alert-7 {sealed = sealed} {level = level} {description = description} {answered = answered} {out = out} {l = l} {k = k} g e) =

@@ -13,7 +13,7 @@ use Rattle.record.specs.declared.window.Window.{Window}
 use native.Mathlib.Omega.{arith}
 use Rattle.connection.specs.Reply.{answeredWith}
 use Rattle.message.specs.declared.acceptance.Plan.{Plan}
-use Rattle.connection.specs.Handshake.{withState, withWindow, barred, reopened}
+use Rattle.connection.specs.Handshake.{withState, withWindow, barred, reopened, planted}
 use Rattle.connection.specs.Judge.{judgedRecord, fragmentOf}
 use Rattle.connection.specs.Calls.{closedOf, startedOf, closedIn, startedIn}
 use Rattle.connection.specs.declared.state.State.{State}
@@ -58,11 +58,11 @@ module _ (h : Handshake) (random d : List ℕ) (r : Record) where
   unfolding answeredWith
   replied plan = refl
 
-  unmoved : (plan : Plan) → answeredWith h random (fragmentOf d r) plan .window ≡ h .window
+  unmoved : (plan : Plan) → answeredWith h random (fragmentOf d r) plan .protection .window ≡ h .protection .window
   unfolding answeredWith
   unmoved plan = refl
 
-  same-session : (plan : Plan) → answeredWith h random (fragmentOf d r) plan .session ≡ h .session
+  same-session : (plan : Plan) → planted (answeredWith h random (fragmentOf d r) plan) ≡ planted h
   unfolding answeredWith
   same-session plan = refl
 

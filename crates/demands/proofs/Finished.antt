@@ -31,7 +31,7 @@ use Rattle.message.specs.declared.finished.Verified.the-variants as F
 use Rattle.message.proofs.Written.{Filled, filled}
 use Rattle.message.proofs.Rests.{byte-piece}
 use Rattle.connection.specs.Calls.{sessionOf}
-use Rattle.connection.specs.Handshake.{withState, withWindow, barred, reopened, keptReply}
+use Rattle.connection.specs.Handshake.{withState, withWindow, barred, reopened, keptReply, planted}
 use Rattle.connection.specs.Judge.{judgedRecord, fragmentOf}
 use Rattle.connection.specs.Reply.{answeredWith, replyTo, expectedOf}
 use Rattle.connection.specs.Send.{nextAlert, alertBody, afterAlert}
@@ -120,7 +120,7 @@ module _ (session : Session) (past : List Happened) (h : Handshake) (p : Progres
   pub keys-are : barredIn past ≡ false → keysOf h ≡ keysIn session past
   keys-are l = ap₂ keysWith (p .kept .session-is l) (p .kept .agreed-is l)
 
-  pub expected-is : barredIn past ≡ false → h .agreed .expected ≡ expectedIn session past
+  pub expected-is : barredIn past ≡ false → h .expected ≡ expectedIn session past
   expected-is l = ap (λ a. a .expected) (p .kept .agreed-is l)
 
   greeted-expects : (g : Greeted session past) → expectedIn session past ≡ expectedOf session (g .ours) (g .hello) (g .plan)
@@ -181,13 +181,13 @@ module _ (session : Session) (past : List Happened) (h : Handshake) (p : Progres
     go-on a x s k e z es v =
         record { kept = k; greeted = λ _. still-greeted a e (p .greeted z); verified = λ y. v (sym es ∙ y) }
 
-    opened : (c : List ℕ) (w : Window) → New h d r c w → h .state ≡ S.Spec → r .content ≡ C.Handshake → judgedOf c (h .agreed .expected) ≡ F.Right
+    opened : (c : List ℕ) (w : Window) → New h d r c w → h .state ≡ S.Spec → r .content ≡ C.Handshake → judgedOf c (h .expected) ≡ F.Right
         → Verified session (answered random d r W.Open ∷ past)
     opened c w n es ec e =
         let g : Greeted session past = p .greeted (ap hasReplied es) in
         let l : barredIn past ≡ false = live session past h (p .kept) (sealed-live (h .state) (r .content) (n .guarded .kind)) in
         let content-is : c ≡ finishedOf (expectedOf session (g .ours) (g .hello) (g .plan))
-        = right-is c (h .agreed .expected) e ∙ ap finishedOf (expected-is l ∙ greeted-expects g) in
+        = right-is c (h .expected) e ∙ ap finishedOf (expected-is l ∙ greeted-expects g) in
         record {
           between = [];
           random = random;
@@ -205,9 +205,9 @@ module _ (session : Session) (past : List Happened) (h : Handshake) (p : Progres
           genuine = record { in-place = at; is-sealed = subst (λ x. Sealed x d r (finishedOf (expectedOf session (g .ours) (g .hello) (g .plan)))) (keys-are l) (subst (Sealed (keysOf h) d r) content-is (n .coded)) };
         }
 
-    new-reply : (plan : Plan) → Greets h d r → heardOf (fragmentOf d r) (h .session .id) ≡ H.Accepted plan
-        → KeptAs session (answered random d r (W.Reply (length (replyTo (h .session) random (fragmentOf d r) plan))) ∷ past) (answeredWith h random (fragmentOf d r) plan)
-        → Progress session (answered random d r (W.Reply (length (replyTo (h .session) random (fragmentOf d r) plan))) ∷ past) (answeredWith h random (fragmentOf d r) plan)
+    new-reply : (plan : Plan) → Greets h d r → heardOf (fragmentOf d r) (h .id) ≡ H.Accepted plan
+        → KeptAs session (answered random d r (W.Reply (length (replyTo (planted h) random (fragmentOf d r) plan))) ∷ past) (answeredWith h random (fragmentOf d r) plan)
+        → Progress session (answered random d r (W.Reply (length (replyTo (planted h) random (fragmentOf d r) plan))) ∷ past) (answeredWith h random (fragmentOf d r) plan)
     unfolding answeredWith lastReply
     new-reply plan g e k =
         let l : barredIn past ≡ false = live session past h (p .kept) (greets-live h d r (g .another)) in
@@ -242,7 +242,7 @@ module _ (session : Session) (past : List Happened) (h : Handshake) (p : Progres
     by-row (row-hello-malformed fault g e) k = same-state (W.Refused X.Malformed) h k refl refl refl
     by-row (row-unacceptable condition g e) k = same-state (W.Refused X.Unacceptable) h k refl refl refl
     by-row (row-resent s i z e) k = same-state (W.Resent (length (keptReply h))) h k refl refl refl
-    by-row (row-change s q c e) k = go-on W.Spec (withState (withWindow h (emptied (h .window))) S.Spec) S.Spec k refl (ap hasReplied s) refl (λ z. absurd (never z))
+    by-row (row-change s q c e) k = go-on W.Spec (withState (withWindow h (emptied (h .protection .window))) S.Spec) S.Spec k refl (ap hasReplied s) refl (λ z. absurd (never z))
     by-row (row-change-malformed s q c e) k = same-state (W.Refused X.Malformed) h k refl refl refl
     by-row (row-clear-malformed s q c e) k = same-state (W.Refused X.Malformed) h k refl refl refl
     by-row (row-checksum a s q c e n) k = same-state (W.Refused X.Checksum) h k refl refl refl

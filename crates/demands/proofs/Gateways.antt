@@ -259,7 +259,7 @@ unfolding one-of-two
 first-row =
     row-not-allowed (ap ended (w .replied-is)) (ap (λ s. helloWhileOpen s two one-of-two) (w .replied-is)) (ap (λ s. allowed s two one-of-two) (w .replied-is))
 
-second-row : Row (w .h₁) exampleRandom two two-of-two (judged W.Spec (withState (withWindow (w .h₁) (emptied (w .h₁ .window))) S.Spec))
+second-row : Row (w .h₁) exampleRandom two two-of-two (judged W.Spec (withState (withWindow (w .h₁) (emptied (w .h₁ .protection .window))) S.Spec))
 unfolding two two-of-two isChange
 second-row = row-change (w .replied-is) refl refl refl
 
@@ -272,7 +272,7 @@ first-only-table a table =
     let left : firstOnly a (connectionOf h) (receive two exampleRandom exampleOut) .connection .handshake ≡ h
     = ap (λ x. byRecords (connectionOf h) exampleOut (firstThen a h exampleRandom two) (firstLeaves h exampleRandom two) x .connection .handshake) two-framed
     ∙ ap (λ j. j .handshake) first in
-    let right : endOf h exampleRandom two (one-of-two ∷ two-of-two ∷ []) ≡ withState (withWindow h (emptied (h .window))) S.Spec
+    let right : endOf h exampleRandom two (one-of-two ∷ two-of-two ∷ []) ≡ withState (withWindow h (emptied (h .protection .window))) S.Spec
     = ap (λ j. judgedRecord (j .handshake) exampleRandom two two-of-two .handshake) first
     ∙ ap (λ j. j .handshake) (row-is h exampleRandom two two-of-two second-row) in
     let z : S.Replied ≡ S.Spec

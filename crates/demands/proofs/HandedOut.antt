@@ -101,9 +101,9 @@ module _ (width : ℕ) (held : Held width) (numbers : List ℕ) (s : ℕ) where
 pub record Along (k : Keys) (expected : List ℕ) (course : Course) (h : Handshake) : Type 0 where
   pub is-open : course .shut ≡ false → h .state ≡ S.Open
   pub keys-same : course .shut ≡ false → keysOf h ≡ k
-  pub expected-same : course .shut ≡ false → h .agreed .expected ≡ expected
+  pub expected-same : course .shut ≡ false → h .expected ≡ expected
   pub held : Held (course .width)
-  pub window-same : course .shut ≡ false → h .window ≡ windowOf (course .width) (course .numbers)
+  pub window-same : course .shut ≡ false → h .protection .window ≡ windowOf (course .width) (course .numbers)
   pub is-ended : course .shut ≡ true → ended (h .state) ≡ true
 
 module _ (k : Keys) (expected : List ℕ) (course : Course) (h : Handshake) (a : Along k expected course h) where
@@ -138,7 +138,7 @@ module _ (k : Keys) (expected : List ℕ) (course : Course) (h : Handshake) (a :
       one-more c s n =
           λ i. pick (z i) course (pick (genuine-yes c s i) (pick (n i) (record { width = course .width; numbers = r .number ∷ course .numbers; shut = contentShuts (r .content) (sealed-content k d r c s i) expected }) course) course)
 
-      window-at : (x : Acceptance) → acceptOf (h .window) (r .number) ≡ x → acceptOf (windowOf (course .width) (course .numbers)) (r .number) ≡ x
+      window-at : (x : Acceptance) → acceptOf (h .protection .window) (r .number) ≡ x → acceptOf (windowOf (course .width) (course .numbers)) (r .number) ≡ x
       window-at x e = sym (ap (λ w. acceptOf w (r .number)) (a .window-same z)) ∙ e
 
       -- nothing used up, nothing changed
@@ -149,8 +149,8 @@ module _ (k : Keys) (expected : List ℕ) (course : Course) (h : Handshake) (a :
       clear-same p = unchanged (not-genuine (ap (λ b. pick b (genuineBy (hmac (unitKey k (r .number))) (sizeOf (k .mac)) (r .number) (r .byte) (fragmentOf d r)) false) p))
 
       -- a new number
-      used : (c : List ℕ) (w : Window) → New h d r c w → (x : Handshake) → x .window ≡ w
-          → (contentShuts (r .content) c expected ≡ false → (x .state ≡ S.Open) × (keysOf x ≡ k) × (x .agreed .expected ≡ expected))
+      used : (c : List ℕ) (w : Window) → New h d r c w → (x : Handshake) → x .protection .window ≡ w
+          → (contentShuts (r .content) c expected ≡ false → (x .state ≡ S.Open) × (keysOf x ≡ k) × (x .expected ≡ expected))
           → (contentShuts (r .content) c expected ≡ true → ended (x .state) ≡ true)
           → Along k expected (withRecord k expected course d r) x
       used c w n x ew o s =
@@ -174,15 +174,15 @@ module _ (k : Keys) (expected : List ℕ) (course : Course) (h : Handshake) (a :
           used c w n (withWindow h w) refl (λ _. (a .is-open z, a .keys-same z, a .expected-same z))
           (λ g. true-false (contentShuts (r .content) c expected) g (ap (λ y. contentShuts y c expected) ec ∙ f))
 
-      closes : (c : List ℕ) (w : Window) → New h d r c w → (t : Content) → r .content ≡ t → contentShuts t c expected ≡ true → (x : Handshake) → x .window ≡ w
+      closes : (c : List ℕ) (w : Window) → New h d r c w → (t : Content) → r .content ≡ t → contentShuts t c expected ≡ true → (x : Handshake) → x .protection .window ≡ w
           → ended (x .state) ≡ true → Along k expected (withRecord k expected course d r) x
       closes c w n t ec f x ew g =
           used c w n x ew (λ y. true-false (contentShuts (r .content) c expected) (ap (λ v. contentShuts v c expected) ec ∙ f) y) (λ _. g)
 
-      verdict-at : (c : List ℕ) (x : Verdict) → verdictOf c (h .agreed .expected) ≡ x → verdictOf c expected ≡ x
+      verdict-at : (c : List ℕ) (x : Verdict) → verdictOf c (h .expected) ≡ x → verdictOf c expected ≡ x
       verdict-at c x e = sym (ap (verdictOf c) (a .expected-same z)) ∙ e
 
-      malformed-shuts : (c : List ℕ) (t : Content) → MalformedAs t c (h .agreed .expected) → contentShuts t c expected ≡ false
+      malformed-shuts : (c : List ℕ) (t : Content) → MalformedAs t c (h .expected) → contentShuts t c expected ≡ false
       malformed-shuts c C.ChangeCipherSpec m = refl
       malformed-shuts c C.Alert m = ap alertShuts m
       malformed-shuts c C.Handshake m = ap finishedShuts (verdict-at c F.Malformed m)

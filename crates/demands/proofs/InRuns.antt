@@ -57,11 +57,11 @@ module _ (h : Handshake) (random d : List ℕ) (r : Record) where
   abbrev RefusedFacts : Refusal → Type 0
   RefusedFacts (X.Framing fault) = Unit
   RefusedFacts X.Forged = (c : List ℕ) → Sealed (keysOf h) d r c → ⊥
-  RefusedFacts X.TooOld = (acceptOf (h .window) (r .number) ≡ A.TooOld) × ((c : List ℕ) × Sealed (keysOf h) d r c)
-  RefusedFacts X.Repeated = (acceptOf (h .window) (r .number) ≡ A.Repeated) × ((c : List ℕ) × Sealed (keysOf h) d r c)
-  RefusedFacts X.Checksum = (a : Alert) × (alertOf (fragmentOf d r) ≡ R.WellFormed a) × (a .checksum ≢ h .sending .last)
+  RefusedFacts X.TooOld = (acceptOf (h .protection .window) (r .number) ≡ A.TooOld) × ((c : List ℕ) × Sealed (keysOf h) d r c)
+  RefusedFacts X.Repeated = (acceptOf (h .protection .window) (r .number) ≡ A.Repeated) × ((c : List ℕ) × Sealed (keysOf h) d r c)
+  RefusedFacts X.Checksum = (a : Alert) × (alertOf (fragmentOf d r) ≡ R.WellFormed a) × (a .checksum ≢ h .last)
   RefusedFacts X.WrongFinished =
-      (c : List ℕ) × Sealed (keysOf h) d r c × (r .content ≡ C.Handshake) × (judgedOf c (h .agreed .expected) ≡ F.Wrong)
+      (c : List ℕ) × Sealed (keysOf h) d r c × (r .content ≡ C.Handshake) × (judgedOf c (h .expected) ≡ F.Wrong)
   RefusedFacts X.Room = Unit
   RefusedFacts X.Ended = Unit
   RefusedFacts X.NotAllowed = Unit
@@ -141,7 +141,7 @@ module _ (session : Session) (past : List Happened) (h : Handshake) (p : Progres
     of-history : (c : List ℕ) → Genuine (keysIn session past) d r c → Sealed (keysOf h) d r c
     of-history c s = subst (λ k. Sealed k d r c) (sym (keys-are session past h p l)) (s .is-sealed)
 
-    window-at : acceptOf (h .window) (r .number) ≡ judgedIn windowWidth (acceptedIn past) (r .number)
+    window-at : acceptOf (h .protection .window) (r .number) ≡ judgedIn windowWidth (acceptedIn past) (r .number)
     window-at = ap (λ w. acceptOf w (r .number)) (p .kept .window-is) ∙ by-history windowWidth held-ours (acceptedIn past) (r .number)
 
     nine : (judgedRecord h random d r .answer ≡ W.Refused X.Forged) ↔ ((c : List ℕ) → Genuine (keysIn session past) d r c → ⊥)

@@ -93,17 +93,17 @@ fatal-framed : framingOf fatal-datagram ≡ framed (fatal-record ∷ [])
 unfolding fatal-alert
 fatal-framed = alone-framed (keysOf (w .h₃)) C.Alert 7 (lit≤ tt) fatal-alert (lit≤ tt)
 
-data-is-done : (h : Handshake) → h .state ≡ S.Open → h .sending .protected ≡ 1 → dataSent (connectionOf h) exampleData (length exampleOut) .outcome ≡ O.Done
+data-is-done : (h : Handshake) → h .state ≡ S.Open → h .protection .protected ≡ 1 → dataSent (connectionOf h) exampleData (length exampleOut) .outcome ≡ O.Done
 unfolding stepOf
 data-is-done h s n =
     ap (λ x. outcomeIn (x .result))
-    (call-is (connectionOf h) (data-sent {bytes = exampleData} {out = exampleOut} (record { some = lit≤ tt; most = lit≤ tt }) s (omega arith) (omega (arith, size-most (h .agreed .mac)))))
+    (call-is (connectionOf h) (data-sent {bytes = exampleData} {out = exampleOut} (record { some = lit≤ tt; most = lit≤ tt }) s (omega arith) (omega (arith, size-most (h .protection .keys .mac)))))
 
-alert-is-done : (h : Handshake) → h .state ≡ S.Open → h .sending .protected ≡ 1 → alertSent (connectionOf h) true 1 0 [] (length exampleOut) .outcome ≡ O.Done
+alert-is-done : (h : Handshake) → h .state ≡ S.Open → h .protection .protected ≡ 1 → alertSent (connectionOf h) true 1 0 [] (length exampleOut) .outcome ≡ O.Done
 unfolding stepOf
 alert-is-done h s n =
     ap (λ x. outcomeIn (x .result))
-    (call-is (connectionOf h) (alert-sent {sealed = true} {out = exampleOut} {l = L.Warning} {k = D.ConnectionCloseNotify} (record { level-is = level-back L.Warning; description-is = description-back D.ConnectionCloseNotify; lent-most = lit≤ tt }) (ap (mayAlert true) s) (omega arith) (omega (arith, size-most (h .agreed .mac)))))
+    (call-is (connectionOf h) (alert-sent {sealed = true} {out = exampleOut} {l = L.Warning} {k = D.ConnectionCloseNotify} (record { level-is = level-back L.Warning; description-is = description-back D.ConnectionCloseNotify; lent-most = lit≤ tt }) (ap (mayAlert true) s) (omega arith) (omega (arith, size-most (h .protection .keys .mac)))))
 
 pub instances : Instances
 unfolding run w₀
@@ -114,7 +114,7 @@ instances =
         es = run;
         sound = opening-sound exampleId exampleSecret exampleRandom exampleData refl example-walk;
         is-open = opening-open exampleId exampleSecret exampleRandom exampleData refl example-walk;
-        just-open = record { is-open = opening-open exampleId exampleSecret exampleRandom exampleData refl example-walk; window-is = ap (λ x. x .window) run-leaves ∙ w .window-is };
+        just-open = record { is-open = opening-open exampleId exampleSecret exampleRandom exampleData refl example-walk; window-is = ap (λ x. x .protection .window) run-leaves ∙ w .window-is };
         random = exampleRandom;
         d = w .d₄;
         r = w .r₄;

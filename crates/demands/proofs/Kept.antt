@@ -27,7 +27,7 @@ use Rattle.message.specs.declared.acceptance.Plan.{Plan}
 use Rattle.message.specs.declared.acceptance.Heard.the-variants as H
 use Rattle.connection.specs.Calls.{sessionOf}
 use Rattle.digest.specs.declared.mac.Mac.{Mac}
-use Rattle.connection.specs.Handshake.{withState, withWindow, barred, reopened, nothingKept, noSession, nothingAgreed, keptHello, keptReply}
+use Rattle.connection.specs.Handshake.{withState, withWindow, barred, reopened, nothingKept, noSession, keptHello, keptReply, planted}
 use Rattle.connection.specs.Judge.{judgedRecord, fragmentOf}
 use Rattle.connection.specs.Reply.{answeredWith, replyTo, padTo}
 use Rattle.connection.specs.Send.{nextProtected, nextAlert, alertBody, afterAlert}
@@ -46,7 +46,7 @@ use Rattle.demands.specs.Table.{row-ended, row-hello-while-open, row-not
 use Rattle.demands.specs.Calls.{CallRow, data-16, data-7, data-8, data-15, data-6, data-sent, alert-16, alert-7, alert-8, alert-15, alert-6, alert-sent, close-7, close-done, start-7, start-8, start-done}
 use Rattle.demands.specs.Refusals.{writtenBy}
 use Rattle.demands.specs.Events.{Event, took, sending, alerting, closing, starting, Sound, AllSound, Happened, answered, wrote, closed, started, refused, ifDone, connectionOf, next, happening, after, history}
-use Rattle.demands.specs.Past.{greeting, isReply, isSpec, isBarred, marks, lastReply, keptGreeting, agreedFor, agreedAs, helloAs, replyFor, replyHeard, nextSealed, nextClearNumber, lastWritten, lastHeard, acceptedIn, barredIn}
+use Rattle.demands.specs.Past.{greeting, isReply, isSpec, isBarred, marks, lastReply, keptGreeting, agreedFor, agreedAs, helloAs, replyFor, replyHeard, nextSealed, nextClearNumber, lastWritten, lastHeard, acceptedIn, barredIn, agreedOf, nothingAgreed, Agreed}
 use Rattle.demands.specs.Runs.{freshWith}
 use Rattle.demands.specs.Kept.{KeptAs, KeptIsWhatHappened}
 use Rattle.demands.proofs.Genuine.{true-false}
@@ -61,11 +61,6 @@ use Rattle.demands.proofs.Refusals.{outcomeIn, laid-front}
 pub window-more : (width : ℕ) → Held width → (past : List ℕ) (s : ℕ) (w : Window) (n : ℕ) → acceptOf (windowOf width past) s ≡ A.New w n
     → w ≡ windowOf width (s ∷ past)
 window-more width held past s w n e = new-means width past s w n (sym (meaning width held past s) ∙ e) .2
-
--- what is blank stays so
-blank-again : (m : Mac) (n : ℕ) → nothingAgreed m n ≡ nothingAgreed (nothingAgreed m n .mac) (nothingAgreed m n .refresh)
-unfolding nothingAgreed
-blank-again m n = refl
 
 -- ---- states
 
@@ -91,6 +86,15 @@ both-no : (b : Bool) → pick b false false ≡ false
 both-no true = refl
 both-no false = refl
 
+-- what we sent: the next numbers and the last record
+record Sending : Type 0 where
+  protected : ℕ
+  clear : ℕ
+  last : ℕ
+
+abbrev sendingOf : Handshake → Sending
+sendingOf h = record { protected = h .protection .protected; clear = h .protection .clear; last = h .last }
+
 module _ (session : Session) (past : List Happened) (h : Handshake) (k : KeptAs session past h) where
   -- a connection that is not ended was not barred
   pub live : ended (h .state) ≡ false → barredIn past ≡ false
@@ -102,8 +106,8 @@ module _ (session : Session) (past : List Happened) (h : Handshake) (k : KeptAs 
 
   module _ (random d : List ℕ) (r : Record) where
     -- an answer that is no reply and bars nothing
-    kept-by : (x : Handshake) (a : Answer) → isReply a ≡ false → isBarred a ≡ false → x .session ≡ h .session → x .agreed ≡ h .agreed
-        → x .kept ≡ h .kept → x .sending ≡ h .sending → x .window ≡ windowOf windowWidth (acceptedIn (answered random d r a ∷ past))
+    kept-by : (x : Handshake) (a : Answer) → isReply a ≡ false → isBarred a ≡ false → planted x ≡ planted h → agreedOf x ≡ agreedOf h
+        → x .kept ≡ h .kept → sendingOf x ≡ sendingOf h → x .protection .window ≡ windowOf windowWidth (acceptedIn (answered random d r a ∷ past))
         → (barredIn past ≡ true → x .state ≡ S.Barred) → KeptAs session (answered random d r a ∷ past) x
     unfolding lastReply keptGreeting nextSealed nextClearNumber lastWritten barredIn
     kept-by x a nr nb es ea ek en ew st =
@@ -153,7 +157,7 @@ module _ (session : Session) (past : List Happened) (h : Handshake) (k : KeptAs 
         kept-by h (W.Refused x) refl refl refl refl refl refl (k .window-is ∙ sym (ap (windowOf windowWidth) (accepted-unmarked (W.Refused x) refl m))) (λ f. k .barred-is f .0)
 
     clear-by : (a : Answer) (x : Handshake) → isReply a ≡ false → isBarred a ≡ false → isSpec a ≡ false → r .protected ≡ false
-        → x .session ≡ h .session → x .agreed ≡ h .agreed → x .kept ≡ h .kept → x .sending ≡ h .sending → x .window ≡ h .window
+        → planted x ≡ planted h → agreedOf x ≡ agreedOf h → x .kept ≡ h .kept → sendingOf x ≡ sendingOf h → x .protection .window ≡ h .protection .window
         → ended (h .state) ≡ false → KeptAs session (answered random d r a ∷ past) x
     clear-by a x nr nb ns p es ea ek en ew l =
         kept-by x a nr nb es ea ek en (ew ∙ k .window-is ∙ sym (ap (windowOf windowWidth) (accepted-clear a ns p)))
@@ -172,23 +176,23 @@ module _ (session : Session) (past : List Happened) (h : Handshake) (k : KeptAs 
         kept-by (withState (withWindow h w) s) a nr nb refl refl refl refl (window-marked c w n a ns m)
         (λ f. true-false (barredIn past) f (live (sealed-live (h .state) (r .content) (n .guarded .kind))))
 
-    replied : (plan : Plan) → Greets h d r → heardOf (fragmentOf d r) (h .session .id) ≡ H.Accepted plan
-        → KeptAs session (answered random d r (W.Reply (length (replyTo (h .session) random (fragmentOf d r) plan))) ∷ past) (answeredWith h random (fragmentOf d r) plan)
+    replied : (plan : Plan) → Greets h d r → heardOf (fragmentOf d r) (h .id) ≡ H.Accepted plan
+        → KeptAs session (answered random d r (W.Reply (length (replyTo (planted h) random (fragmentOf d r) plan))) ∷ past) (answeredWith h random (fragmentOf d r) plan)
     unfolding answeredWith lastReply keptGreeting nextSealed nextClearNumber lastWritten barredIn
     replied plan g e =
         let m : List ℕ = fragmentOf d r in
-        let reply : List ℕ = replyTo (h .session) random m plan in
+        let reply : List ℕ = replyTo (planted h) random m plan in
         let l : barredIn past ≡ false = live (greets-live h d r (g .another)) in
-        let es : h .session ≡ session = k .session-is l in
+        let es : planted h ≡ session = k .session-is l in
         record {
           session-is = λ f. es;
-          agreed-is = λ f. ap (agreedAs (h .session) random m) (sym e) ∙ ap (λ s. agreedAs s random m (heardOf m (s .id))) es;
+          agreed-is = λ f. ap (agreedAs (planted h) random m) (sym e) ∙ ap (λ s. agreedAs s random m (heardOf m (s .id))) es;
           hello-is = λ f. take-at m (replicate (256 - length m) 0) (length m) refl;
           reply-is = λ f. take-at reply (replicate (84 - length reply) 0) (length reply) refl
-              ∙ ap (replyHeard (h .session) random m) (sym e) ∙ ap (λ s. replyHeard s random m (heardOf m (s .id))) es;
+              ∙ ap (replyHeard (planted h) random m) (sym e) ∙ ap (λ s. replyHeard s random m (heardOf m (s .id))) es;
           sealed-is = refl;
           clear-is = refl;
-          last-is = ap (λ x. wordAt (checksumOf (lastHeard (h .session) random m x)) 0) (sym e)
+          last-is = ap (λ x. wordAt (checksumOf (lastHeard (planted h) random m x)) 0) (sym e)
               ∙ ap (λ s. wordAt (checksumOf (lastHeard s random m (heardOf m (s .id)))) 0) es;
           window-is = k .window-is ∙ sym (ap (windowOf windowWidth) (accepted-unmarked (W.Reply (length reply)) refl refl));
           barred-is = λ f. true-false (barredIn past) f l;
@@ -196,7 +200,7 @@ module _ (session : Session) (past : List Happened) (h : Handshake) (k : KeptAs 
 
     barred-by : (c : List ℕ) (w : Window) → New h d r c w → (x : Description)
         → KeptAs session (answered random d r (W.Barred x) ∷ past) (barred (withWindow h w))
-    unfolding nextSealed nextClearNumber lastWritten barredIn
+    unfolding nextSealed nextClearNumber lastWritten barredIn nothingAgreed noSession
     barred-by c w n x =
         record {
           session-is = λ f. true-false true refl f;
@@ -207,10 +211,10 @@ module _ (session : Session) (past : List Happened) (h : Handshake) (k : KeptAs 
           clear-is = k .clear-is;
           last-is = k .last-is;
           window-is = window-marked c w n (W.Barred x) refl refl;
-          barred-is = λ f. (refl, refl, refl, blank-again (h .agreed .mac) (h .agreed .refresh));
+          barred-is = λ f. (refl, refl, refl, refl);
         }
 
-    fresh-again : emptied (h .window) ≡ windowOf windowWidth (acceptedIn (answered random d r W.Spec ∷ past))
+    fresh-again : emptied (h .protection .window) ≡ windowOf windowWidth (acceptedIn (answered random d r W.Spec ∷ past))
     unfolding acceptedIn
     fresh-again = ap emptied (k .window-is) ∙ fresh-means windowWidth
 
@@ -227,7 +231,7 @@ module _ (session : Session) (past : List Happened) (h : Handshake) (k : KeptAs 
     by-row (row-resent s i z e) =
         clear-by (W.Resent (length (keptReply h))) h refl refl refl (hello-clear h random d r i) refl refl refl refl refl (hears-live (h .state) s)
     by-row (row-change s p c e) =
-        kept-by (withState (withWindow h (emptied (h .window))) S.Spec) W.Spec refl refl refl refl refl refl fresh-again (λ f. true-false (barredIn past) f (live (ap ended s)))
+        kept-by (withState (withWindow h (emptied (h .protection .window))) S.Spec) W.Spec refl refl refl refl refl refl fresh-again (λ f. true-false (barredIn past) f (live (ap ended s)))
     by-row (row-change-malformed s p c e) = clear-by (W.Refused X.Malformed) h refl refl refl p refl refl refl refl refl (ap ended s)
     by-row (row-clear-malformed s p c e) = clear-by (W.Refused X.Malformed) h refl refl refl p refl refl refl refl refl (hears-live (h .state) s)
     by-row (row-checksum a s p c e n) = refused-by X.Checksum refl

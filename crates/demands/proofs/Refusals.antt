@@ -17,7 +17,6 @@ use Rattle.record.specs.declared.reader.Fault.{Fault}
 use Rattle.record.specs.declared.reader.Fault.the-variants as F
 use Rattle.connection.specs.Refusal.{refusalNumber}
 use Rattle.connection.specs.Answer.{replySize}
-use Rattle.connection.specs.Handshake.{withSending}
 use Rattle.connection.specs.Judge.{judgedRecord}
 use Rattle.connection.specs.Receive.{firstReply, sentBy}
 use Rattle.connection.specs.Send.{nextProtected, afterAlert, nextAlert, alertBody}

@@ -14,7 +14,7 @@ use Rattle.message.specs.declared.acceptance.Plan.{Plan}
 use Rattle.message.specs.declared.acceptance.Heard.the-variants as H
 use Rattle.connection.specs.Answer.{judged}
 use Rattle.connection.specs.Calls.{sessionOf}
-use Rattle.connection.specs.Handshake.{keptHello, keptReply}
+use Rattle.connection.specs.Handshake.{keptHello, keptReply, planted}
 use Rattle.connection.specs.Judge.{judgedRecord, fragmentOf}
 use Rattle.connection.specs.Receive.{firstReply, sentBy, endOf, answersOf}
 use Rattle.connection.specs.Reply.{replyTo, answeredWith}
@@ -47,13 +47,13 @@ module _ (session : Session) (past : List Happened) (h : Handshake) (k : KeptAs 
   Sent j =
       (bytes : List ℕ) × Sends session past random (fragmentOf d r) bytes (j .answer) × (sentBy j ≡ bytes)
 
-  replied : (plan : Plan) → Greets h d r → heardOf (fragmentOf d r) (h .session .id) ≡ H.Accepted plan
-      → Sent (judged (W.Reply (length (replyTo (h .session) random (fragmentOf d r) plan))) (answeredWith h random (fragmentOf d r) plan))
+  replied : (plan : Plan) → Greets h d r → heardOf (fragmentOf d r) (h .id) ≡ H.Accepted plan
+      → Sent (judged (W.Reply (length (replyTo (planted h) random (fragmentOf d r) plan))) (answeredWith h random (fragmentOf d r) plan))
   unfolding answeredWith
   replied plan g e =
       let m : List ℕ = fragmentOf d r in
-      let es : h .session ≡ session = k .session-is (live session past h k (greets-live h d r (g .another))) in
-      let reply : List ℕ = replyTo (h .session) random m plan in
+      let es : planted h ≡ session = k .session-is (live session past h k (greets-live h d r (g .another))) in
+      let reply : List ℕ = replyTo (planted h) random m plan in
       let same : reply ≡ replyTo session random m plan = ap (λ s. replyTo s random m plan) es in (
         replyTo session random m plan,
         (plan, sym (ap (λ s. heardOf m (s .id)) es) ∙ e, refl, ap length (sym same)),

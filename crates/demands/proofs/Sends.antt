@@ -22,6 +22,7 @@ use Rattle.message.specs.declared.alert.Graded.the-variants as G
 use Rattle.message.specs.declared.alert.Sorted.{Sorted}
 use Rattle.message.specs.declared.alert.Sorted.the-variants as D
 use Rattle.connection.specs.Calls.{sessionOf}
+use Rattle.record.specs.Protection.{recordUnder}
 use Rattle.connection.specs.Send.{nextProtected, nextClear, nextAlert, alertBody}
 use Rattle.connection.specs.declared.state.State.{State}
 use Rattle.connection.specs.declared.state.State.the-variants as S
@@ -92,19 +93,19 @@ one-description : (k m : Description) (s : Sorted) → s ≡ D.Assigned k → s 
 one-description k m s e f = cc
 
 module _ (session : Session) (past : List Happened) (h : Handshake) (p : Progress session past h) where
-  sealed-by : (content : Content) (body : List ℕ) → h .sending .protected ≤ 65535 → ended (h .state) ≡ false
+  sealed-by : (content : Content) (body : List ℕ) → h .protection .protected ≤ 65535 → ended (h .state) ≡ false
       → SealedRecord (keysIn session past) content (nextSealed past) body (nextProtected h content body)
-  unfolding nextProtected
+  unfolding nextProtected recordUnder
   sealed-by content body n l =
       let e : keysOf h ≡ keysIn session past = keys-are session past h p (live session past h (p .kept) l) in
       subst (λ k. SealedRecord k content (nextSealed past) body (nextProtected h content body)) e
       (subst (λ s. SealedRecord (keysOf h) content s body (nextProtected h content body)) (p .kept .sealed-is)
-      (sealed-record (keysOf h) content (h .sending .protected) body n))
+      (sealed-record (keysOf h) content (h .protection .protected) body n))
 
-  clear-by : (body : List ℕ) → 1 ≤ length body → h .sending .clear ≤ 65535 → ClearRecord (nextClearNumber past) body (nextClear h body)
+  clear-by : (body : List ℕ) → 1 ≤ length body → h .protection .clear ≤ 65535 → ClearRecord (nextClearNumber past) body (nextClear h body)
   unfolding nextClear
   clear-by body some n =
-      subst (λ s. ClearRecord s body (nextClear h body)) (p .kept .clear-is) (clear-record (h .sending .clear) body some n)
+      subst (λ s. ClearRecord s body (nextClear h body)) (p .kept .clear-is) (clear-record (h .protection .clear) body some n)
 
   data-by : (bytes out : List ℕ) {s : Step} → CallRow (connectionOf h) (send-data bytes out) s → outcomeIn (s .result) ≡ O.Done
       → SealedRecord (keysIn session past) C.Data (nextSealed past) bytes (take (writtenBy (s .result)) (s .output))

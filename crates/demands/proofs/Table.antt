@@ -38,7 +38,8 @@ use Rattle.connection.specs.State.{kindOf, ruleOf}
 use Rattle.connection.specs.Handshake.{withState, withWindow, keptHello, keptReply}
 use Rattle.connection.specs.Answer.{judged, refusing}
 use Rattle.connection.specs.Clear.{greetedBy, greetedAgain, changedBy, heardAlert, heardTo, heardBy, byLevel}
-use Rattle.connection.specs.Sealed.{unsealedBy, genuineIn, contentIn, windowedTo, contentBy, alertedBy, alertedTo, sealedLevel, verifiedBy, verifiedTo, finishedIn}
+use Rattle.connection.specs.Sealed.{unsealedBy, contentBy, alertedBy, alertedTo, sealedLevel, verifiedBy, verifiedTo, finishedIn}
+use Rattle.connection.proofs.Unsealing.{genuineIn, contentIn, windowedTo, unsealed-is}
 use Rattle.connection.specs.Judge.{judgedRecord, ruledBy, fragmentOf, kindIn}
 use Rattle.connection.specs.declared.state.State.{State}
 use Rattle.connection.specs.declared.state.State.the-variants as S
@@ -181,7 +182,7 @@ module _ (h : Handshake) (random d : List ℕ) (r : Record) where
       row-not-allowed (ap ended es ∙ e) ((λ i. pick (openIs (es i)) (helloFor (ec i) (ep i) (eo i)) false) ∙ o) (allowed-is s c p one es ec ep eo ∙ a)
 
   -- hellos
-  heard-row : Greets h d r → (x : Heard) → heardOf (fragmentOf d r) (h .session .id) ≡ x → Row h random d r (heardTo h random (fragmentOf d r) x)
+  heard-row : Greets h d r → (x : Heard) → heardOf (fragmentOf d r) (h .id) ≡ x → Row h random d r (heardTo h random (fragmentOf d r) x)
   heard-row g (H.Accepted plan) e = row-reply plan g e
   heard-row g (H.Unacceptable condition) e = row-unacceptable condition g e
   heard-row g (H.Malformed fault) e = row-hello-malformed fault g e
@@ -190,7 +191,7 @@ module _ (h : Handshake) (random d : List ℕ) (r : Record) where
       → Row h random d r (pick b (greetedBy h random (fragmentOf d r)) (refusing X.NotAllowed h))
   unfolding greetedBy
   greet-row s a i true b =
-      heard-row (record { hello = i; first = eqb-true (r .start) 0 b; another = inl s }) (heardOf (fragmentOf d r) (h .session .id)) refl
+      heard-row (record { hello = i; first = eqb-true (r .start) 0 b; another = inl s }) (heardOf (fragmentOf d r) (h .id)) refl
   greet-row s a i false b = row-not-first a i (λ z. eqb-false (r .start) 0 b z)
 
   kept-row : Hears (h .state) → isHello d r ≡ true → r .start ≡ 0 → (b : Bool) → sameBytes (fragmentOf d r) (keptHello h) ≡ b
@@ -200,7 +201,7 @@ module _ (h : Handshake) (random d : List ℕ) (r : Record) where
   kept-row s i z false b =
       heard-row
       (record { hello = i; first = z; another = inr (s, λ e. true-false (sameBytes (fragmentOf d r) (keptHello h)) (equal-same (fragmentOf d r) (keptHello h) e) b) })
-      (heardOf (fragmentOf d r) (h .session .id)) refl
+      (heardOf (fragmentOf d r) (h .id)) refl
 
   again-row : Hears (h .state) → allowed (h .state) d r ≡ true → isHello d r ≡ true → (b : Bool) → eqb (r .start) 0 ≡ b
       → Row h random d r (pick b (greetedAgain h random (fragmentOf d r)) (refusing X.NotAllowed h))
@@ -210,34 +211,34 @@ module _ (h : Handshake) (random d : List ℕ) (r : Record) where
 
   -- change cipher spec
   change-row : h .state ≡ S.Replied → r .protected ≡ false → r .content ≡ C.ChangeCipherSpec → (b : Bool) → isChange (fragmentOf d r) ≡ b
-      → Row h random d r (pick b (judged W.Spec (withState (withWindow h (emptied (h .window))) S.Spec)) (refusing X.Malformed h))
+      → Row h random d r (pick b (judged W.Spec (withState (withWindow h (emptied (h .protection .window))) S.Spec)) (refusing X.Malformed h))
   change-row s p c true b = row-change s p c b
   change-row s p c false b = row-change-malformed s p c b
 
   -- clear alerts
   level-row : (a : Alert) → Hears (h .state) → r .protected ≡ false → r .content ≡ C.Alert → alertOf (fragmentOf d r) ≡ R.WellFormed a
-      → a .checksum ≡ h .sending .last → (l : Level) → a .level ≡ l → Row h random d r (byLevel h l (a .description))
+      → a .checksum ≡ h .last → (l : Level) → a .level ≡ l → Row h random d r (byLevel h l (a .description))
   level-row a s p c w k L.Warning e = row-clear-warning a s p c w k e
   level-row a s p c w k L.Critical e = row-clear-critical a s p c w k e
   level-row a s p c w k L.Fatal e = row-clear-fatal a s p c w k e
 
   checksum-row : (a : Alert) → Hears (h .state) → r .protected ≡ false → r .content ≡ C.Alert → alertOf (fragmentOf d r) ≡ R.WellFormed a
-      → (b : Bool) → eqb (a .checksum) (h .sending .last) ≡ b
+      → (b : Bool) → eqb (a .checksum) (h .last) ≡ b
       → Row h random d r (pick b (byLevel h (a .level) (a .description)) (refusing X.Checksum h))
-  checksum-row a s p c w true b = level-row a s p c w (eqb-true (a .checksum) (h .sending .last) b) (a .level) refl
-  checksum-row a s p c w false b = row-checksum a s p c w (eqb-false (a .checksum) (h .sending .last) b)
+  checksum-row a s p c w true b = level-row a s p c w (eqb-true (a .checksum) (h .last) b) (a .level) refl
+  checksum-row a s p c w false b = row-checksum a s p c w (eqb-false (a .checksum) (h .last) b)
 
   hear-row : Hears (h .state) → r .protected ≡ false → r .content ≡ C.Alert → (x : Reading) → alertOf (fragmentOf d r) ≡ x
       → Row h random d r (heardBy h x)
   hear-row s p c R.Malformed e = row-clear-malformed s p c e
-  hear-row s p c (R.WellFormed a) e = checksum-row a s p c e (eqb (a .checksum) (h .sending .last)) refl
+  hear-row s p c (R.WellFormed a) e = checksum-row a s p c e (eqb (a .checksum) (h .last)) refl
 
   -- protected records
   data-row : (w : Window) → New h d r (contentIn h (fragmentOf d r)) w → r .content ≡ C.Data
       → (b : Bool) → eqb (length (contentIn h (fragmentOf d r))) 0 ≡ b
       → Row h random d r (pick b (refusing X.Malformed (withWindow h w)) (judged (W.Data (r .number) (r .start + r .head) (length (contentIn h (fragmentOf d r)))) (withWindow h w)))
   data-row w n c true b =
-      row-malformed (contentIn h (fragmentOf d r)) w n (subst (λ x. MalformedAs x (contentIn h (fragmentOf d r)) (h .agreed .expected)) (sym c) (eqb-true (length (contentIn h (fragmentOf d r))) 0 b))
+      row-malformed (contentIn h (fragmentOf d r)) w n (subst (λ x. MalformedAs x (contentIn h (fragmentOf d r)) (h .expected)) (sym c) (eqb-true (length (contentIn h (fragmentOf d r))) 0 b))
   data-row w n c false b =
       row-data (contentIn h (fragmentOf d r)) w n c (positive (length (contentIn h (fragmentOf d r))) (eqb-false (length (contentIn h (fragmentOf d r))) 0 b))
     where
@@ -254,11 +255,11 @@ module _ (h : Handshake) (random d : List ℕ) (r : Record) where
   alert-row : (w : Window) → New h d r (contentIn h (fragmentOf d r)) w → r .content ≡ C.Alert → (x : Reading)
       → alertOf (contentIn h (fragmentOf d r)) ≡ x → Row h random d r (alertedTo (withWindow h w) x)
   alert-row w n c R.Malformed e =
-      row-malformed (contentIn h (fragmentOf d r)) w n (subst (λ x. MalformedAs x (contentIn h (fragmentOf d r)) (h .agreed .expected)) (sym c) e)
+      row-malformed (contentIn h (fragmentOf d r)) w n (subst (λ x. MalformedAs x (contentIn h (fragmentOf d r)) (h .expected)) (sym c) e)
   alert-row w n c (R.WellFormed a) e = sealed-level-row w a n c e (a .level) refl
 
   right-row : (w : Window) → New h d r (contentIn h (fragmentOf d r)) w → r .content ≡ C.Handshake
-      → judgedOf (contentIn h (fragmentOf d r)) (h .agreed .expected) ≡ F.Right → (s : State) → h .state ≡ s → sealedAllowed s C.Handshake ≡ true
+      → judgedOf (contentIn h (fragmentOf d r)) (h .expected) ≡ F.Right → (s : State) → h .state ≡ s → sealedAllowed s C.Handshake ≡ true
       → Row h random d r (finishedIn (withWindow h w) s)
   right-row w n c e S.Idle es a = true-false false a refl
   right-row w n c e S.Replied es a = true-false false a refl
@@ -268,24 +269,24 @@ module _ (h : Handshake) (random d : List ℕ) (r : Record) where
   right-row w n c e S.Barred es a = true-false false a refl
 
   finished-row : (w : Window) → New h d r (contentIn h (fragmentOf d r)) w → r .content ≡ C.Handshake → (x : Verified)
-      → judgedOf (contentIn h (fragmentOf d r)) (h .agreed .expected) ≡ x → Row h random d r (verifiedTo (withWindow h w) x)
+      → judgedOf (contentIn h (fragmentOf d r)) (h .expected) ≡ x → Row h random d r (verifiedTo (withWindow h w) x)
   finished-row w n c F.Right e =
       right-row w n c e (h .state) refl (ap (sealedAllowed (h .state)) (sym c) ∙ n .guarded .kind)
   finished-row w n c F.Wrong e = row-wrong-finished (contentIn h (fragmentOf d r)) w n c e
   finished-row w n c F.Malformed e =
-      row-malformed (contentIn h (fragmentOf d r)) w n (subst (λ x. MalformedAs x (contentIn h (fragmentOf d r)) (h .agreed .expected)) (sym c) e)
+      row-malformed (contentIn h (fragmentOf d r)) w n (subst (λ x. MalformedAs x (contentIn h (fragmentOf d r)) (h .expected)) (sym c) e)
 
   content-row : (c : Content) (one : Bool) → r .content ≡ c → (w : Window) → New h d r (contentIn h (fragmentOf d r)) w
       → Row h random d r (contentBy (withWindow h w) (kindBy c true one) (r .number) (r .start + r .head) (contentIn h (fragmentOf d r)))
   unfolding contentBy alertedBy verifiedBy
   content-row C.ChangeCipherSpec one c w n =
-      row-malformed (contentIn h (fragmentOf d r)) w n (subst (λ x. MalformedAs x (contentIn h (fragmentOf d r)) (h .agreed .expected)) (sym c) tt)
+      row-malformed (contentIn h (fragmentOf d r)) w n (subst (λ x. MalformedAs x (contentIn h (fragmentOf d r)) (h .expected)) (sym c) tt)
   content-row C.Alert one c w n = alert-row w n c (alertOf (contentIn h (fragmentOf d r))) refl
-  content-row C.Handshake one c w n = finished-row w n c (judgedOf (contentIn h (fragmentOf d r)) (h .agreed .expected)) refl
+  content-row C.Handshake one c w n = finished-row w n c (judgedOf (contentIn h (fragmentOf d r)) (h .expected)) refl
   content-row C.Data one c w n = data-row w n c (eqb (length (contentIn h (fragmentOf d r))) 0) refl
 
   window-row : (c : Content) (one : Bool) → r .content ≡ c → Guarded h r → Sealed (keysOf h) d r (contentIn h (fragmentOf d r)) → (x : Acceptance)
-      → acceptOf (h .window) (r .number) ≡ x
+      → acceptOf (h .protection .window) (r .number) ≡ x
       → Row h random d r (windowedTo h (kindBy c true one) (r .number) (r .start + r .head) (contentIn h (fragmentOf d r)) x)
   window-row c one ec g s A.TooOld e = row-old (contentIn h (fragmentOf d r)) g s e
   window-row c one ec g s A.Repeated e = row-repeated (contentIn h (fragmentOf d r)) g s e
@@ -293,15 +294,21 @@ module _ (h : Handshake) (random d : List ℕ) (r : Record) where
 
   unseal-row : (s : State) (c : Content) (one : Bool) → h .state ≡ s → r .content ≡ c → r .protected ≡ true → sealedAllowed s c ≡ true
       → (b : Bool) → genuineIn h (r .byte) (r .number) (fragmentOf d r) ≡ b
-      → Row h random d r (pick b (windowedTo h (kindBy c true one) (r .number) (r .start + r .head) (contentIn h (fragmentOf d r)) (acceptOf (h .window) (r .number))) (refusing X.Forged h))
+      → Row h random d r (pick b (windowedTo h (kindBy c true one) (r .number) (r .start + r .head) (contentIn h (fragmentOf d r)) (acceptOf (h .protection .window) (r .number))) (refusing X.Forged h))
   unseal-row s c one es ec ep a true b =
-      window-row c one ec (record { protection = ep; kind = ap₂ sealedAllowed es ec ∙ a }) (right-sealed (keysOf h) d r ep b) (acceptOf (h .window) (r .number)) refl
+      window-row c one ec (record { protection = ep; kind = ap₂ sealedAllowed es ec ∙ a }) (right-sealed (keysOf h) d r ep b) (acceptOf (h .protection .window) (r .number)) refl
   unseal-row s c one es ec ep a false b =
       row-forged (record { protection = ep; kind = ap₂ sealedAllowed es ec ∙ a }) (λ x z. true-false (genuineIn h (r .byte) (r .number) (fragmentOf d r)) (sealed-right (keysOf h) d r x z) b)
 
+  unseal-at : (s : State) (c : Content) (one : Bool) → h .state ≡ s → r .content ≡ c → r .protected ≡ true → sealedAllowed s c ≡ true
+      → Row h random d r (unsealedBy h (kindBy c true one) (r .byte) (r .number) (r .start + r .head) (fragmentOf d r))
+  unseal-at s c one es ec ep a =
+      subst (Row h random d r) (sym (unsealed-is h (kindBy c true one) (r .byte) (r .number) (r .start + r .head) (fragmentOf d r)))
+      (unseal-row s c one es ec ep a (genuineIn h (r .byte) (r .number) (fragmentOf d r)) refl)
+
   by-state : (s : State) (c : Content) (p one : Bool) → h .state ≡ s → r .content ≡ c → r .protected ≡ p → beginsHello d r ≡ one
       → Row h random d r (ruledBy h random (ruleOf s (kindBy c p one)) (kindBy c p one) (r .byte) (r .number) (r .start) (r .start + r .head) (fragmentOf d r))
-  unfolding ruledBy changedBy heardAlert unsealedBy
+  unfolding ruledBy changedBy heardAlert
   by-state S.Idle C.ChangeCipherSpec false one es ec ep eo = refuse-8 S.Idle C.ChangeCipherSpec false one es ec ep eo refl refl refl
   by-state S.Idle C.ChangeCipherSpec true one es ec ep eo = refuse-8 S.Idle C.ChangeCipherSpec true one es ec ep eo refl refl refl
   by-state S.Idle C.Alert false one es ec ep eo = refuse-8 S.Idle C.Alert false one es ec ep eo refl refl refl
@@ -323,21 +330,21 @@ module _ (h : Handshake) (random d : List ℕ) (r : Record) where
   by-state S.Spec C.ChangeCipherSpec false one es ec ep eo = refuse-8 S.Spec C.ChangeCipherSpec false one es ec ep eo refl refl refl
   by-state S.Spec C.ChangeCipherSpec true one es ec ep eo = refuse-8 S.Spec C.ChangeCipherSpec true one es ec ep eo refl refl refl
   by-state S.Spec C.Alert false one es ec ep eo = hear-row (inr es) ep ec (alertOf (fragmentOf d r)) refl
-  by-state S.Spec C.Alert true one es ec ep eo = unseal-row S.Spec C.Alert one es ec ep refl (genuineIn h (r .byte) (r .number) (fragmentOf d r)) refl
+  by-state S.Spec C.Alert true one es ec ep eo = unseal-at S.Spec C.Alert one es ec ep refl
   by-state S.Spec C.Handshake false true es ec ep eo = again-row (inr es) (allowed-is S.Spec C.Handshake false true es ec ep eo) (hello-is C.Handshake false true ec ep eo) (eqb (r .start) 0) refl
   by-state S.Spec C.Handshake false false es ec ep eo = refuse-8 S.Spec C.Handshake false false es ec ep eo refl refl refl
-  by-state S.Spec C.Handshake true one es ec ep eo = unseal-row S.Spec C.Handshake one es ec ep refl (genuineIn h (r .byte) (r .number) (fragmentOf d r)) refl
+  by-state S.Spec C.Handshake true one es ec ep eo = unseal-at S.Spec C.Handshake one es ec ep refl
   by-state S.Spec C.Data false one es ec ep eo = refuse-8 S.Spec C.Data false one es ec ep eo refl refl refl
   by-state S.Spec C.Data true one es ec ep eo = refuse-8 S.Spec C.Data true one es ec ep eo refl refl refl
   by-state S.Open C.ChangeCipherSpec false one es ec ep eo = refuse-8 S.Open C.ChangeCipherSpec false one es ec ep eo refl refl refl
-  by-state S.Open C.ChangeCipherSpec true one es ec ep eo = unseal-row S.Open C.ChangeCipherSpec one es ec ep refl (genuineIn h (r .byte) (r .number) (fragmentOf d r)) refl
+  by-state S.Open C.ChangeCipherSpec true one es ec ep eo = unseal-at S.Open C.ChangeCipherSpec one es ec ep refl
   by-state S.Open C.Alert false one es ec ep eo = refuse-8 S.Open C.Alert false one es ec ep eo refl refl refl
-  by-state S.Open C.Alert true one es ec ep eo = unseal-row S.Open C.Alert one es ec ep refl (genuineIn h (r .byte) (r .number) (fragmentOf d r)) refl
+  by-state S.Open C.Alert true one es ec ep eo = unseal-at S.Open C.Alert one es ec ep refl
   by-state S.Open C.Handshake false true es ec ep eo = row-hello-while-open (λ i. pick (openIs (es i)) (helloFor (ec i) (ep i) (eo i)) false)
   by-state S.Open C.Handshake false false es ec ep eo = refuse-8 S.Open C.Handshake false false es ec ep eo refl refl refl
-  by-state S.Open C.Handshake true one es ec ep eo = unseal-row S.Open C.Handshake one es ec ep refl (genuineIn h (r .byte) (r .number) (fragmentOf d r)) refl
+  by-state S.Open C.Handshake true one es ec ep eo = unseal-at S.Open C.Handshake one es ec ep refl
   by-state S.Open C.Data false one es ec ep eo = refuse-8 S.Open C.Data false one es ec ep eo refl refl refl
-  by-state S.Open C.Data true one es ec ep eo = unseal-row S.Open C.Data one es ec ep refl (genuineIn h (r .byte) (r .number) (fragmentOf d r)) refl
+  by-state S.Open C.Data true one es ec ep eo = unseal-at S.Open C.Data one es ec ep refl
   by-state S.Closed c p one es ec ep eo = row-ended (ap ended es)
   by-state S.Barred c p one es ec ep eo = row-ended (ap ended es)
 
@@ -402,7 +409,7 @@ module _ (h : Handshake) (random d : List ℕ) (r : Record) where
   greets-by i z (inl es) = hello-ruled S.Idle i es ∙ first-is (greetedBy h random (fragmentOf d r)) (refusing X.NotAllowed h) z
   greets-by i z (inr (hs, ne)) = heard-again hs i z ∙ not-kept ne
 
-  greets-is : Greets h d r → (x : Heard) → heardOf (fragmentOf d r) (h .session .id) ≡ x
+  greets-is : Greets h d r → (x : Heard) → heardOf (fragmentOf d r) (h .id) ≡ x
       → judgedRecord h random d r ≡ heardTo h random (fragmentOf d r) x
   unfolding greetedBy
   greets-is g x e = greets-by (g .hello) (g .first) (g .another) ∙ ap (heardTo h random (fragmentOf d r)) e
@@ -420,30 +427,32 @@ module _ (h : Handshake) (random d : List ℕ) (r : Record) where
   heard-as (inr es) p c x e = ruled-at S.Spec C.Alert false (beginsHello d r) es c p refl ∙ ap (heardBy h) e
 
   heard-level : (a : Alert) → Hears (h .state) → r .protected ≡ false → r .content ≡ C.Alert → alertOf (fragmentOf d r) ≡ R.WellFormed a
-      → a .checksum ≡ h .sending .last → (l : Level) → a .level ≡ l → judgedRecord h random d r ≡ byLevel h l (a .description)
+      → a .checksum ≡ h .last → (l : Level) → a .level ≡ l → judgedRecord h random d r ≡ byLevel h l (a .description)
   heard-level a s p c e k l el =
       heard-as s p c (R.WellFormed a) e
-      ∙ ap (λ b. pick b (byLevel h (a .level) (a .description)) (refusing X.Checksum h)) (eq-eqb (a .checksum) (h .sending .last) k)
+      ∙ ap (λ b. pick b (byLevel h (a .level) (a .description)) (refusing X.Checksum h)) (eq-eqb (a .checksum) (h .last) k)
       ∙ ap (λ x. byLevel h x (a .description)) el
 
-  guarded-is : Guarded h r → judgedRecord h random d r ≡ unsealedBy h (kindBy (r .content) true (beginsHello d r)) (r .byte) (r .number) (r .start + r .head) (fragmentOf d r)
+  guarded-is : Guarded h r → judgedRecord h random d r
+      ≡ pick (genuineIn h (r .byte) (r .number) (fragmentOf d r))
+      (windowedTo h (kindBy (r .content) true (beginsHello d r)) (r .number) (r .start + r .head) (contentIn h (fragmentOf d r)) (acceptOf (h .protection .window) (r .number)))
+      (refusing X.Forged h)
   unfolding ruledBy
   guarded-is g =
       ruled-at (h .state) (r .content) true (beginsHello d r) refl refl (g .protection) refl
       ∙ ap (λ x. ruledBy h random x (kindBy (r .content) true (beginsHello d r)) (r .byte) (r .number) (r .start) (r .start + r .head) (fragmentOf d r)) (unseal-rule (h .state) (r .content) (beginsHello d r) (g .kind))
+      ∙ unsealed-is h (kindBy (r .content) true (beginsHello d r)) (r .byte) (r .number) (r .start + r .head) (fragmentOf d r)
 
   forged-is : Guarded h r → genuineIn h (r .byte) (r .number) (fragmentOf d r) ≡ false → judgedRecord h random d r ≡ refusing X.Forged h
-  unfolding unsealedBy
   forged-is g e =
       guarded-is g
-      ∙ ap (λ b. pick b (windowedTo h (kindBy (r .content) true (beginsHello d r)) (r .number) (r .start + r .head) (contentIn h (fragmentOf d r)) (acceptOf (h .window) (r .number))) (refusing X.Forged h)) e
+      ∙ ap (λ b. pick b (windowedTo h (kindBy (r .content) true (beginsHello d r)) (r .number) (r .start + r .head) (contentIn h (fragmentOf d r)) (acceptOf (h .protection .window) (r .number))) (refusing X.Forged h)) e
 
-  sealed-is : (c : List ℕ) → Guarded h r → Sealed (keysOf h) d r c → (x : Acceptance) → acceptOf (h .window) (r .number) ≡ x
+  sealed-is : (c : List ℕ) → Guarded h r → Sealed (keysOf h) d r c → (x : Acceptance) → acceptOf (h .protection .window) (r .number) ≡ x
       → judgedRecord h random d r ≡ windowedTo h (kindBy (r .content) true (beginsHello d r)) (r .number) (r .start + r .head) c x
-  unfolding unsealedBy
   sealed-is c g s x e =
       guarded-is g
-      ∙ ap (λ b. pick b (windowedTo h (kindBy (r .content) true (beginsHello d r)) (r .number) (r .start + r .head) (contentIn h (fragmentOf d r)) (acceptOf (h .window) (r .number))) (refusing X.Forged h)) (sealed-right (keysOf h) d r c s)
+      ∙ ap (λ b. pick b (windowedTo h (kindBy (r .content) true (beginsHello d r)) (r .number) (r .start + r .head) (contentIn h (fragmentOf d r)) (acceptOf (h .protection .window) (r .number))) (refusing X.Forged h)) (sealed-right (keysOf h) d r c s)
       ∙ ap₂ (λ y z. windowedTo h (kindBy (r .content) true (beginsHello d r)) (r .number) (r .start + r .head) y z) (sealed-content (keysOf h) d r c s) e
 
   new-is : (c : List ℕ) (w : Window) → New h d r c w → (x : Content) → r .content ≡ x
@@ -452,7 +461,7 @@ module _ (h : Handshake) (random d : List ℕ) (r : Record) where
       sealed-is c (n .guarded) (n .coded) (A.New w (n .arrived)) (n .accepted)
       ∙ ap (λ y. contentBy (withWindow h w) (kindBy y true (beginsHello d r)) (r .number) (r .start + r .head) c) e
 
-  malformed-is : (c : List ℕ) (w : Window) → New h d r c w → (x : Content) → r .content ≡ x → MalformedAs x c (h .agreed .expected)
+  malformed-is : (c : List ℕ) (w : Window) → New h d r c w → (x : Content) → r .content ≡ x → MalformedAs x c (h .expected)
       → judgedRecord h random d r ≡ refusing X.Malformed (withWindow h w)
   unfolding contentBy alertedBy verifiedBy
   malformed-is c w n C.ChangeCipherSpec e m = new-is c w n C.ChangeCipherSpec e
@@ -485,7 +494,7 @@ module _ (h : Handshake) (random d : List ℕ) (r : Record) where
   not-right g f true e = absurd (f (contentIn h (fragmentOf d r)) (right-sealed (keysOf h) d r (g .protection) e))
   not-right g f false e = e
 
-  finished-is : (c : List ℕ) (w : Window) → New h d r c w → r .content ≡ C.Handshake → (x : Verified) → judgedOf c (h .agreed .expected) ≡ x
+  finished-is : (c : List ℕ) (w : Window) → New h d r c w → r .content ≡ C.Handshake → (x : Verified) → judgedOf c (h .expected) ≡ x
       → (s : State) → h .state ≡ s → judgedRecord h random d r ≡ verifiedIn w s x
   unfolding contentBy verifiedBy
   finished-is c w n e x m s es =
@@ -513,14 +522,14 @@ module _ (h : Handshake) (random d : List ℕ) (r : Record) where
   row-is (row-resent s i z e) = heard-again s i z ∙ is-kept e
   row-is (row-change s p c e) =
       ruled-at S.Replied C.ChangeCipherSpec false (beginsHello d r) s c p refl
-      ∙ ap (λ b. pick b (judged W.Spec (withState (withWindow h (emptied (h .window))) S.Spec)) (refusing X.Malformed h)) e
+      ∙ ap (λ b. pick b (judged W.Spec (withState (withWindow h (emptied (h .protection .window))) S.Spec)) (refusing X.Malformed h)) e
   row-is (row-change-malformed s p c e) =
       ruled-at S.Replied C.ChangeCipherSpec false (beginsHello d r) s c p refl
-      ∙ ap (λ b. pick b (judged W.Spec (withState (withWindow h (emptied (h .window))) S.Spec)) (refusing X.Malformed h)) e
+      ∙ ap (λ b. pick b (judged W.Spec (withState (withWindow h (emptied (h .protection .window))) S.Spec)) (refusing X.Malformed h)) e
   row-is (row-clear-malformed s p c e) = heard-as s p c R.Malformed e
   row-is (row-checksum a s p c e n) =
       heard-as s p c (R.WellFormed a) e
-      ∙ ap (λ b. pick b (byLevel h (a .level) (a .description)) (refusing X.Checksum h)) (ne-eqb (a .checksum) (h .sending .last) n)
+      ∙ ap (λ b. pick b (byLevel h (a .level) (a .description)) (refusing X.Checksum h)) (ne-eqb (a .checksum) (h .last) n)
   row-is (row-clear-warning a s p c e k l) = heard-level a s p c e k L.Warning l
   row-is (row-clear-critical a s p c e k l) = heard-level a s p c e k L.Critical l
   row-is (row-clear-fatal a s p c e k l) = heard-level a s p c e k L.Fatal l

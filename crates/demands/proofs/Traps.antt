@@ -85,7 +85,7 @@ takes-8 : acceptOf w₇ 8 ≡ A.New w₈ 3
 unfolding w₇ w₈ acceptBy heldWidth ones
 takes-8 = refl
 
-module _ (h : Handshake) (is-open : h .state ≡ S.Open) (window-is : h .window ≡ w₀) where
+module _ (h : Handshake) (is-open : h .state ≡ S.Open) (window-is : h .protection .window ≡ w₀) where
   guarded : (x : Window) (r : Record) → r .protected ≡ true → Guarded (withWindow h x) r
   guarded x r p = record { protection = p; kind = ap (λ s. sealedAllowed s (r .content)) is-open }
 

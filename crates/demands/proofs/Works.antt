@@ -146,8 +146,8 @@ pub record Walk (id secret random bytes : List ℕ) : Type 0 where
   pub replied-is : h₁ .state ≡ S.Replied
   pub spec-is : h₂ .state ≡ S.Spec
   pub open-is : h₃ .state ≡ S.Open
-  pub window-is : h₃ .window ≡ record { width = windowWidth; highest = 0; marks = 1 }
-  pub next-is : h₃ .sending .protected ≡ 1
+  pub window-is : h₃ .protection .window ≡ record { width = windowWidth; highest = 0; marks = 1 }
+  pub next-is : h₃ .protection .protected ≡ 1
 
 module _ (id secret m random out bytes : List ℕ) (plan : Plan) (lr : length random ≡ 16) (lo : 128 ≤ length out) (e : heardOf m id ≡ H.Accepted plan) (some : 1 ≤ length bytes) (most : length bytes ≤ 1300) where
   abbrev session : Session
@@ -212,7 +212,7 @@ module _ (id secret m random out bytes : List ℕ) (plan : Plan) (lr : length ra
   r₂ = readBack false false C.ChangeCipherSpec 1 1
 
   h₂ : Handshake
-  h₂ = withState (withWindow h₁ (emptied (h₁ .window))) S.Spec
+  h₂ = withState (withWindow h₁ (emptied (h₁ .protection .window))) S.Spec
 
   change₂ : isChange (fragmentOf d₂ r₂) ≡ true
   unfolding d₂ r₂ isChange

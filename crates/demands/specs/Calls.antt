@@ -87,11 +87,11 @@ mayAlert sealed Barred = false
 
 -- the number that a send would carry, and the size of its code
 abbrev pub numberFor : Bool → Handshake → ℕ
-numberFor true h = h .sending .protected
-numberFor false h = h .sending .clear
+numberFor true h = h .protection .protected
+numberFor false h = h .protection .clear
 
 abbrev pub codeFor : Bool → Handshake → ℕ
-codeFor true h = sizeOf (h .agreed .mac)
+codeFor true h = sizeOf (h .protection .keys .mac)
 codeFor false h = 0
 
 -- 16: "data not 1 to 1,300"; "level or description unknown, record lent for an alert over 1,400"

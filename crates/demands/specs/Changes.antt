@@ -14,7 +14,10 @@ use Rattle.record.specs.declared.reader.Record.{Record}
 use Rattle.message.specs.Acceptance.{heardOf}
 use Rattle.message.specs.declared.acceptance.Plan.{Plan}
 use Rattle.message.specs.declared.acceptance.Heard.the-variants.{Accepted}
-use Rattle.connection.specs.Handshake.{withState, withWindow, withSending, barred, nothingKept}
+use Rattle.record.specs.Protection as P
+use Rattle.record.specs.Protection.{countedOn}
+use Rattle.connection.specs.Send.{clearOn}
+use Rattle.connection.specs.Handshake.{withState, withWindow, withSent, barred, nothingKept, planted}
 use Rattle.connection.specs.Judge.{judgedRecord, fragmentOf}
 use Rattle.connection.specs.Reply.{answeredWith}
 use Rattle.connection.specs.Send.{dataSent, dataOutput, alertSent, alertOutput}
@@ -31,10 +34,10 @@ use Rattle.demands.specs.Refusals.{marked, refusedLeaves}
 abbrev pub Leaves : Handshake → List ℕ → List ℕ → Bool → ℕ → Handshake → Answer → Type 0
 Leaves h random m protected s then Nothing = ⊥
 Leaves h random m protected s then (Reply size) =
-    (plan : Plan) × (heardOf m (h .session .id) ≡ Accepted plan) × (then ≡ answeredWith h random m plan)
-    × (then .state ≡ S.Replied) × (then .window ≡ h .window) × (then .session ≡ h .session)
+    (plan : Plan) × (heardOf m (h .id) ≡ Accepted plan) × (then ≡ answeredWith h random m plan)
+    × (then .state ≡ S.Replied) × (then .protection .window ≡ h .protection .window) × (planted then ≡ planted h)
 Leaves h random m protected s then (Resent size) = then ≡ h
-Leaves h random m protected s then Spec = then ≡ withState (withWindow h (emptied (h .window))) S.Spec
+Leaves h random m protected s then Spec = then ≡ withState (withWindow h (emptied (h .protection .window))) S.Spec
 Leaves h random m protected s then Open = then ≡ withState (marked h s) S.Open
 Leaves h random m protected s then Again = then ≡ marked h s
 Leaves h random m protected s then (Data number start size) = then ≡ marked h s
@@ -55,11 +58,9 @@ RecordChangesOnly =
 -- our number, and the last record as it stands at the front of the output
 abbrev pub afterSending : Bool → Handshake → List ℕ → Handshake
 afterSending true h bytes =
-    withSending h
-    (record { protected = h .sending .protected + 1; clear = h .sending .clear; last = wordAt (checksumOf bytes) 0 })
+    withSent h (countedOn (h .protection)) (wordAt (checksumOf bytes) 0)
 afterSending false h bytes =
-    withSending h
-    (record { protected = h .sending .protected; clear = h .sending .clear + 1; last = wordAt (checksumOf bytes) 0 })
+    withSent h (clearOn (h .protection)) (wordAt (checksumOf bytes) 0)
 
 unfoldable pub DataChangesOnly : Type 0
 DataChangesOnly =
@@ -87,9 +88,9 @@ StartChangesOnly =
     → startedOf c .connection .handshake
     ≡ record {
       state = S.Idle;
-      session = c .handshake .session;
-      agreed = c .handshake .agreed;
+      id = c .handshake .id;
+      expected = c .handshake .expected;
       kept = nothingKept;
-      window = emptied (c .handshake .window);
-      sending = c .handshake .sending;
+      last = c .handshake .last;
+      protection = P.withWindow (c .handshake .protection) (emptied (c .handshake .protection .window));
     }

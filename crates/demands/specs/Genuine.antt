@@ -39,9 +39,9 @@ pub record Genuine (k : Keys) (d : List ℕ) (r : Record) (c : List ℕ) : Type 
 abbrev pub keysOf : Handshake → Keys
 keysOf h =
     record {
-      secret = h .session .secret;
-      mac = h .agreed .mac;
-      refresh = h .agreed .refresh;
-      server = h .agreed .server;
-      client = h .agreed .client;
+      secret = h .protection .keys .secret;
+      mac = h .protection .keys .mac;
+      refresh = h .protection .keys .refresh;
+      server = h .protection .keys .server;
+      client = h .protection .keys .client;
     }

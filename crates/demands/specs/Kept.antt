@@ -9,33 +9,33 @@ use Rattle.digest.specs.Bytes.{wordAt}
 use Rattle.record.specs.Checksum.{checksumOf}
 use Rattle.record.specs.History.{windowOf}
 use Rattle.demands.specs.Runs.{freshWith}
-use Rattle.connection.specs.Handshake.{noSession, nothingKept, nothingAgreed, keptHello, keptReply}
+use Rattle.connection.specs.Handshake.{noSession, nothingKept, keptHello, keptReply, planted}
 use Rattle.connection.specs.Calls.{sessionOf}
 use Rattle.connection.specs.declared.handshake.Handshake.{Handshake}
 use Rattle.connection.specs.declared.handshake.Session.{Session}
 use Rattle.connection.specs.declared.state.State.the-variants.{Barred}
 use Rattle.demands.specs.Events.{Event, Happened, after, history}
-use Rattle.demands.specs.Past.{lastReply, keptGreeting, agreedFor, helloAs, replyFor, nextSealed, nextClearNumber, lastWritten, acceptedIn, barredIn}
+use Rattle.demands.specs.Past.{lastReply, keptGreeting, agreedFor, helloAs, replyFor, nextSealed, nextClearNumber, lastWritten, acceptedIn, barredIn, agreedOf, nothingAgreed, Agreed}
 use Rattle.record.specs.Window.{windowWidth}
 
 pub record KeptAs (session : Session) (past : List Happened) (h : Handshake) : Type 0 where
   -- the session is the planted one, until it is barred
-  pub session-is : barredIn past ≡ false → h .session ≡ session
+  pub session-is : barredIn past ≡ false → planted h ≡ session
   -- randoms, MAC kind, refresh and expected Finished are those of the last new reply
-  pub agreed-is : barredIn past ≡ false → h .agreed ≡ agreedFor session (lastReply past)
+  pub agreed-is : barredIn past ≡ false → agreedOf h ≡ agreedFor session (lastReply past)
   -- the kept hello is the one of the last new reply, until a start again forgets it; the kept reply is the reply to it
   pub hello-is : barredIn past ≡ false → keptHello h ≡ helloAs (keptGreeting past)
   pub reply-is : barredIn past ≡ false → keptReply h ≡ replyFor session (keptGreeting past)
   -- "After each new reply our data and protected alerts count on from 1, clear alerts from 2"
-  pub sealed-is : h .sending .protected ≡ nextSealed past
-  pub clear-is : h .sending .clear ≡ nextClearNumber past
+  pub sealed-is : h .protection .protected ≡ nextSealed past
+  pub clear-is : h .protection .clear ≡ nextClearNumber past
   -- "the checksum of the last record that we sent, a resent reply not counted"
-  pub last-is : h .sending .last ≡ wordAt (checksumOf (lastWritten session past)) 0
+  pub last-is : h .last ≡ wordAt (checksumOf (lastWritten session past)) 0
   -- the window holds exactly the numbers accepted since the last change cipher spec that was taken
-  pub window-is : h .window ≡ windowOf windowWidth (acceptedIn past)
+  pub window-is : h .protection .window ≡ windowOf windowWidth (acceptedIn past)
   -- "required to forget any session identifiers, keys, and secrets" (002 10.2.2)
   pub barred-is : barredIn past ≡ true
-      → (h .state ≡ Barred) × (h .session ≡ noSession) × (h .kept ≡ nothingKept) × (h .agreed ≡ nothingAgreed (h .agreed .mac) (h .agreed .refresh))
+      → (h .state ≡ Barred) × (planted h ≡ noSession) × (h .kept ≡ nothingKept) × (agreedOf h ≡ nothingAgreed (h .protection .keys .mac) (h .protection .keys .refresh))
 
 unfoldable pub KeptIsWhatHappened : Type 0
 KeptIsWhatHappened =

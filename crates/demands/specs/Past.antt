@@ -4,146 +4,68 @@ use mathlib.Core.Path.{_≡_}
 use mathlib.Core.Bool.{Bool, true, false}
 use mathlib.Core.List.{List, [], _∷_}
 use Prim.Native.Nat.{ℕ, _+_}
+use lib.Dec.{eqb}
 use Rattle.digest.specs.Pick.{pick}
+use lib.ListN.{replicate}
+use Rattle.digest.specs.declared.mac.Mac.{Mac}
 use Rattle.digest.specs.declared.mac.Mac.the-variants.{Sha80}
 use Rattle.message.specs.Acceptance.{heardOf}
 use Rattle.message.specs.declared.acceptance.Heard.{Heard}
 use Rattle.message.specs.declared.acceptance.Heard.the-variants as H
 use Rattle.record.specs.declared.reader.Record.{Record}
-use Rattle.connection.specs.Handshake.{nothingAgreed}
+use Rattle.connection.specs.Answer.{answerNumber}
 use Rattle.connection.specs.Judge.{fragmentOf}
 use Rattle.connection.specs.Reply.{clientRandom, expectedOf, replyTo, lastOf}
 use Rattle.connection.specs.declared.answer.Answer.{Answer}
 use Rattle.connection.specs.declared.answer.Answer.the-variants.{Nothing, Reply, Resent, Spec, Open, Again, Data, Warning, Critical, Fatal, Barred, Refused}
-use Rattle.connection.specs.declared.handshake.Agreed.{Agreed}
+use Rattle.connection.specs.declared.handshake.Handshake.{Handshake}
 use Rattle.connection.specs.declared.handshake.Session.{Session}
-use Rattle.connection.specs.declared.refusal.Refusal.{Refusal}
-use Rattle.connection.specs.declared.refusal.Refusal.the-variants as X
 use Rattle.record.specs.declared.keys.Keys.{Keys}
 use Rattle.demands.specs.Events.{Happened, answered, wrote, closed, started, refused}
 
 -- ---- answers
 
+-- which answer it is
+abbrev pub caseOf : Answer → ℕ
+caseOf Nothing = 0
+caseOf (Reply size) = 1
+caseOf (Resent size) = 2
+caseOf Spec = 3
+caseOf Open = 4
+caseOf Again = 5
+caseOf (Data number start size) = 6
+caseOf (Warning description) = 7
+caseOf (Critical description) = 8
+caseOf (Fatal description) = 9
+caseOf (Barred description) = 10
+caseOf (Refused refusal) = 11
+
+-- whether a number is one of these
+abbrev pub among : ℕ → List ℕ → Bool
+among n [] = false
+among n (m ∷ more) = pick (eqb n m) true (among n more)
+
 abbrev pub isReply : Answer → Bool
-isReply Nothing = false
-isReply (Reply size) = true
-isReply (Resent size) = false
-isReply Spec = false
-isReply Open = false
-isReply Again = false
-isReply (Data number start size) = false
-isReply (Warning description) = false
-isReply (Critical description) = false
-isReply (Fatal description) = false
-isReply (Barred description) = false
-isReply (Refused refusal) = false
+isReply a = among (caseOf a) (1 ∷ [])
 
 -- change cipher spec was taken
 abbrev pub isSpec : Answer → Bool
-isSpec Nothing = false
-isSpec (Reply size) = false
-isSpec (Resent size) = false
-isSpec Spec = true
-isSpec Open = false
-isSpec Again = false
-isSpec (Data number start size) = false
-isSpec (Warning description) = false
-isSpec (Critical description) = false
-isSpec (Fatal description) = false
-isSpec (Barred description) = false
-isSpec (Refused refusal) = false
+isSpec a = among (caseOf a) (3 ∷ [])
 
 abbrev pub isData : Answer → Bool
-isData Nothing = false
-isData (Reply size) = false
-isData (Resent size) = false
-isData Spec = false
-isData Open = false
-isData Again = false
-isData (Data number start size) = true
-isData (Warning description) = false
-isData (Critical description) = false
-isData (Fatal description) = false
-isData (Barred description) = false
-isData (Refused refusal) = false
+isData a = among (caseOf a) (6 ∷ [])
 
 abbrev pub isBarred : Answer → Bool
-isBarred Nothing = false
-isBarred (Reply size) = false
-isBarred (Resent size) = false
-isBarred Spec = false
-isBarred Open = false
-isBarred Again = false
-isBarred (Data number start size) = false
-isBarred (Warning description) = false
-isBarred (Critical description) = false
-isBarred (Fatal description) = false
-isBarred (Barred description) = true
-isBarred (Refused refusal) = false
+isBarred a = among (caseOf a) (10 ∷ [])
 
--- "12 under protection and 17 mark the number"
-abbrev pub refusedMarks : Refusal → Bool
-refusedMarks (X.Framing fault) = false
-refusedMarks X.Room = false
-refusedMarks X.Ended = false
-refusedMarks X.NotAllowed = false
-refusedMarks X.Forged = false
-refusedMarks X.TooOld = false
-refusedMarks X.Repeated = false
-refusedMarks X.Malformed = true
-refusedMarks X.Unacceptable = false
-refusedMarks X.Checksum = false
-refusedMarks X.Spent = false
-refusedMarks X.Argument = false
-refusedMarks X.WrongFinished = true
-refusedMarks X.HelloWhileOpen = false
-
--- the answers to a protected record whose number was accepted: "a genuine new record marks its number even if its
--- content is then refused"
+-- the answers to a protected record whose number was accepted: Open, Again, Data, Warning, Critical, Barred; "a genuine
+-- new record marks its number even if its content is then refused": "12 under protection and 17 mark the number"
 abbrev pub marks : Answer → Bool
-marks Nothing = false
-marks (Reply size) = false
-marks (Resent size) = false
-marks Spec = false
-marks Open = true
-marks Again = true
-marks (Data number start size) = true
-marks (Warning description) = true
-marks (Critical description) = true
-marks (Fatal description) = false
-marks (Barred description) = true
-marks (Refused refusal) = refusedMarks refusal
+marks a = pick (among (caseOf a) (4 ∷ 5 ∷ 6 ∷ 7 ∷ 8 ∷ 10 ∷ [])) true (among (answerNumber a) (12 ∷ 17 ∷ []))
 
 -- the answers that close: critical and fatal alerts, and 17
-abbrev pub refusedShuts : Refusal → Bool
-refusedShuts (X.Framing fault) = false
-refusedShuts X.Room = false
-refusedShuts X.Ended = false
-refusedShuts X.NotAllowed = false
-refusedShuts X.Forged = false
-refusedShuts X.TooOld = false
-refusedShuts X.Repeated = false
-refusedShuts X.Malformed = false
-refusedShuts X.Unacceptable = false
-refusedShuts X.Checksum = false
-refusedShuts X.Spent = false
-refusedShuts X.Argument = false
-refusedShuts X.WrongFinished = true
-refusedShuts X.HelloWhileOpen = false
-
 abbrev pub shuts : Answer → Bool
-shuts Nothing = false
-shuts (Reply size) = false
-shuts (Resent size) = false
-shuts Spec = false
-shuts Open = false
-shuts Again = false
-shuts (Data number start size) = false
-shuts (Warning description) = false
-shuts (Critical description) = true
-shuts (Fatal description) = true
-shuts (Barred description) = true
-shuts (Refused refusal) = refusedShuts refusal
+shuts a = pick (among (caseOf a) (8 ∷ 9 ∷ 10 ∷ [])) true (among (answerNumber a) (17 ∷ []))
 
 -- ---- the last new reply
 
@@ -168,6 +90,28 @@ keptGreeting (wrote sealed bytes ∷ past) = keptGreeting past
 keptGreeting (closed ∷ past) = keptGreeting past
 keptGreeting (started ∷ past) = none
 keptGreeting (refused ∷ past) = keptGreeting past
+
+pub record Agreed : Type 0 where
+  pub server : List ℕ
+  pub client : List ℕ
+  pub mac : Mac
+  pub refresh : ℕ
+  pub expected : List ℕ
+
+unfoldable pub nothingAgreed : Mac → ℕ → Agreed
+nothingAgreed mac refresh =
+    record { server = replicate 16 0; client = replicate 16 0; mac = mac; refresh = refresh; expected = replicate 12 0 }
+
+-- what a handshake holds of it
+abbrev pub agreedOf : Handshake → Agreed
+agreedOf h =
+    record {
+      server = h .protection .keys .server;
+      client = h .protection .keys .client;
+      mac = h .protection .keys .mac;
+      refresh = h .protection .keys .refresh;
+      expected = h .expected;
+    }
 
 -- what a new reply fixes, of the session and the two hellos alone: randoms, MAC kind, refresh, and the contents that
 -- the unit's Finished must have

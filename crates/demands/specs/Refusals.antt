@@ -62,7 +62,7 @@ markedAs h A.TooOld = h
 markedAs h A.Repeated = h
 
 abbrev pub marked : Handshake → ℕ → Handshake
-marked h s = markedAs h (acceptOf (h .window) s)
+marked h s = markedAs h (acceptOf (h .protection .window) s)
 
 -- what a refused record leaves: "12 under protection and 17 mark the number, and 17 also closes"
 abbrev pub refusedLeaves : Handshake → Bool → ℕ → Refusal → Handshake

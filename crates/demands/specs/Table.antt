@@ -27,7 +27,7 @@ use Rattle.message.specs.declared.alert.Alert.{Alert}
 use Rattle.message.specs.declared.alert.Level.the-variants as L
 use Rattle.message.specs.declared.alert.Reading.the-variants as R
 use Rattle.message.specs.declared.finished.Verified.the-variants as F
-use Rattle.connection.specs.Handshake.{withState, withWindow, barred, keptHello, keptReply}
+use Rattle.connection.specs.Handshake.{withState, withWindow, barred, keptHello, keptReply, planted}
 use Rattle.connection.specs.Answer.{judged, refusing}
 use Rattle.connection.specs.Reply.{replyTo, answeredWith}
 use Rattle.connection.specs.Judge.{judgedRecord, fragmentOf}
@@ -122,7 +122,7 @@ pub record New (h : Handshake) (d : List ℕ) (r : Record) (c : List ℕ) (w : W
   pub guarded : Guarded h r
   pub coded : Sealed (keysOf h) d r c
   pub arrived : ℕ
-  pub accepted : acceptOf (h .window) (r .number) ≡ A.New w arrived
+  pub accepted : acceptOf (h .protection .window) (r .number) ≡ A.New w arrived
 
 -- a clear ClientHello that is first in its datagram, in a state that hears it
 pub record Greets (h : Handshake) (d : List ℕ) (r : Record) : Type 0 where
@@ -153,15 +153,15 @@ pub data Row (h : Handshake) (random d : List ℕ) (r : Record) : Judged → Typ
       → Row h random d r (refusing X.NotAllowed h)
   -- "Idle | clear ClientHello | reply; Replied" and "Replied, Spec | another acceptable ClientHello | new reply;
   -- Replied"
-  row-reply : (plan : Plan) → Greets h d r → heardOf (fragmentOf d r) (h .session .id) ≡ H.Accepted plan
+  row-reply : (plan : Plan) → Greets h d r → heardOf (fragmentOf d r) (h .id) ≡ H.Accepted plan
       → Row h random d r
-      (judged (W.Reply (length (replyTo (h .session) random (fragmentOf d r) plan)))
+      (judged (W.Reply (length (replyTo (planted h) random (fragmentOf d r) plan)))
       (answeredWith h random (fragmentOf d r) plan))
   -- 12 and 13 of a hello
-  row-hello-malformed : (fault : Field) → Greets h d r → heardOf (fragmentOf d r) (h .session .id) ≡ H.Malformed fault
+  row-hello-malformed : (fault : Field) → Greets h d r → heardOf (fragmentOf d r) (h .id) ≡ H.Malformed fault
       → Row h random d r (refusing X.Malformed h)
   row-unacceptable : (condition : Condition) → Greets h d r
-      → heardOf (fragmentOf d r) (h .session .id) ≡ H.Unacceptable condition
+      → heardOf (fragmentOf d r) (h .id) ≡ H.Unacceptable condition
       → Row h random d r (refusing X.Unacceptable h)
   -- "Replied, Spec | the same ClientHello message | the same reply bytes; no change"
   row-resent : Hears (h .state) → isHello d r ≡ true → r .start ≡ 0 → fragmentOf d r ≡ keptHello h
@@ -170,7 +170,7 @@ pub data Row (h : Handshake) (random d : List ℕ) (r : Record) : Judged → Typ
   -- one byte 1"
   row-change : h .state ≡ Replied → r .protected ≡ false → r .content ≡ C.ChangeCipherSpec
       → isChange (fragmentOf d r) ≡ true
-      → Row h random d r (judged W.Spec (withState (withWindow h (emptied (h .window))) Spec))
+      → Row h random d r (judged W.Spec (withState (withWindow h (emptied (h .protection .window))) Spec))
   row-change-malformed : h .state ≡ Replied → r .protected ≡ false → r .content ≡ C.ChangeCipherSpec
       → isChange (fragmentOf d r) ≡ false
       → Row h random d r (refusing X.Malformed h)
@@ -179,25 +179,25 @@ pub data Row (h : Handshake) (random d : List ℕ) (r : Record) : Judged → Typ
       → alertOf (fragmentOf d r) ≡ R.Malformed
       → Row h random d r (refusing X.Malformed h)
   row-checksum : (a : Alert) → Hears (h .state) → r .protected ≡ false → r .content ≡ C.Alert
-      → alertOf (fragmentOf d r) ≡ R.WellFormed a → a .checksum ≢ h .sending .last
+      → alertOf (fragmentOf d r) ≡ R.WellFormed a → a .checksum ≢ h .last
       → Row h random d r (refusing X.Checksum h)
   row-clear-warning : (a : Alert) → Hears (h .state) → r .protected ≡ false → r .content ≡ C.Alert
-      → alertOf (fragmentOf d r) ≡ R.WellFormed a → a .checksum ≡ h .sending .last → a .level ≡ L.Warning
+      → alertOf (fragmentOf d r) ≡ R.WellFormed a → a .checksum ≡ h .last → a .level ≡ L.Warning
       → Row h random d r (judged (W.Warning (a .description)) h)
   row-clear-critical : (a : Alert) → Hears (h .state) → r .protected ≡ false → r .content ≡ C.Alert
-      → alertOf (fragmentOf d r) ≡ R.WellFormed a → a .checksum ≡ h .sending .last → a .level ≡ L.Critical
+      → alertOf (fragmentOf d r) ≡ R.WellFormed a → a .checksum ≡ h .last → a .level ≡ L.Critical
       → Row h random d r (judged (W.Critical (a .description)) (withState h Closed))
   row-clear-fatal : (a : Alert) → Hears (h .state) → r .protected ≡ false → r .content ≡ C.Alert
-      → alertOf (fragmentOf d r) ≡ R.WellFormed a → a .checksum ≡ h .sending .last → a .level ≡ L.Fatal
+      → alertOf (fragmentOf d r) ≡ R.WellFormed a → a .checksum ≡ h .last → a .level ≡ L.Fatal
       → Row h random d r (judged (W.Fatal (a .description)) (withState h Closed))
   -- 9: "code not right"; 10: "too old"; 11: "repeated"
   row-forged : Guarded h r → ((c : List ℕ) → Sealed (keysOf h) d r c → ⊥) → Row h random d r (refusing X.Forged h)
-  row-old : (c : List ℕ) → Guarded h r → Sealed (keysOf h) d r c → acceptOf (h .window) (r .number) ≡ A.TooOld
+  row-old : (c : List ℕ) → Guarded h r → Sealed (keysOf h) d r c → acceptOf (h .protection .window) (r .number) ≡ A.TooOld
       → Row h random d r (refusing X.TooOld h)
-  row-repeated : (c : List ℕ) → Guarded h r → Sealed (keysOf h) d r c → acceptOf (h .window) (r .number) ≡ A.Repeated
+  row-repeated : (c : List ℕ) → Guarded h r → Sealed (keysOf h) d r c → acceptOf (h .protection .window) (r .number) ≡ A.Repeated
       → Row h random d r (refusing X.Repeated h)
   -- "A genuine new record marks its number even if its content is then refused."
-  row-malformed : (c : List ℕ) (w : Window) → New h d r c w → MalformedAs (r .content) c (h .agreed .expected)
+  row-malformed : (c : List ℕ) (w : Window) → New h d r c w → MalformedAs (r .content) c (h .expected)
       → Row h random d r (refusing X.Malformed (withWindow h w))
   -- "Open | protected data | handed out, as a part of the datagram"
   row-data : (c : List ℕ) (w : Window) → New h d r c w → r .content ≡ C.Data → 0 < length c
@@ -214,15 +214,15 @@ pub data Row (h : Handshake) (random d : List ℕ) (r : Record) : Judged → Typ
       → Row h random d r (judged (W.Barred (a .description)) (barred (withWindow h w)))
   -- "Spec | protected Finished, right contents | Open"
   row-open : (c : List ℕ) (w : Window) → New h d r c w → h .state ≡ Spec → r .content ≡ C.Handshake
-      → judgedOf c (h .agreed .expected) ≡ F.Right
+      → judgedOf c (h .expected) ≡ F.Right
       → Row h random d r (judged W.Open (withState (withWindow h w) Open))
   -- "Open | protected Finished under a new number, right contents | "again", Open kept"
   row-again : (c : List ℕ) (w : Window) → New h d r c w → h .state ≡ Open → r .content ≡ C.Handshake
-      → judgedOf c (h .agreed .expected) ≡ F.Right
+      → judgedOf c (h .expected) ≡ F.Right
       → Row h random d r (judged W.Again (withWindow h w))
   -- 17: "genuine Finished with wrong contents", which also closes
   row-wrong-finished : (c : List ℕ) (w : Window) → New h d r c w → r .content ≡ C.Handshake
-      → judgedOf c (h .agreed .expected) ≡ F.Wrong
+      → judgedOf c (h .expected) ≡ F.Wrong
       → Row h random d r (judged (W.Refused X.WrongFinished) (withState (withWindow h w) Closed))
 
 -- The table holds, and nothing else does: a record is answered so exactly if there is a row that says so.

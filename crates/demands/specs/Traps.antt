@@ -40,7 +40,7 @@ lastSealed k content s body = protectedBy (hmac (unitKey k s)) (sizeOf (k .mac))
 -- an Open connection behind the unit's Finished, whose number was 0
 pub record JustOpen (c : Connection) : Type 0 where
   pub is-open : c .handshake .state ≡ Open
-  pub window-is : c .handshake .window ≡ record { width = windowWidth; highest = 0; marks = 1 }
+  pub window-is : c .handshake .protection .window ≡ record { width = windowWidth; highest = 0; marks = 1 }
 
 -- empty data 7, then data 7: 12, 11
 unfoldable pub EmptyThenData : Gateway → Type 0

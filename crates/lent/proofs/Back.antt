@@ -19,7 +19,7 @@ use Rattle.connection.specs.declared.state.State.the-variants.{Idle, Replied, S
 use Rattle.connection.specs.declared.handshake.Handshake.{Handshake}
 use Rattle.connection.specs.declared.calls.Connection.{Connection}
 use Rattle.lent.specs.Fields.{joined, bytesIn, twoIn, eightIn}
-use Rattle.lent.specs.Saved.{stateSize, mark, stateNumber, savedHandshake, savedOf, isSaved, stateNumbered, macNumbered, sessionIn, agreedIn, keptIn, windowIn, sendingIn, handshakeIn, connectionIn, Is, No, loaded, Ranged, Bytes}
+use Rattle.lent.specs.Saved.{stateSize, mark, stateNumber, savedHandshake, savedOf, isSaved, stateNumbered, macNumbered, protectionIn, keysIn, keptIn, windowIn, handshakeIn, connectionIn, Is, No, loaded, Ranged, Bytes}
 use Rattle.lent.proofs.Laying.{joined-append, joined-one, joined-none, length-eight}
 use Rattle.lent.proofs.Reading.{part-length}
 use Rattle.lent.proofs.Calling.{both-true}
@@ -74,23 +74,23 @@ mac-one Sha = refl
 record Placed (h : Handshake) (b : List ℕ) : Type 0 where
   mark : bytesIn b 0 4 ≡ bytes4 mark
   state : bytesIn b 4 1 ≡ (stateNumber (h .state) ∷ [])
-  id : bytesIn b 5 8 ≡ h .session .id
-  secret : bytesIn b 13 20 ≡ h .session .secret
-  server : bytesIn b 33 16 ≡ h .agreed .server
-  client : bytesIn b 49 16 ≡ h .agreed .client
-  mac : bytesIn b 65 1 ≡ (numberOf (h .agreed .mac) ∷ [])
-  refresh : bytesIn b 66 1 ≡ (h .agreed .refresh ∷ [])
-  expected : bytesIn b 67 12 ≡ h .agreed .expected
+  id : bytesIn b 5 8 ≡ h .id
+  secret : bytesIn b 13 20 ≡ h .protection .keys .secret
+  server : bytesIn b 33 16 ≡ h .protection .keys .server
+  client : bytesIn b 49 16 ≡ h .protection .keys .client
+  mac : bytesIn b 65 1 ≡ (numberOf (h .protection .keys .mac) ∷ [])
+  refresh : bytesIn b 66 1 ≡ (h .protection .keys .refresh ∷ [])
+  expected : bytesIn b 67 12 ≡ h .expected
   hello : bytesIn b 79 256 ≡ h .kept .hello
   heard : bytesIn b 335 8 ≡ bytes8 (h .kept .heard)
   reply : bytesIn b 343 84 ≡ h .kept .reply
   size : bytesIn b 427 8 ≡ bytes8 (h .kept .size)
-  highest : bytesIn b 435 2 ≡ bytes2 (h .window .highest)
-  marks : bytesIn b 437 8 ≡ bytes8 (h .window .marks)
-  protected : bytesIn b 445 4 ≡ bytes4 (h .sending .protected)
-  clear : bytesIn b 449 4 ≡ bytes4 (h .sending .clear)
-  last : bytesIn b 453 4 ≡ bytes4 (h .sending .last)
-  width : bytesIn b 457 1 ≡ (h .window .width ∷ [])
+  highest : bytesIn b 435 2 ≡ bytes2 (h .protection .window .highest)
+  marks : bytesIn b 437 8 ≡ bytes8 (h .protection .window .marks)
+  protected : bytesIn b 445 4 ≡ bytes4 (h .protection .protected)
+  clear : bytesIn b 449 4 ≡ bytes4 (h .protection .clear)
+  last : bytesIn b 453 4 ≡ bytes4 (h .last)
+  width : bytesIn b 457 1 ≡ (h .protection .window .width ∷ [])
   all : length b ≡ stateSize
 
 places : (c : Connection) → Ranged c → Placed (c .handshake) (savedOf c)
@@ -100,60 +100,53 @@ places c r =
     let n0 = joined-none in
     let n1 = longer [] (bytes4 mark) 0 4 n0 (refl) in
     let n2 = longer (bytes4 mark ∷ []) ((stateNumber (h .state) ∷ [])) 4 1 n1 (refl) in
-    let n3 = longer (bytes4 mark ∷ (stateNumber (h .state) ∷ []) ∷ []) (h .session .id) 5 8 n2 (r .id) in
-    let n4 = longer (bytes4 mark ∷ (stateNumber (h .state) ∷ []) ∷ h .session .id ∷ []) (h .session .secret) 13 20 n3 (r .secret) in
-    let n5 = longer (bytes4 mark ∷ (stateNumber (h .state) ∷ []) ∷ h .session .id ∷ h .session .secret ∷ []) (h .agreed .server) 33 16 n4 (r .server) in
-    let n6 = longer (bytes4 mark ∷ (stateNumber (h .state) ∷ []) ∷ h .session .id ∷ h .session .secret ∷ h .agreed .server ∷ []) (h .agreed .client) 49 16 n5 (r .client) in
-    let n7 = longer (bytes4 mark ∷ (stateNumber (h .state) ∷ []) ∷ h .session .id ∷ h .session .secret ∷ h .agreed .server ∷ h .agreed .client ∷ []) ((numberOf (h .agreed .mac) ∷ [])) 65 1 n6 (refl) in
-    let n8 = longer (bytes4 mark ∷ (stateNumber (h .state) ∷ []) ∷ h .session .id ∷ h .session .secret ∷ h .agreed .server ∷ h .agreed .client ∷ (numberOf (h .agreed .mac) ∷ []) ∷ []) ((h .agreed .refresh ∷ [])) 66 1 n7 (refl) in
-    let n9 = longer (bytes4 mark ∷ (stateNumber (h .state) ∷ []) ∷ h .session .id ∷ h .session .secret ∷ h .agreed .server ∷ h .agreed .client ∷ (numberOf (h .agreed .mac) ∷ []) ∷ (h .agreed .refresh ∷ []) ∷ []) (h .agreed .expected) 67 12 n8 (r .expected) in
-    let n10 = longer (bytes4 mark ∷ (stateNumber (h .state) ∷ []) ∷ h .session .id ∷ h .session .secret ∷ h .agreed .server ∷ h .agreed .client ∷ (numberOf (h .agreed .mac) ∷ []) ∷ (h .agreed .refresh ∷ []) ∷ h .agreed .expected ∷ []) (h .kept .hello) 79 256 n9 (r .hello) in
-    let n11 = longer (bytes4 mark ∷ (stateNumber (h .state) ∷ []) ∷ h .session .id ∷ h .session .secret ∷ h .agreed .server ∷ h .agreed .client ∷ (numberOf (h .agreed .mac) ∷ []) ∷ (h .agreed .refresh ∷ []) ∷ h .agreed .expected ∷ h .kept .hello ∷ []) (bytes8 (h .kept .heard)) 335 8 n10 (length-eight (h .kept .heard)) in
-    let n12 = longer (bytes4 mark ∷ (stateNumber (h .state) ∷ []) ∷ h .session .id ∷ h .session .secret ∷ h .agreed .server ∷ h .agreed .client ∷ (numberOf (h .agreed .mac) ∷ []) ∷ (h .agreed .refresh ∷ []) ∷ h .agreed .expected ∷ h .kept .hello ∷ bytes8 (h .kept .heard) ∷ []) (h .kept .reply) 343 84 n11 (r .reply) in
-    let n13 = longer (bytes4 mark ∷ (stateNumber (h .state) ∷ []) ∷ h .session .id ∷ h .session .secret ∷ h .agreed .server ∷ h .agreed .client ∷ (numberOf (h .agreed .mac) ∷ []) ∷ (h .agreed .refresh ∷ []) ∷ h .agreed .expected ∷ h .kept .hello ∷ bytes8 (h .kept .heard) ∷ h .kept .reply ∷ []) (bytes8 (h .kept .size)) 427 8 n12 (length-eight (h .kept .size)) in
-    let n14 = longer (bytes4 mark ∷ (stateNumber (h .state) ∷ []) ∷ h .session .id ∷ h .session .secret ∷ h .agreed .server ∷ h .agreed .client ∷ (numberOf (h .agreed .mac) ∷ []) ∷ (h .agreed .refresh ∷ []) ∷ h .agreed .expected ∷ h .kept .hello ∷ bytes8 (h .kept .heard) ∷ h .kept .reply ∷ bytes8 (h .kept .size) ∷ []) (bytes2 (h .window .highest)) 435 2 n13 (refl) in
-    let n15 = longer (bytes4 mark ∷ (stateNumber (h .state) ∷ []) ∷ h .session .id ∷ h .session .secret ∷ h .agreed .server ∷ h .agreed .client ∷ (numberOf (h .agreed .mac) ∷ []) ∷ (h .agreed .refresh ∷ []) ∷ h .agreed .expected ∷ h .kept .hello ∷ bytes8 (h .kept .heard) ∷ h .kept .reply ∷ bytes8 (h .kept .size) ∷ bytes2 (h .window .highest) ∷ []) (bytes8 (h .window .marks)) 437 8 n14 (length-eight (h .window .marks)) in
-    let n16 = longer (bytes4 mark ∷ (stateNumber (h .state) ∷ []) ∷ h .session .id ∷ h .session .secret ∷ h .agreed .server ∷ h .agreed .client ∷ (numberOf (h .agreed .mac) ∷ []) ∷ (h .agreed .refresh ∷ []) ∷ h .agreed .expected ∷ h .kept .hello ∷ bytes8 (h .kept .heard) ∷ h .kept .reply ∷ bytes8 (h .kept .size) ∷ bytes2 (h .window .highest) ∷ bytes8 (h .window .marks) ∷ []) (bytes4 (h .sending .protected)) 445 4 n15 (refl) in
-    let n17 = longer (bytes4 mark ∷ (stateNumber (h .state) ∷ []) ∷ h .session .id ∷ h .session .secret ∷ h .agreed .server ∷ h .agreed .client ∷ (numberOf (h .agreed .mac) ∷ []) ∷ (h .agreed .refresh ∷ []) ∷ h .agreed .expected ∷ h .kept .hello ∷ bytes8 (h .kept .heard) ∷ h .kept .reply ∷ bytes8 (h .kept .size) ∷ bytes2 (h .window .highest) ∷ bytes8 (h .window .marks) ∷ bytes4 (h .sending .protected) ∷ []) (bytes4 (h .sending .clear)) 449 4 n16 (refl) in
-    let n18 = longer (bytes4 mark ∷ (stateNumber (h .state) ∷ []) ∷ h .session .id ∷ h .session .secret ∷ h .agreed .server ∷ h .agreed .client ∷ (numberOf (h .agreed .mac) ∷ []) ∷ (h .agreed .refresh ∷ []) ∷ h .agreed .expected ∷ h .kept .hello ∷ bytes8 (h .kept .heard) ∷ h .kept .reply ∷ bytes8 (h .kept .size) ∷ bytes2 (h .window .highest) ∷ bytes8 (h .window .marks) ∷ bytes4 (h .sending .protected) ∷ bytes4 (h .sending .clear) ∷ []) (bytes4 (h .sending .last)) 453 4 n17 (refl) in
-    let n19 = longer (bytes4 mark ∷ (stateNumber (h .state) ∷ []) ∷ h .session .id ∷ h .session .secret ∷ h .agreed .server ∷ h .agreed .client ∷ (numberOf (h .agreed .mac) ∷ []) ∷ (h .agreed .refresh ∷ []) ∷ h .agreed .expected ∷ h .kept .hello ∷ bytes8 (h .kept .heard) ∷ h .kept .reply ∷ bytes8 (h .kept .size) ∷ bytes2 (h .window .highest) ∷ bytes8 (h .window .marks) ∷ bytes4 (h .sending .protected) ∷ bytes4 (h .sending .clear) ∷ bytes4 (h .sending .last) ∷ []) ((h .window .width ∷ [])) 457 1 n18 (refl) in
+    let n3 = longer (bytes4 mark ∷ (stateNumber (h .state) ∷ []) ∷ []) (h .id) 5 8 n2 (r .id) in
+    let n4 = longer (bytes4 mark ∷ (stateNumber (h .state) ∷ []) ∷ h .id ∷ []) (h .protection .keys .secret) 13 20 n3 (r .secret) in
+    let n5 = longer (bytes4 mark ∷ (stateNumber (h .state) ∷ []) ∷ h .id ∷ h .protection .keys .secret ∷ []) (h .protection .keys .server) 33 16 n4 (r .server) in
+    let n6 = longer (bytes4 mark ∷ (stateNumber (h .state) ∷ []) ∷ h .id ∷ h .protection .keys .secret ∷ h .protection .keys .server ∷ []) (h .protection .keys .client) 49 16 n5 (r .client) in
+    let n7 = longer (bytes4 mark ∷ (stateNumber (h .state) ∷ []) ∷ h .id ∷ h .protection .keys .secret ∷ h .protection .keys .server ∷ h .protection .keys .client ∷ []) ((numberOf (h .protection .keys .mac) ∷ [])) 65 1 n6 (refl) in
+    let n8 = longer (bytes4 mark ∷ (stateNumber (h .state) ∷ []) ∷ h .id ∷ h .protection .keys .secret ∷ h .protection .keys .server ∷ h .protection .keys .client ∷ (numberOf (h .protection .keys .mac) ∷ []) ∷ []) ((h .protection .keys .refresh ∷ [])) 66 1 n7 (refl) in
+    let n9 = longer (bytes4 mark ∷ (stateNumber (h .state) ∷ []) ∷ h .id ∷ h .protection .keys .secret ∷ h .protection .keys .server ∷ h .protection .keys .client ∷ (numberOf (h .protection .keys .mac) ∷ []) ∷ (h .protection .keys .refresh ∷ []) ∷ []) (h .expected) 67 12 n8 (r .expected) in
+    let n10 = longer (bytes4 mark ∷ (stateNumber (h .state) ∷ []) ∷ h .id ∷ h .protection .keys .secret ∷ h .protection .keys .server ∷ h .protection .keys .client ∷ (numberOf (h .protection .keys .mac) ∷ []) ∷ (h .protection .keys .refresh ∷ []) ∷ h .expected ∷ []) (h .kept .hello) 79 256 n9 (r .hello) in
+    let n11 = longer (bytes4 mark ∷ (stateNumber (h .state) ∷ []) ∷ h .id ∷ h .protection .keys .secret ∷ h .protection .keys .server ∷ h .protection .keys .client ∷ (numberOf (h .protection .keys .mac) ∷ []) ∷ (h .protection .keys .refresh ∷ []) ∷ h .expected ∷ h .kept .hello ∷ []) (bytes8 (h .kept .heard)) 335 8 n10 (length-eight (h .kept .heard)) in
+    let n12 = longer (bytes4 mark ∷ (stateNumber (h .state) ∷ []) ∷ h .id ∷ h .protection .keys .secret ∷ h .protection .keys .server ∷ h .protection .keys .client ∷ (numberOf (h .protection .keys .mac) ∷ []) ∷ (h .protection .keys .refresh ∷ []) ∷ h .expected ∷ h .kept .hello ∷ bytes8 (h .kept .heard) ∷ []) (h .kept .reply) 343 84 n11 (r .reply) in
+    let n13 = longer (bytes4 mark ∷ (stateNumber (h .state) ∷ []) ∷ h .id ∷ h .protection .keys .secret ∷ h .protection .keys .server ∷ h .protection .keys .client ∷ (numberOf (h .protection .keys .mac) ∷ []) ∷ (h .protection .keys .refresh ∷ []) ∷ h .expected ∷ h .kept .hello ∷ bytes8 (h .kept .heard) ∷ h .kept .reply ∷ []) (bytes8 (h .kept .size)) 427 8 n12 (length-eight (h .kept .size)) in
+    let n14 = longer (bytes4 mark ∷ (stateNumber (h .state) ∷ []) ∷ h .id ∷ h .protection .keys .secret ∷ h .protection .keys .server ∷ h .protection .keys .client ∷ (numberOf (h .protection .keys .mac) ∷ []) ∷ (h .protection .keys .refresh ∷ []) ∷ h .expected ∷ h .kept .hello ∷ bytes8 (h .kept .heard) ∷ h .kept .reply ∷ bytes8 (h .kept .size) ∷ []) (bytes2 (h .protection .window .highest)) 435 2 n13 (refl) in
+    let n15 = longer (bytes4 mark ∷ (stateNumber (h .state) ∷ []) ∷ h .id ∷ h .protection .keys .secret ∷ h .protection .keys .server ∷ h .protection .keys .client ∷ (numberOf (h .protection .keys .mac) ∷ []) ∷ (h .protection .keys .refresh ∷ []) ∷ h .expected ∷ h .kept .hello ∷ bytes8 (h .kept .heard) ∷ h .kept .reply ∷ bytes8 (h .kept .size) ∷ bytes2 (h .protection .window .highest) ∷ []) (bytes8 (h .protection .window .marks)) 437 8 n14 (length-eight (h .protection .window .marks)) in
+    let n16 = longer (bytes4 mark ∷ (stateNumber (h .state) ∷ []) ∷ h .id ∷ h .protection .keys .secret ∷ h .protection .keys .server ∷ h .protection .keys .client ∷ (numberOf (h .protection .keys .mac) ∷ []) ∷ (h .protection .keys .refresh ∷ []) ∷ h .expected ∷ h .kept .hello ∷ bytes8 (h .kept .heard) ∷ h .kept .reply ∷ bytes8 (h .kept .size) ∷ bytes2 (h .protection .window .highest) ∷ bytes8 (h .protection .window .marks) ∷ []) (bytes4 (h .protection .protected)) 445 4 n15 (refl) in
+    let n17 = longer (bytes4 mark ∷ (stateNumber (h .state) ∷ []) ∷ h .id ∷ h .protection .keys .secret ∷ h .protection .keys .server ∷ h .protection .keys .client ∷ (numberOf (h .protection .keys .mac) ∷ []) ∷ (h .protection .keys .refresh ∷ []) ∷ h .expected ∷ h .kept .hello ∷ bytes8 (h .kept .heard) ∷ h .kept .reply ∷ bytes8 (h .kept .size) ∷ bytes2 (h .protection .window .highest) ∷ bytes8 (h .protection .window .marks) ∷ bytes4 (h .protection .protected) ∷ []) (bytes4 (h .protection .clear)) 449 4 n16 (refl) in
+    let n18 = longer (bytes4 mark ∷ (stateNumber (h .state) ∷ []) ∷ h .id ∷ h .protection .keys .secret ∷ h .protection .keys .server ∷ h .protection .keys .client ∷ (numberOf (h .protection .keys .mac) ∷ []) ∷ (h .protection .keys .refresh ∷ []) ∷ h .expected ∷ h .kept .hello ∷ bytes8 (h .kept .heard) ∷ h .kept .reply ∷ bytes8 (h .kept .size) ∷ bytes2 (h .protection .window .highest) ∷ bytes8 (h .protection .window .marks) ∷ bytes4 (h .protection .protected) ∷ bytes4 (h .protection .clear) ∷ []) (bytes4 (h .last)) 453 4 n17 (refl) in
+    let n19 = longer (bytes4 mark ∷ (stateNumber (h .state) ∷ []) ∷ h .id ∷ h .protection .keys .secret ∷ h .protection .keys .server ∷ h .protection .keys .client ∷ (numberOf (h .protection .keys .mac) ∷ []) ∷ (h .protection .keys .refresh ∷ []) ∷ h .expected ∷ h .kept .hello ∷ bytes8 (h .kept .heard) ∷ h .kept .reply ∷ bytes8 (h .kept .size) ∷ bytes2 (h .protection .window .highest) ∷ bytes8 (h .protection .window .marks) ∷ bytes4 (h .protection .protected) ∷ bytes4 (h .protection .clear) ∷ bytes4 (h .last) ∷ []) ((h .protection .window .width ∷ [])) 457 1 n18 (refl) in
     record {
-      mark = placed [] (bytes4 mark) ((stateNumber (h .state) ∷ []) ∷ h .session .id ∷ h .session .secret ∷ h .agreed .server ∷ h .agreed .client ∷ (numberOf (h .agreed .mac) ∷ []) ∷ (h .agreed .refresh ∷ []) ∷ h .agreed .expected ∷ h .kept .hello ∷ bytes8 (h .kept .heard) ∷ h .kept .reply ∷ bytes8 (h .kept .size) ∷ bytes2 (h .window .highest) ∷ bytes8 (h .window .marks) ∷ bytes4 (h .sending .protected) ∷ bytes4 (h .sending .clear) ∷ bytes4 (h .sending .last) ∷ (h .window .width ∷ []) ∷ []) 0 4 n0 (refl);
-      state = placed (bytes4 mark ∷ []) ((stateNumber (h .state) ∷ [])) (h .session .id ∷ h .session .secret ∷ h .agreed .server ∷ h .agreed .client ∷ (numberOf (h .agreed .mac) ∷ []) ∷ (h .agreed .refresh ∷ []) ∷ h .agreed .expected ∷ h .kept .hello ∷ bytes8 (h .kept .heard) ∷ h .kept .reply ∷ bytes8 (h .kept .size) ∷ bytes2 (h .window .highest) ∷ bytes8 (h .window .marks) ∷ bytes4 (h .sending .protected) ∷ bytes4 (h .sending .clear) ∷ bytes4 (h .sending .last) ∷ (h .window .width ∷ []) ∷ []) 4 1 n1 (refl);
-      id = placed (bytes4 mark ∷ (stateNumber (h .state) ∷ []) ∷ []) (h .session .id) (h .session .secret ∷ h .agreed .server ∷ h .agreed .client ∷ (numberOf (h .agreed .mac) ∷ []) ∷ (h .agreed .refresh ∷ []) ∷ h .agreed .expected ∷ h .kept .hello ∷ bytes8 (h .kept .heard) ∷ h .kept .reply ∷ bytes8 (h .kept .size) ∷ bytes2 (h .window .highest) ∷ bytes8 (h .window .marks) ∷ bytes4 (h .sending .protected) ∷ bytes4 (h .sending .clear) ∷ bytes4 (h .sending .last) ∷ (h .window .width ∷ []) ∷ []) 5 8 n2 (r .id);
-      secret = placed (bytes4 mark ∷ (stateNumber (h .state) ∷ []) ∷ h .session .id ∷ []) (h .session .secret) (h .agreed .server ∷ h .agreed .client ∷ (numberOf (h .agreed .mac) ∷ []) ∷ (h .agreed .refresh ∷ []) ∷ h .agreed .expected ∷ h .kept .hello ∷ bytes8 (h .kept .heard) ∷ h .kept .reply ∷ bytes8 (h .kept .size) ∷ bytes2 (h .window .highest) ∷ bytes8 (h .window .marks) ∷ bytes4 (h .sending .protected) ∷ bytes4 (h .sending .clear) ∷ bytes4 (h .sending .last) ∷ (h .window .width ∷ []) ∷ []) 13 20 n3 (r .secret);
-      server = placed (bytes4 mark ∷ (stateNumber (h .state) ∷ []) ∷ h .session .id ∷ h .session .secret ∷ []) (h .agreed .server) (h .agreed .client ∷ (numberOf (h .agreed .mac) ∷ []) ∷ (h .agreed .refresh ∷ []) ∷ h .agreed .expected ∷ h .kept .hello ∷ bytes8 (h .kept .heard) ∷ h .kept .reply ∷ bytes8 (h .kept .size) ∷ bytes2 (h .window .highest) ∷ bytes8 (h .window .marks) ∷ bytes4 (h .sending .protected) ∷ bytes4 (h .sending .clear) ∷ bytes4 (h .sending .last) ∷ (h .window .width ∷ []) ∷ []) 33 16 n4 (r .server);
-      client = placed (bytes4 mark ∷ (stateNumber (h .state) ∷ []) ∷ h .session .id ∷ h .session .secret ∷ h .agreed .server ∷ []) (h .agreed .client) ((numberOf (h .agreed .mac) ∷ []) ∷ (h .agreed .refresh ∷ []) ∷ h .agreed .expected ∷ h .kept .hello ∷ bytes8 (h .kept .heard) ∷ h .kept .reply ∷ bytes8 (h .kept .size) ∷ bytes2 (h .window .highest) ∷ bytes8 (h .window .marks) ∷ bytes4 (h .sending .protected) ∷ bytes4 (h .sending .clear) ∷ bytes4 (h .sending .last) ∷ (h .window .width ∷ []) ∷ []) 49 16 n5 (r .client);
-      mac = placed (bytes4 mark ∷ (stateNumber (h .state) ∷ []) ∷ h .session .id ∷ h .session .secret ∷ h .agreed .server ∷ h .agreed .client ∷ []) ((numberOf (h .agreed .mac) ∷ [])) ((h .agreed .refresh ∷ []) ∷ h .agreed .expected ∷ h .kept .hello ∷ bytes8 (h .kept .heard) ∷ h .kept .reply ∷ bytes8 (h .kept .size) ∷ bytes2 (h .window .highest) ∷ bytes8 (h .window .marks) ∷ bytes4 (h .sending .protected) ∷ bytes4 (h .sending .clear) ∷ bytes4 (h .sending .last) ∷ (h .window .width ∷ []) ∷ []) 65 1 n6 (refl);
-      refresh = placed (bytes4 mark ∷ (stateNumber (h .state) ∷ []) ∷ h .session .id ∷ h .session .secret ∷ h .agreed .server ∷ h .agreed .client ∷ (numberOf (h .agreed .mac) ∷ []) ∷ []) ((h .agreed .refresh ∷ [])) (h .agreed .expected ∷ h .kept .hello ∷ bytes8 (h .kept .heard) ∷ h .kept .reply ∷ bytes8 (h .kept .size) ∷ bytes2 (h .window .highest) ∷ bytes8 (h .window .marks) ∷ bytes4 (h .sending .protected) ∷ bytes4 (h .sending .clear) ∷ bytes4 (h .sending .last) ∷ (h .window .width ∷ []) ∷ []) 66 1 n7 (refl);
-      expected = placed (bytes4 mark ∷ (stateNumber (h .state) ∷ []) ∷ h .session .id ∷ h .session .secret ∷ h .agreed .server ∷ h .agreed .client ∷ (numberOf (h .agreed .mac) ∷ []) ∷ (h .agreed .refresh ∷ []) ∷ []) (h .agreed .expected) (h .kept .hello ∷ bytes8 (h .kept .heard) ∷ h .kept .reply ∷ bytes8 (h .kept .size) ∷ bytes2 (h .window .highest) ∷ bytes8 (h .window .marks) ∷ bytes4 (h .sending .protected) ∷ bytes4 (h .sending .clear) ∷ bytes4 (h .sending .last) ∷ (h .window .width ∷ []) ∷ []) 67 12 n8 (r .expected);
-      hello = placed (bytes4 mark ∷ (stateNumber (h .state) ∷ []) ∷ h .session .id ∷ h .session .secret ∷ h .agreed .server ∷ h .agreed .client ∷ (numberOf (h .agreed .mac) ∷ []) ∷ (h .agreed .refresh ∷ []) ∷ h .agreed .expected ∷ []) (h .kept .hello) (bytes8 (h .kept .heard) ∷ h .kept .reply ∷ bytes8 (h .kept .size) ∷ bytes2 (h .window .highest) ∷ bytes8 (h .window .marks) ∷ bytes4 (h .sending .protected) ∷ bytes4 (h .sending .clear) ∷ bytes4 (h .sending .last) ∷ (h .window .width ∷ []) ∷ []) 79 256 n9 (r .hello);
-      heard = placed (bytes4 mark ∷ (stateNumber (h .state) ∷ []) ∷ h .session .id ∷ h .session .secret ∷ h .agreed .server ∷ h .agreed .client ∷ (numberOf (h .agreed .mac) ∷ []) ∷ (h .agreed .refresh ∷ []) ∷ h .agreed .expected ∷ h .kept .hello ∷ []) (bytes8 (h .kept .heard)) (h .kept .reply ∷ bytes8 (h .kept .size) ∷ bytes2 (h .window .highest) ∷ bytes8 (h .window .marks) ∷ bytes4 (h .sending .protected) ∷ bytes4 (h .sending .clear) ∷ bytes4 (h .sending .last) ∷ (h .window .width ∷ []) ∷ []) 335 8 n10 (length-eight (h .kept .heard));
-      reply = placed (bytes4 mark ∷ (stateNumber (h .state) ∷ []) ∷ h .session .id ∷ h .session .secret ∷ h .agreed .server ∷ h .agreed .client ∷ (numberOf (h .agreed .mac) ∷ []) ∷ (h .agreed .refresh ∷ []) ∷ h .agreed .expected ∷ h .kept .hello ∷ bytes8 (h .kept .heard) ∷ []) (h .kept .reply) (bytes8 (h .kept .size) ∷ bytes2 (h .window .highest) ∷ bytes8 (h .window .marks) ∷ bytes4 (h .sending .protected) ∷ bytes4 (h .sending .clear) ∷ bytes4 (h .sending .last) ∷ (h .window .width ∷ []) ∷ []) 343 84 n11 (r .reply);
-      size = placed (bytes4 mark ∷ (stateNumber (h .state) ∷ []) ∷ h .session .id ∷ h .session .secret ∷ h .agreed .server ∷ h .agreed .client ∷ (numberOf (h .agreed .mac) ∷ []) ∷ (h .agreed .refresh ∷ []) ∷ h .agreed .expected ∷ h .kept .hello ∷ bytes8 (h .kept .heard) ∷ h .kept .reply ∷ []) (bytes8 (h .kept .size)) (bytes2 (h .window .highest) ∷ bytes8 (h .window .marks) ∷ bytes4 (h .sending .protected) ∷ bytes4 (h .sending .clear) ∷ bytes4 (h .sending .last) ∷ (h .window .width ∷ []) ∷ []) 427 8 n12 (length-eight (h .kept .size));
-      highest = placed (bytes4 mark ∷ (stateNumber (h .state) ∷ []) ∷ h .session .id ∷ h .session .secret ∷ h .agreed .server ∷ h .agreed .client ∷ (numberOf (h .agreed .mac) ∷ []) ∷ (h .agreed .refresh ∷ []) ∷ h .agreed .expected ∷ h .kept .hello ∷ bytes8 (h .kept .heard) ∷ h .kept .reply ∷ bytes8 (h .kept .size) ∷ []) (bytes2 (h .window .highest)) (bytes8 (h .window .marks) ∷ bytes4 (h .sending .protected) ∷ bytes4 (h .sending .clear) ∷ bytes4 (h .sending .last) ∷ (h .window .width ∷ []) ∷ []) 435 2 n13 (refl);
-      marks = placed (bytes4 mark ∷ (stateNumber (h .state) ∷ []) ∷ h .session .id ∷ h .session .secret ∷ h .agreed .server ∷ h .agreed .client ∷ (numberOf (h .agreed .mac) ∷ []) ∷ (h .agreed .refresh ∷ []) ∷ h .agreed .expected ∷ h .kept .hello ∷ bytes8 (h .kept .heard) ∷ h .kept .reply ∷ bytes8 (h .kept .size) ∷ bytes2 (h .window .highest) ∷ []) (bytes8 (h .window .marks)) (bytes4 (h .sending .protected) ∷ bytes4 (h .sending .clear) ∷ bytes4 (h .sending .last) ∷ (h .window .width ∷ []) ∷ []) 437 8 n14 (length-eight (h .window .marks));
-      protected = placed (bytes4 mark ∷ (stateNumber (h .state) ∷ []) ∷ h .session .id ∷ h .session .secret ∷ h .agreed .server ∷ h .agreed .client ∷ (numberOf (h .agreed .mac) ∷ []) ∷ (h .agreed .refresh ∷ []) ∷ h .agreed .expected ∷ h .kept .hello ∷ bytes8 (h .kept .heard) ∷ h .kept .reply ∷ bytes8 (h .kept .size) ∷ bytes2 (h .window .highest) ∷ bytes8 (h .window .marks) ∷ []) (bytes4 (h .sending .protected)) (bytes4 (h .sending .clear) ∷ bytes4 (h .sending .last) ∷ (h .window .width ∷ []) ∷ []) 445 4 n15 (refl);
-      clear = placed (bytes4 mark ∷ (stateNumber (h .state) ∷ []) ∷ h .session .id ∷ h .session .secret ∷ h .agreed .server ∷ h .agreed .client ∷ (numberOf (h .agreed .mac) ∷ []) ∷ (h .agreed .refresh ∷ []) ∷ h .agreed .expected ∷ h .kept .hello ∷ bytes8 (h .kept .heard) ∷ h .kept .reply ∷ bytes8 (h .kept .size) ∷ bytes2 (h .window .highest) ∷ bytes8 (h .window .marks) ∷ bytes4 (h .sending .protected) ∷ []) (bytes4 (h .sending .clear)) (bytes4 (h .sending .last) ∷ (h .window .width ∷ []) ∷ []) 449 4 n16 (refl);
-      last = placed (bytes4 mark ∷ (stateNumber (h .state) ∷ []) ∷ h .session .id ∷ h .session .secret ∷ h .agreed .server ∷ h .agreed .client ∷ (numberOf (h .agreed .mac) ∷ []) ∷ (h .agreed .refresh ∷ []) ∷ h .agreed .expected ∷ h .kept .hello ∷ bytes8 (h .kept .heard) ∷ h .kept .reply ∷ bytes8 (h .kept .size) ∷ bytes2 (h .window .highest) ∷ bytes8 (h .window .marks) ∷ bytes4 (h .sending .protected) ∷ bytes4 (h .sending .clear) ∷ []) (bytes4 (h .sending .last)) ((h .window .width ∷ []) ∷ []) 453 4 n17 (refl);
-      width = placed (bytes4 mark ∷ (stateNumber (h .state) ∷ []) ∷ h .session .id ∷ h .session .secret ∷ h .agreed .server ∷ h .agreed .client ∷ (numberOf (h .agreed .mac) ∷ []) ∷ (h .agreed .refresh ∷ []) ∷ h .agreed .expected ∷ h .kept .hello ∷ bytes8 (h .kept .heard) ∷ h .kept .reply ∷ bytes8 (h .kept .size) ∷ bytes2 (h .window .highest) ∷ bytes8 (h .window .marks) ∷ bytes4 (h .sending .protected) ∷ bytes4 (h .sending .clear) ∷ bytes4 (h .sending .last) ∷ []) ((h .window .width ∷ [])) [] 457 1 n18 (refl);
+      mark = placed [] (bytes4 mark) ((stateNumber (h .state) ∷ []) ∷ h .id ∷ h .protection .keys .secret ∷ h .protection .keys .server ∷ h .protection .keys .client ∷ (numberOf (h .protection .keys .mac) ∷ []) ∷ (h .protection .keys .refresh ∷ []) ∷ h .expected ∷ h .kept .hello ∷ bytes8 (h .kept .heard) ∷ h .kept .reply ∷ bytes8 (h .kept .size) ∷ bytes2 (h .protection .window .highest) ∷ bytes8 (h .protection .window .marks) ∷ bytes4 (h .protection .protected) ∷ bytes4 (h .protection .clear) ∷ bytes4 (h .last) ∷ (h .protection .window .width ∷ []) ∷ []) 0 4 n0 (refl);
+      state = placed (bytes4 mark ∷ []) ((stateNumber (h .state) ∷ [])) (h .id ∷ h .protection .keys .secret ∷ h .protection .keys .server ∷ h .protection .keys .client ∷ (numberOf (h .protection .keys .mac) ∷ []) ∷ (h .protection .keys .refresh ∷ []) ∷ h .expected ∷ h .kept .hello ∷ bytes8 (h .kept .heard) ∷ h .kept .reply ∷ bytes8 (h .kept .size) ∷ bytes2 (h .protection .window .highest) ∷ bytes8 (h .protection .window .marks) ∷ bytes4 (h .protection .protected) ∷ bytes4 (h .protection .clear) ∷ bytes4 (h .last) ∷ (h .protection .window .width ∷ []) ∷ []) 4 1 n1 (refl);
+      id = placed (bytes4 mark ∷ (stateNumber (h .state) ∷ []) ∷ []) (h .id) (h .protection .keys .secret ∷ h .protection .keys .server ∷ h .protection .keys .client ∷ (numberOf (h .protection .keys .mac) ∷ []) ∷ (h .protection .keys .refresh ∷ []) ∷ h .expected ∷ h .kept .hello ∷ bytes8 (h .kept .heard) ∷ h .kept .reply ∷ bytes8 (h .kept .size) ∷ bytes2 (h .protection .window .highest) ∷ bytes8 (h .protection .window .marks) ∷ bytes4 (h .protection .protected) ∷ bytes4 (h .protection .clear) ∷ bytes4 (h .last) ∷ (h .protection .window .width ∷ []) ∷ []) 5 8 n2 (r .id);
+      secret = placed (bytes4 mark ∷ (stateNumber (h .state) ∷ []) ∷ h .id ∷ []) (h .protection .keys .secret) (h .protection .keys .server ∷ h .protection .keys .client ∷ (numberOf (h .protection .keys .mac) ∷ []) ∷ (h .protection .keys .refresh ∷ []) ∷ h .expected ∷ h .kept .hello ∷ bytes8 (h .kept .heard) ∷ h .kept .reply ∷ bytes8 (h .kept .size) ∷ bytes2 (h .protection .window .highest) ∷ bytes8 (h .protection .window .marks) ∷ bytes4 (h .protection .protected) ∷ bytes4 (h .protection .clear) ∷ bytes4 (h .last) ∷ (h .protection .window .width ∷ []) ∷ []) 13 20 n3 (r .secret);
+      server = placed (bytes4 mark ∷ (stateNumber (h .state) ∷ []) ∷ h .id ∷ h .protection .keys .secret ∷ []) (h .protection .keys .server) (h .protection .keys .client ∷ (numberOf (h .protection .keys .mac) ∷ []) ∷ (h .protection .keys .refresh ∷ []) ∷ h .expected ∷ h .kept .hello ∷ bytes8 (h .kept .heard) ∷ h .kept .reply ∷ bytes8 (h .kept .size) ∷ bytes2 (h .protection .window .highest) ∷ bytes8 (h .protection .window .marks) ∷ bytes4 (h .protection .protected) ∷ bytes4 (h .protection .clear) ∷ bytes4 (h .last) ∷ (h .protection .window .width ∷ []) ∷ []) 33 16 n4 (r .server);
+      client = placed (bytes4 mark ∷ (stateNumber (h .state) ∷ []) ∷ h .id ∷ h .protection .keys .secret ∷ h .protection .keys .server ∷ []) (h .protection .keys .client) ((numberOf (h .protection .keys .mac) ∷ []) ∷ (h .protection .keys .refresh ∷ []) ∷ h .expected ∷ h .kept .hello ∷ bytes8 (h .kept .heard) ∷ h .kept .reply ∷ bytes8 (h .kept .size) ∷ bytes2 (h .protection .window .highest) ∷ bytes8 (h .protection .window .marks) ∷ bytes4 (h .protection .protected) ∷ bytes4 (h .protection .clear) ∷ bytes4 (h .last) ∷ (h .protection .window .width ∷ []) ∷ []) 49 16 n5 (r .client);
+      mac = placed (bytes4 mark ∷ (stateNumber (h .state) ∷ []) ∷ h .id ∷ h .protection .keys .secret ∷ h .protection .keys .server ∷ h .protection .keys .client ∷ []) ((numberOf (h .protection .keys .mac) ∷ [])) ((h .protection .keys .refresh ∷ []) ∷ h .expected ∷ h .kept .hello ∷ bytes8 (h .kept .heard) ∷ h .kept .reply ∷ bytes8 (h .kept .size) ∷ bytes2 (h .protection .window .highest) ∷ bytes8 (h .protection .window .marks) ∷ bytes4 (h .protection .protected) ∷ bytes4 (h .protection .clear) ∷ bytes4 (h .last) ∷ (h .protection .window .width ∷ []) ∷ []) 65 1 n6 (refl);
+      refresh = placed (bytes4 mark ∷ (stateNumber (h .state) ∷ []) ∷ h .id ∷ h .protection .keys .secret ∷ h .protection .keys .server ∷ h .protection .keys .client ∷ (numberOf (h .protection .keys .mac) ∷ []) ∷ []) ((h .protection .keys .refresh ∷ [])) (h .expected ∷ h .kept .hello ∷ bytes8 (h .kept .heard) ∷ h .kept .reply ∷ bytes8 (h .kept .size) ∷ bytes2 (h .protection .window .highest) ∷ bytes8 (h .protection .window .marks) ∷ bytes4 (h .protection .protected) ∷ bytes4 (h .protection .clear) ∷ bytes4 (h .last) ∷ (h .protection .window .width ∷ []) ∷ []) 66 1 n7 (refl);
+      expected = placed (bytes4 mark ∷ (stateNumber (h .state) ∷ []) ∷ h .id ∷ h .protection .keys .secret ∷ h .protection .keys .server ∷ h .protection .keys .client ∷ (numberOf (h .protection .keys .mac) ∷ []) ∷ (h .protection .keys .refresh ∷ []) ∷ []) (h .expected) (h .kept .hello ∷ bytes8 (h .kept .heard) ∷ h .kept .reply ∷ bytes8 (h .kept .size) ∷ bytes2 (h .protection .window .highest) ∷ bytes8 (h .protection .window .marks) ∷ bytes4 (h .protection .protected) ∷ bytes4 (h .protection .clear) ∷ bytes4 (h .last) ∷ (h .protection .window .width ∷ []) ∷ []) 67 12 n8 (r .expected);
+      hello = placed (bytes4 mark ∷ (stateNumber (h .state) ∷ []) ∷ h .id ∷ h .protection .keys .secret ∷ h .protection .keys .server ∷ h .protection .keys .client ∷ (numberOf (h .protection .keys .mac) ∷ []) ∷ (h .protection .keys .refresh ∷ []) ∷ h .expected ∷ []) (h .kept .hello) (bytes8 (h .kept .heard) ∷ h .kept .reply ∷ bytes8 (h .kept .size) ∷ bytes2 (h .protection .window .highest) ∷ bytes8 (h .protection .window .marks) ∷ bytes4 (h .protection .protected) ∷ bytes4 (h .protection .clear) ∷ bytes4 (h .last) ∷ (h .protection .window .width ∷ []) ∷ []) 79 256 n9 (r .hello);
+      heard = placed (bytes4 mark ∷ (stateNumber (h .state) ∷ []) ∷ h .id ∷ h .protection .keys .secret ∷ h .protection .keys .server ∷ h .protection .keys .client ∷ (numberOf (h .protection .keys .mac) ∷ []) ∷ (h .protection .keys .refresh ∷ []) ∷ h .expected ∷ h .kept .hello ∷ []) (bytes8 (h .kept .heard)) (h .kept .reply ∷ bytes8 (h .kept .size) ∷ bytes2 (h .protection .window .highest) ∷ bytes8 (h .protection .window .marks) ∷ bytes4 (h .protection .protected) ∷ bytes4 (h .protection .clear) ∷ bytes4 (h .last) ∷ (h .protection .window .width ∷ []) ∷ []) 335 8 n10 (length-eight (h .kept .heard));
+      reply = placed (bytes4 mark ∷ (stateNumber (h .state) ∷ []) ∷ h .id ∷ h .protection .keys .secret ∷ h .protection .keys .server ∷ h .protection .keys .client ∷ (numberOf (h .protection .keys .mac) ∷ []) ∷ (h .protection .keys .refresh ∷ []) ∷ h .expected ∷ h .kept .hello ∷ bytes8 (h .kept .heard) ∷ []) (h .kept .reply) (bytes8 (h .kept .size) ∷ bytes2 (h .protection .window .highest) ∷ bytes8 (h .protection .window .marks) ∷ bytes4 (h .protection .protected) ∷ bytes4 (h .protection .clear) ∷ bytes4 (h .last) ∷ (h .protection .window .width ∷ []) ∷ []) 343 84 n11 (r .reply);
+      size = placed (bytes4 mark ∷ (stateNumber (h .state) ∷ []) ∷ h .id ∷ h .protection .keys .secret ∷ h .protection .keys .server ∷ h .protection .keys .client ∷ (numberOf (h .protection .keys .mac) ∷ []) ∷ (h .protection .keys .refresh ∷ []) ∷ h .expected ∷ h .kept .hello ∷ bytes8 (h .kept .heard) ∷ h .kept .reply ∷ []) (bytes8 (h .kept .size)) (bytes2 (h .protection .window .highest) ∷ bytes8 (h .protection .window .marks) ∷ bytes4 (h .protection .protected) ∷ bytes4 (h .protection .clear) ∷ bytes4 (h .last) ∷ (h .protection .window .width ∷ []) ∷ []) 427 8 n12 (length-eight (h .kept .size));
+      highest = placed (bytes4 mark ∷ (stateNumber (h .state) ∷ []) ∷ h .id ∷ h .protection .keys .secret ∷ h .protection .keys .server ∷ h .protection .keys .client ∷ (numberOf (h .protection .keys .mac) ∷ []) ∷ (h .protection .keys .refresh ∷ []) ∷ h .expected ∷ h .kept .hello ∷ bytes8 (h .kept .heard) ∷ h .kept .reply ∷ bytes8 (h .kept .size) ∷ []) (bytes2 (h .protection .window .highest)) (bytes8 (h .protection .window .marks) ∷ bytes4 (h .protection .protected) ∷ bytes4 (h .protection .clear) ∷ bytes4 (h .last) ∷ (h .protection .window .width ∷ []) ∷ []) 435 2 n13 (refl);
+      marks = placed (bytes4 mark ∷ (stateNumber (h .state) ∷ []) ∷ h .id ∷ h .protection .keys .secret ∷ h .protection .keys .server ∷ h .protection .keys .client ∷ (numberOf (h .protection .keys .mac) ∷ []) ∷ (h .protection .keys .refresh ∷ []) ∷ h .expected ∷ h .kept .hello ∷ bytes8 (h .kept .heard) ∷ h .kept .reply ∷ bytes8 (h .kept .size) ∷ bytes2 (h .protection .window .highest) ∷ []) (bytes8 (h .protection .window .marks)) (bytes4 (h .protection .protected) ∷ bytes4 (h .protection .clear) ∷ bytes4 (h .last) ∷ (h .protection .window .width ∷ []) ∷ []) 437 8 n14 (length-eight (h .protection .window .marks));
+      protected = placed (bytes4 mark ∷ (stateNumber (h .state) ∷ []) ∷ h .id ∷ h .protection .keys .secret ∷ h .protection .keys .server ∷ h .protection .keys .client ∷ (numberOf (h .protection .keys .mac) ∷ []) ∷ (h .protection .keys .refresh ∷ []) ∷ h .expected ∷ h .kept .hello ∷ bytes8 (h .kept .heard) ∷ h .kept .reply ∷ bytes8 (h .kept .size) ∷ bytes2 (h .protection .window .highest) ∷ bytes8 (h .protection .window .marks) ∷ []) (bytes4 (h .protection .protected)) (bytes4 (h .protection .clear) ∷ bytes4 (h .last) ∷ (h .protection .window .width ∷ []) ∷ []) 445 4 n15 (refl);
+      clear = placed (bytes4 mark ∷ (stateNumber (h .state) ∷ []) ∷ h .id ∷ h .protection .keys .secret ∷ h .protection .keys .server ∷ h .protection .keys .client ∷ (numberOf (h .protection .keys .mac) ∷ []) ∷ (h .protection .keys .refresh ∷ []) ∷ h .expected ∷ h .kept .hello ∷ bytes8 (h .kept .heard) ∷ h .kept .reply ∷ bytes8 (h .kept .size) ∷ bytes2 (h .protection .window .highest) ∷ bytes8 (h .protection .window .marks) ∷ bytes4 (h .protection .protected) ∷ []) (bytes4 (h .protection .clear)) (bytes4 (h .last) ∷ (h .protection .window .width ∷ []) ∷ []) 449 4 n16 (refl);
+      last = placed (bytes4 mark ∷ (stateNumber (h .state) ∷ []) ∷ h .id ∷ h .protection .keys .secret ∷ h .protection .keys .server ∷ h .protection .keys .client ∷ (numberOf (h .protection .keys .mac) ∷ []) ∷ (h .protection .keys .refresh ∷ []) ∷ h .expected ∷ h .kept .hello ∷ bytes8 (h .kept .heard) ∷ h .kept .reply ∷ bytes8 (h .kept .size) ∷ bytes2 (h .protection .window .highest) ∷ bytes8 (h .protection .window .marks) ∷ bytes4 (h .protection .protected) ∷ bytes4 (h .protection .clear) ∷ []) (bytes4 (h .last)) ((h .protection .window .width ∷ []) ∷ []) 453 4 n17 (refl);
+      width = placed (bytes4 mark ∷ (stateNumber (h .state) ∷ []) ∷ h .id ∷ h .protection .keys .secret ∷ h .protection .keys .server ∷ h .protection .keys .client ∷ (numberOf (h .protection .keys .mac) ∷ []) ∷ (h .protection .keys .refresh ∷ []) ∷ h .expected ∷ h .kept .hello ∷ bytes8 (h .kept .heard) ∷ h .kept .reply ∷ bytes8 (h .kept .size) ∷ bytes2 (h .protection .window .highest) ∷ bytes8 (h .protection .window .marks) ∷ bytes4 (h .protection .protected) ∷ bytes4 (h .protection .clear) ∷ bytes4 (h .last) ∷ []) ((h .protection .window .width ∷ [])) [] 457 1 n18 (refl);
       all = n19;
     }
 
 back : (h : Handshake) (b : List ℕ) → Placed h b → Ranged (record { handshake = h }) → handshakeIn b ≡ h
-unfolding handshakeIn sessionIn agreedIn keptIn windowIn sendingIn
+unfolding handshakeIn protectionIn keysIn keptIn windowIn
 back h b p r =
     λ i. record {
       state = (ap stateNumbered (byte-back b 4 (stateNumber (h .state)) (p .state)) ∙ state-back (h .state)) i;
-      session = record { id = p .id i; secret = p .secret i };
-      agreed =
-          record {
-            server = p .server i;
-            client = p .client i;
-            mac = (ap macNumbered (byte-back b 65 (numberOf (h .agreed .mac)) (p .mac)) ∙ mac-back (h .agreed .mac)) i;
-            refresh = byte-back b 66 (h .agreed .refresh) (p .refresh) i;
-            expected = p .expected i;
-          };
+      id = p .id i;
+      expected = p .expected i;
       kept =
           record {
             hello = p .hello i;
@@ -161,17 +154,25 @@ back h b p r =
             reply = p .reply i;
             size = eight-back b 427 (h .kept .size) (r .size) (p .size) i;
           };
-      window =
+      last = four-back b 453 (h .last) (r .last) (p .last) i;
+      protection =
           record {
-            width = byte-back b 457 (h .window .width) (p .width) i;
-            highest = two-back b 435 (h .window .highest) (r .highest) (p .highest) i;
-            marks = eight-back b 437 (h .window .marks) (r .marks) (p .marks) i;
-          };
-      sending =
-          record {
-            protected = four-back b 445 (h .sending .protected) (r .protected) (p .protected) i;
-            clear = four-back b 449 (h .sending .clear) (r .clear) (p .clear) i;
-            last = four-back b 453 (h .sending .last) (r .last) (p .last) i;
+            keys =
+                record {
+                  secret = p .secret i;
+                  server = p .server i;
+                  client = p .client i;
+                  mac = (ap macNumbered (byte-back b 65 (numberOf (h .protection .keys .mac)) (p .mac)) ∙ mac-back (h .protection .keys .mac)) i;
+                  refresh = byte-back b 66 (h .protection .keys .refresh) (p .refresh) i;
+                };
+            window =
+                record {
+                  width = byte-back b 457 (h .protection .window .width) (p .width) i;
+                  highest = two-back b 435 (h .protection .window .highest) (r .highest) (p .highest) i;
+                  marks = eight-back b 437 (h .protection .window .marks) (r .marks) (p .marks) i;
+                };
+            protected = four-back b 445 (h .protection .protected) (r .protected) (p .protected) i;
+            clear = four-back b 449 (h .protection .clear) (r .clear) (p .clear) i;
           };
     }
 
@@ -181,7 +182,7 @@ sound h b p =
     rw (eq-eqb (length b) stateSize (p .all))
     (rw (four-back b 0 mark (omega arith) (p .mark))
     (rw (byte-back b 4 (stateNumber (h .state)) (p .state))
-    (rw (state-most (h .state)) (rw (byte-back b 65 (numberOf (h .agreed .mac)) (p .mac)) (mac-one (h .agreed .mac))))))
+    (rw (state-most (h .state)) (rw (byte-back b 65 (numberOf (h .protection .keys .mac)) (p .mac)) (mac-one (h .protection .keys .mac))))))
 
 -- Load of save gives the connection back.
 pub saved-loads : (c : Connection) → Ranged c → loaded (savedOf c) ≡ Is c
@@ -246,7 +247,7 @@ tested b h =
     record { size = eqb-true (length b) stateSize (one .0); marked = eqb-true (wordAt b 0) mark (two .0); state = three .0; mac = three .1 }
 
 there : (b : List ℕ) → Bytes b → Tested b → savedHandshake (handshakeIn b) ≡ b
-unfolding savedHandshake handshakeIn sessionIn agreedIn keptIn windowIn sendingIn cuts total
+unfolding savedHandshake handshakeIn protectionIn keysIn keptIn windowIn cuts total
 there b all t =
     let room : length b ≡ stateSize = t .size in
     let marks : bytes4 mark ≡ bytesIn b 0 4 = ap bytes4 (sym (t .marked)) ∙ four-there b 0 all (omega arith) in
@@ -286,7 +287,7 @@ loads-saved b c all e =
     ap savedOf (sym (is .1)) ∙ there b all (tested b (is .0))
 
 ranged : (b : List ℕ) → Bytes b → length b ≡ stateSize → Ranged (connectionIn b)
-unfolding handshakeIn sessionIn agreedIn keptIn windowIn sendingIn
+unfolding handshakeIn protectionIn keysIn keptIn windowIn
 ranged b all l =
     record {
       id = part-length b 5 8 (omega arith);

@@ -1,6 +1,6 @@
 -- The parts of an answer lose nothing: a reply has at most 84 bytes, a datagram at most 8 records, a record at fault begins inside its
 -- 1,400 bytes, and what is sent has at most 1,323 bytes. Each is far below the 65,536 that a part can hold.
-use mathlib.Core.Path.{_≡_, refl, sym, _∙_, ap}
+use mathlib.Core.Path.{_≡_, refl, sym, _∙_, ap, subst}
 use mathlib.Core.Bool.{Bool, true, false}
 use mathlib.Core.List.{List, [], _∷_}
 use Prim.Native.Nat.{ℕ, zero, suc, _+_, _-_, _≤_}
@@ -40,11 +40,12 @@ use Rattle.message.specs.declared.alert.Sorted.{Sorted}
 use Rattle.message.specs.declared.alert.Sorted.the-variants as D
 use Rattle.message.specs.declared.finished.Verified.{Verified}
 use Rattle.message.specs.declared.finished.Verified.the-variants as Fin
-use Rattle.connection.specs.Handshake.{withState, withWindow}
+use Rattle.connection.specs.Handshake.{withState, withWindow, planted}
 use Rattle.connection.specs.State.{ruleOf}
 use Rattle.connection.specs.Answer.{replySize, judged, refusing}
 use Rattle.connection.specs.Clear.{heardTo, greetedBy, isKept, keptSize, greetedAgain, changedBy, byLevel, heardBy, heardAlert}
-use Rattle.connection.specs.Sealed.{finishedIn, verifiedTo, verifiedBy, sealedLevel, alertedTo, alertedBy, contentBy, windowedTo, genuineIn, contentIn, unsealedBy}
+use Rattle.connection.specs.Sealed.{finishedIn, verifiedTo, verifiedBy, sealedLevel, alertedTo, alertedBy, contentBy, unsealedBy}
+use Rattle.connection.proofs.Unsealing.{windowedTo, genuineIn, contentIn, unsealed-is}
 use Rattle.connection.specs.Judge.{ruledBy, fragmentOf, kindIn, judgedRecord}
 use Rattle.connection.specs.Receive.{receivedOf, framedTo, firstReply, runOf, wholeOf}
 use Rattle.connection.specs.Send.{dataSent, dataOutcome, dataRefused, andThen, mayData, numberedBy, alertSent, alertSentAs, alertOutcome, alertBody, nextAlert, afterAlert, sentTo, done, nextProtected, afterProtected}
@@ -67,7 +68,7 @@ use Rattle.connection.specs.declared.receive.Taken.the-variants as T
 use Rattle.connection.specs.declared.send.Sent.{Sent}
 use Rattle.connection.proofs.Replying.{reply-size}
 use Rattle.connection.proofs.Sending.{next-size, clear-size}
-use Rattle.lent.specs.Saved.{stateSize, isSaved, connectionIn, handshakeIn, sessionIn, keptIn}
+use Rattle.lent.specs.Saved.{stateSize, isSaved, connectionIn, handshakeIn, keptIn}
 use Rattle.lent.specs.Calls.{writtenPart, countPart, notTaken, refusalIn, sentResult, dataResult, alertResult, lentFor, takenResult, got, receiveResult}
 use Rattle.lent.proofs.Reading.{part-length}
 use Rattle.lent.proofs.Calling.{lent-sizes, sense-in}
@@ -128,7 +129,7 @@ module _ where
   small-content h K.SealedData number at content =
       small-pick (eqb (length content) 0) (refusing Malformed h) (judged (W.Data number at (length content)) h) (omega arith) (omega arith)
   small-content h K.SealedAlert number at content = small-alerted h (alertOf content)
-  small-content h K.SealedHandshake number at content = small-verified h (judgedOf content (h .agreed .expected))
+  small-content h K.SealedHandshake number at content = small-verified h (judgedOf content (h .expected))
   small-content h K.SealedChange number at content = omega arith
   small-content h K.ClearHello number at content = omega arith
   small-content h K.ClearChange number at content = omega arith
@@ -142,11 +143,11 @@ module _ where
   small-windowed h kind number at content (A.New window arrived) = small-content (withWindow h window) kind number at content
 
   small-unsealed : (h : Handshake) (kind : Kind) (byte number at : ℕ) (fragment : List ℕ) → Small (unsealedBy h kind byte number at fragment)
-  unfolding unsealedBy
   small-unsealed h kind byte number at fragment =
-      small-pick (genuineIn h byte number fragment) (windowedTo h kind number at (contentIn h fragment) (acceptOf (h .window) number)) (refusing Forged h)
-      (small-windowed h kind number at (contentIn h fragment) (acceptOf (h .window) number))
-      (small-refusing Forged h)
+      subst Small (sym (unsealed-is h kind byte number at fragment))
+      (small-pick (genuineIn h byte number fragment) (windowedTo h kind number at (contentIn h fragment) (acceptOf (h .protection .window) number)) (refusing Forged h)
+      (small-windowed h kind number at (contentIn h fragment) (acceptOf (h .protection .window) number))
+      (small-refusing Forged h))
 
   small-level : (h : Handshake) (l : Level) (d : Description) → Small (byLevel h l d)
   unfolding Small
@@ -157,7 +158,7 @@ module _ where
   small-heard : (h : Handshake) (a : AlertReading) → Small (heardBy h a)
   small-heard h Q.Malformed = small-refusing Malformed h
   small-heard h (Q.WellFormed a) =
-      small-pick (eqb (a .checksum) (h .sending .last)) (byLevel h (a .level) (a .description)) (refusing Checksum h)
+      small-pick (eqb (a .checksum) (h .last)) (byLevel h (a .level) (a .description)) (refusing Checksum h)
       (small-level h (a .level) (a .description))
       (small-refusing Checksum h)
 
@@ -167,16 +168,16 @@ module _ where
       small-pick (isChange fragment) (judged W.Spec (withState (withWindow h _) S.Spec)) (refusing Malformed h) (omega arith) (omega arith)
 
   -- what a hello gives: 74 or 84 bytes
-  module _ (h : Handshake) (random : List ℕ) (lr : length random ≡ 16) (li : length (h .session .id) ≡ 8) (lk : length (h .kept .reply) ≤ 84) where
+  module _ (h : Handshake) (random : List ℕ) (lr : length random ≡ 16) (li : length (h .id) ≡ 8) (lk : length (h .kept .reply) ≤ 84) where
     small-to : (m : List ℕ) (heard : Heard) → Small (heardTo h random m heard)
     unfolding Small
-    small-to m (H.Accepted plan) = omega (arith, reply-size (h .session) random m plan lr li, size-most (plan .mac))
+    small-to m (H.Accepted plan) = omega (arith, reply-size (planted h) random m plan lr li, size-most (plan .mac))
     small-to m (H.Unacceptable condition) = omega arith
     small-to m (H.Malformed fault) = omega arith
 
     small-greeted : (m : List ℕ) → Small (greetedBy h random m)
     unfolding greetedBy
-    small-greeted m = small-to m (heardOf m (h .session .id))
+    small-greeted m = small-to m (heardOf m (h .id))
 
     small-again : (m : List ℕ) → Small (greetedAgain h random m)
     unfolding greetedAgain Small
@@ -254,7 +255,7 @@ countIn (T.Records count) = count
 countIn (T.Refused refusal) = 0
 countIn (T.Misframed refusal at) = at
 
-exact-framed : (c : Connection) (random d : List ℕ) (f : Framing) → framingOf d ≡ f → length random ≡ 16 → length (c .handshake .session .id) ≡ 8 → length (c .handshake .kept .reply) ≤ 84
+exact-framed : (c : Connection) (random d : List ℕ) (f : Framing) → framingOf d ≡ f → length random ≡ 16 → length (c .handshake .id) ≡ 8 → length (c .handshake .kept .reply) ≤ 84
     → (framedTo c random d f .written ≤ 84) × (countIn (framedTo c random d f .taken) ≤ 1400)
 unfolding runOf wholeOf offsetIn
 exact-framed c random d (framed rs) e lr li lk =
@@ -262,7 +263,7 @@ exact-framed c random d (framed rs) e lr li lk =
 exact-framed c random d (faulty f at) e lr li lk =
     (omega arith, omega (arith, offset-most d, ap offsetIn e))
 
-exact-received : (c : Connection) (d random : List ℕ) (room : ℕ) → length (c .handshake .session .id) ≡ 8 → length (c .handshake .kept .reply) ≤ 84
+exact-received : (c : Connection) (d random : List ℕ) (room : ℕ) → length (c .handshake .id) ≡ 8 → length (c .handshake .kept .reply) ≤ 84
     → (receivedOf c d random room .written ≤ 84) × (countIn (receivedOf c d random room .taken) ≤ 1400)
 unfolding receivedOf wholeOf
 exact-received c d random room li lk = told (eqb (length random) 16) (ltb room 128) refl
@@ -276,7 +277,7 @@ exact-received c d random room li lk = told (eqb (length random) 16) (ltb room 1
 
 lent-exact : (state d random : List ℕ) (room : ℕ) → length state ≡ stateSize
     → (got state d random room .written ≤ 84) × (countIn (got state d random room .taken) ≤ 1400)
-unfolding handshakeIn sessionIn keptIn
+unfolding handshakeIn keptIn
 lent-exact state d random room l =
     exact-received (connectionIn state) d random room (part-length state 5 8 (omega arith)) (take-most 84 (drop 343 state))
 
@@ -328,17 +329,17 @@ data-most c bytes room =
     let h = c .handshake in
     let next = nextProtected h C.Data bytes in
     sent-most true (dataOutcome h (length bytes) room) c next (afterProtected h next)
-    (λ e. omega (arith, size h (length bytes) room e, next-size h C.Data bytes, size-most (h .agreed .mac)))
+    (λ e. omega (arith, size h (length bytes) room e, next-size h C.Data bytes, size-most (h .protection .keys .mac)))
   where
     size : (h : Handshake) (n room : ℕ) → dataOutcome h n room ≡ Done → n ≤ 1300
-    size h n room e = most (h .state) n (h .sending .protected) (sizeOf (h .agreed .mac)) room e
+    size h n room e = most (h .state) n (h .protection .protected) (sizeOf (h .protection .keys .mac)) room e
 
 alert-most : (c : Connection) (sealed : Bool) (answered : List ℕ) (room : ℕ) (g : Graded) (d : Sorted) → alertSentAs c sealed answered room g d .written ≤ 1323
 alert-most c true answered room (G.Is level) (D.Assigned description) =
     let h = c .handshake in
     let body = alertBody level description answered in
     sent-most true (alertOutcome true h (length answered) room) c (nextAlert true h body) (afterAlert true h (nextAlert true h body))
-    (λ e. omega (arith, next-size h C.Alert body, size-most (h .agreed .mac)))
+    (λ e. omega (arith, next-size h C.Alert body, size-most (h .protection .keys .mac)))
 alert-most c false answered room (G.Is level) (D.Assigned description) =
     let h = c .handshake in
     let body = alertBody level description answered in

@@ -32,13 +32,14 @@ use Rattle.digest.specs.Bytes.{bytes2, bytes4, bytes8, wordAt}
 use Rattle.digest.specs.Mac.{numberOf}
 use Rattle.digest.specs.declared.mac.Mac.{Mac}
 use Rattle.digest.specs.declared.mac.Mac.the-variants.{Sha80, Sha}
+use Rattle.record.specs.declared.keys.Keys.{Keys}
+use Rattle.record.specs.declared.protection.Protection.{Protection}
 use Rattle.record.specs.declared.window.Window.{Window}
+use Rattle.connection.specs.Handshake.{planted}
 use Rattle.connection.specs.declared.state.State.{State}
 use Rattle.connection.specs.declared.state.State.the-variants.{Idle, Replied, Spec, Open, Closed, Barred}
 use Rattle.connection.specs.declared.handshake.Session.{Session}
-use Rattle.connection.specs.declared.handshake.Agreed.{Agreed}
 use Rattle.connection.specs.declared.handshake.Kept.{Kept}
-use Rattle.connection.specs.declared.handshake.Sending.{Sending}
 use Rattle.connection.specs.declared.handshake.Handshake.{Handshake}
 use Rattle.connection.specs.declared.calls.Connection.{Connection}
 use Rattle.lent.specs.Fields.{joined, bytesIn, twoIn, eightIn}
@@ -67,9 +68,9 @@ headFields state = bytes4 mark ∷ (stateNumber state ∷ []) ∷ []
 abbrev pub sessionFields : Session → List (List ℕ)
 sessionFields session = session .id ∷ session .secret ∷ []
 
-abbrev pub agreedFields : Agreed → List (List ℕ)
-agreedFields agreed =
-    agreed .server ∷ agreed .client ∷ (numberOf (agreed .mac) ∷ []) ∷ (agreed .refresh ∷ []) ∷ agreed .expected ∷ []
+abbrev pub agreedFields : Keys → List ℕ → List (List ℕ)
+agreedFields keys expected =
+    keys .server ∷ keys .client ∷ (numberOf (keys .mac) ∷ []) ∷ (keys .refresh ∷ []) ∷ expected ∷ []
 
 abbrev pub keptFields : Kept → List (List ℕ)
 keptFields kept = kept .hello ∷ bytes8 (kept .heard) ∷ kept .reply ∷ bytes8 (kept .size) ∷ []
@@ -80,20 +81,20 @@ windowFields window = bytes2 (window .highest) ∷ bytes8 (window .marks) ∷ []
 abbrev pub widthFields : Window → List (List ℕ)
 widthFields window = (window .width ∷ []) ∷ []
 
-abbrev pub sendingFields : Sending → List (List ℕ)
-sendingFields sending = bytes4 (sending .protected) ∷ bytes4 (sending .clear) ∷ bytes4 (sending .last) ∷ []
+abbrev pub sendingFields : Protection → ℕ → List (List ℕ)
+sendingFields p last = bytes4 (p .protected) ∷ bytes4 (p .clear) ∷ bytes4 last ∷ []
 
 -- the bytes of a connection
 unfoldable pub savedHandshake : Handshake → List ℕ
 savedHandshake h =
     joined
     (headFields (h .state)
-    ++ sessionFields (h .session)
-    ++ agreedFields (h .agreed)
+    ++ sessionFields (planted h)
+    ++ agreedFields (h .protection .keys) (h .expected)
     ++ keptFields (h .kept)
-    ++ windowFields (h .window)
-    ++ sendingFields (h .sending)
-    ++ widthFields (h .window))
+    ++ windowFields (h .protection .window)
+    ++ sendingFields (h .protection) (h .last)
+    ++ widthFields (h .protection .window))
 
 abbrev pub savedOf : Connection → List ℕ
 savedOf c = savedHandshake (c .handshake)
@@ -117,17 +118,14 @@ stateNumbered n =
 unfoldable pub macNumbered : ℕ → Mac
 macNumbered n = pick (eqb n 2) Sha80 Sha
 
-unfoldable pub sessionIn : List ℕ → Session
-sessionIn b = record { id = bytesIn b 5 8; secret = bytesIn b 13 20 }
-
-unfoldable pub agreedIn : List ℕ → Agreed
-agreedIn b =
+unfoldable pub keysIn : List ℕ → Keys
+keysIn b =
     record {
+      secret = bytesIn b 13 20;
       server = bytesIn b 33 16;
       client = bytesIn b 49 16;
       mac = macNumbered (getD b 65 0);
       refresh = getD b 66 0;
-      expected = bytesIn b 67 12;
     }
 
 unfoldable pub keptIn : List ℕ → Kept
@@ -137,18 +135,18 @@ keptIn b =
 unfoldable pub windowIn : List ℕ → Window
 windowIn b = record { width = getD b 457 0; highest = twoIn b 435; marks = eightIn b 437 }
 
-unfoldable pub sendingIn : List ℕ → Sending
-sendingIn b = record { protected = wordAt b 445; clear = wordAt b 449; last = wordAt b 453 }
+unfoldable pub protectionIn : List ℕ → Protection
+protectionIn b = record { keys = keysIn b; window = windowIn b; protected = wordAt b 445; clear = wordAt b 449 }
 
 unfoldable pub handshakeIn : List ℕ → Handshake
 handshakeIn b =
     record {
       state = stateNumbered (getD b 4 0);
-      session = sessionIn b;
-      agreed = agreedIn b;
+      id = bytesIn b 5 8;
+      expected = bytesIn b 67 12;
       kept = keptIn b;
-      window = windowIn b;
-      sending = sendingIn b;
+      last = wordAt b 453;
+      protection = protectionIn b;
     }
 
 abbrev pub connectionIn : List ℕ → Connection
@@ -164,20 +162,20 @@ loaded b = pick (isSaved b) (Is (connectionIn b)) No
 
 -- A connection is what its types say: arrays of their sizes, numbers in their ranges.
 pub record Ranged (c : Connection) : Type 0 where
-  pub id : length (c .handshake .session .id) ≡ 8
-  pub secret : length (c .handshake .session .secret) ≡ 20
-  pub server : length (c .handshake .agreed .server) ≡ 16
-  pub client : length (c .handshake .agreed .client) ≡ 16
-  pub expected : length (c .handshake .agreed .expected) ≡ 12
+  pub id : length (c .handshake .id) ≡ 8
+  pub secret : length (c .handshake .protection .keys .secret) ≡ 20
+  pub server : length (c .handshake .protection .keys .server) ≡ 16
+  pub client : length (c .handshake .protection .keys .client) ≡ 16
+  pub expected : length (c .handshake .expected) ≡ 12
   pub hello : length (c .handshake .kept .hello) ≡ 256
   pub heard : c .handshake .kept .heard < 18446744073709551616
   pub reply : length (c .handshake .kept .reply) ≡ 84
   pub size : c .handshake .kept .size < 18446744073709551616
-  pub highest : c .handshake .window .highest < 65536
-  pub marks : c .handshake .window .marks < 18446744073709551616
-  pub protected : c .handshake .sending .protected < 4294967296
-  pub clear : c .handshake .sending .clear < 4294967296
-  pub last : c .handshake .sending .last < 4294967296
+  pub highest : c .handshake .protection .window .highest < 65536
+  pub marks : c .handshake .protection .window .marks < 18446744073709551616
+  pub protected : c .handshake .protection .protected < 4294967296
+  pub clear : c .handshake .protection .clear < 4294967296
+  pub last : c .handshake .last < 4294967296
 
 -- bytes are below 256
 abbrev pub Bytes : List ℕ → Type 0

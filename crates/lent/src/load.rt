@@ -3,20 +3,20 @@ ghost use mathlib.Core.Path.{_≡_};
 ghost use mathlib.Core.Bool.{true};
 ghost use lib.ListN.{length};
 ghost use Rattle.lent.specs.Saved.{isSaved, stateSize, stateNumbered, macNumbered, connectionIn};
-ghost use Rattle.lent.specs.Saved.{sessionIn, agreedIn, keptIn, windowIn, sendingIn};
+ghost use Rattle.lent.specs.Saved.{keysIn, keptIn, windowIn, protectionIn};
 ghost use Rattle.lent.specs.Calls.{lentFor};
+ghost use Rattle.lent.specs.Fields.{bytesIn};
 use crate::bytes::eight_in;
 use crate::bytes::four_in;
 use crate::bytes::two_in;
 use crate::save::SIZE;
 use connection::calls::Connection;
-use connection::handshake::Agreed;
 use connection::handshake::Handshake;
 use connection::handshake::Kept;
-use connection::handshake::Sending;
-use connection::handshake::Session;
 use connection::state::State;
 use digest::Mac;
+use record::keys::Keys;
+use record::protection::Protection;
 use record::window::Window;
 
 // "WTG", and 2 for this layout.
@@ -61,11 +61,11 @@ pub(crate) fn connection_in(b: &[u8]) -> Connection
 {
     let handshake = Handshake {
         state: state_numbered(b[4]),
-        session: session_in(b),
-        agreed: agreed_in(b),
+        id: id_in(b),
+        expected: expected_in(b),
         kept: kept_in(b),
-        window: window_in(b),
-        sending: sending_in(b),
+        last: four_in(b, 453),
+        protection: protection_in(b),
     };
     Connection { handshake }
 }
@@ -100,33 +100,40 @@ fn mac_numbered(n: u8) -> Mac
     Mac::Sha
 }
 
-fn session_in(b: &[u8]) -> Session
+fn id_in(b: &[u8]) -> [u8; 8]
     requires { ⌜ length (now b) ≡ stateSize ⌝ }
-    ensures { λ r. ⌜ r ≡ sessionIn (now (b .entry)) ⌝ }
+    ensures { λ r. ⌜ r ≡ bytesIn (now (b .entry)) 5 8 ⌝ }
 {
     let mut id = [0u8; 8];
     digest::put(&mut id, 0, &b[5..13]);
-    let mut secret = [0u8; 20];
-    digest::put(&mut secret, 0, &b[13..33]);
-    Session { id, secret }
+    id
 }
 
-fn agreed_in(b: &[u8]) -> Agreed
+fn expected_in(b: &[u8]) -> [u8; 12]
     requires { ⌜ length (now b) ≡ stateSize ⌝ }
-    ensures { λ r. ⌜ r ≡ agreedIn (now (b .entry)) ⌝ }
+    ensures { λ r. ⌜ r ≡ bytesIn (now (b .entry)) 67 12 ⌝ }
 {
+    let mut expected = [0u8; 12];
+    digest::put(&mut expected, 0, &b[67..79]);
+    expected
+}
+
+fn keys_in(b: &[u8]) -> Keys
+    requires { ⌜ length (now b) ≡ stateSize ⌝ }
+    ensures { λ r. ⌜ r ≡ keysIn (now (b .entry)) ⌝ }
+{
+    let mut secret = [0u8; 20];
+    digest::put(&mut secret, 0, &b[13..33]);
     let mut server = [0u8; 16];
     digest::put(&mut server, 0, &b[33..49]);
     let mut client = [0u8; 16];
     digest::put(&mut client, 0, &b[49..65]);
-    let mut expected = [0u8; 12];
-    digest::put(&mut expected, 0, &b[67..79]);
-    Agreed {
+    Keys {
+        secret,
         server,
         client,
         mac: mac_numbered(b[65]),
         refresh: b[66],
-        expected,
     }
 }
 
@@ -159,13 +166,14 @@ fn window_in(b: &[u8]) -> Window
     }
 }
 
-fn sending_in(b: &[u8]) -> Sending
+fn protection_in(b: &[u8]) -> Protection
     requires { ⌜ length (now b) ≡ stateSize ⌝ }
-    ensures { λ r. ⌜ r ≡ sendingIn (now (b .entry)) ⌝ }
+    ensures { λ r. ⌜ r ≡ protectionIn (now (b .entry)) ⌝ }
 {
-    Sending {
+    Protection {
+        keys: keys_in(b),
+        window: window_in(b),
         protected: four_in(b, 445),
         clear: four_in(b, 449),
-        last: four_in(b, 453),
     }
 }

@@ -11,12 +11,12 @@ use crate::bytes::eight;
 use crate::bytes::four;
 use crate::bytes::two;
 use connection::calls::Connection;
-use connection::handshake::Agreed;
 use connection::handshake::Kept;
-use connection::handshake::Sending;
 use connection::handshake::Session;
 use connection::state::State;
 use digest::put;
+use record::keys::Keys;
+use record::protection::Protection;
 use record::window::Window;
 
 // "WTG", and 2 for this layout.
@@ -34,12 +34,19 @@ pub(crate) fn put_connection(d: &mut [u8], c: Connection)
     let h = c.handshake;
     let state = h.state;
     put_head(d, state);
-    put_session(d, h.session);
-    put_agreed(d, h.agreed);
+    let protection = h.protection;
+    let keys = protection.keys;
+    let window = protection.window;
+    let id = h.id;
+    let secret = keys.secret;
+    let session = Session { id, secret };
+    put_session(d, session);
+    let expected = h.expected;
+    put_agreed(d, keys, expected);
     put_kept(d, h.kept);
-    put_window(d, h.window);
-    put_sending(d, h.sending);
-    put_width(d, h.window);
+    put_window(d, window);
+    put_sending(d, protection, h.last);
+    put_width(d, window);
 }
 
 fn put_head(d: &mut [u8], state: State)
@@ -78,22 +85,21 @@ fn put_session(d: &mut [u8], session: Session)
     put(d, 13, &secret);
 }
 
-fn put_agreed(d: &mut [u8], agreed: Agreed)
+fn put_agreed(d: &mut [u8], keys: Keys, expected: [u8; 12])
     requires { ⌜ length (now d) ≡ stateSize ⌝ }
-    ensures { λ _. ⌜ now (d .exit) ≡ laidOver (now (d .entry)) 33 (joined (agreedFields agreed)) ⌝ }
-    ensures { λ _. ⌜ length (joined (agreedFields agreed)) ≡ 46 ⌝ }
-    ensures { λ _. ⌜ (length (agreed .server) ≡ 16) × ((length (agreed .client) ≡ 16) × (length (agreed .expected) ≡ 12)) ⌝ }
+    ensures { λ _. ⌜ now (d .exit) ≡ laidOver (now (d .entry)) 33 (joined (agreedFields keys expected)) ⌝ }
+    ensures { λ _. ⌜ length (joined (agreedFields keys expected)) ≡ 46 ⌝ }
+    ensures { λ _. ⌜ (length (keys .server) ≡ 16) × ((length (keys .client) ≡ 16) × (length expected ≡ 12)) ⌝ }
 {
-    let server = agreed.server;
+    let server = keys.server;
     put(d, 33, &server);
-    let client = agreed.client;
+    let client = keys.client;
     put(d, 49, &client);
-    let mac = agreed.mac;
+    let mac = keys.mac;
     let kind = [mac.number()];
     put(d, 65, &kind);
-    let refresh = [agreed.refresh];
+    let refresh = [keys.refresh];
     put(d, 66, &refresh);
-    let expected = agreed.expected;
     put(d, 67, &expected);
 }
 
@@ -126,18 +132,18 @@ fn put_window(d: &mut [u8], window: Window)
     put(d, 437, &marks);
 }
 
-fn put_sending(d: &mut [u8], sending: Sending)
+fn put_sending(d: &mut [u8], protection: Protection, last: u32)
     requires { ⌜ length (now d) ≡ stateSize ⌝ }
-    ensures { λ _. ⌜ now (d .exit) ≡ laidOver (now (d .entry)) 445 (joined (sendingFields sending)) ⌝ }
-    ensures { λ _. ⌜ length (joined (sendingFields sending)) ≡ 12 ⌝ }
-    ensures { λ _. ⌜ (sending .protected < 4294967296) × ((sending .clear < 4294967296) × (sending .last < 4294967296)) ⌝ }
+    ensures { λ _. ⌜ now (d .exit) ≡ laidOver (now (d .entry)) 445 (joined (sendingFields protection last)) ⌝ }
+    ensures { λ _. ⌜ length (joined (sendingFields protection last)) ≡ 12 ⌝ }
+    ensures { λ _. ⌜ (protection .protected < 4294967296) × ((protection .clear < 4294967296) × (last < 4294967296)) ⌝ }
 {
-    let protected = four(sending.protected);
+    let protected = four(protection.protected);
     put(d, 445, &protected);
-    let clear = four(sending.clear);
+    let clear = four(protection.clear);
     put(d, 449, &clear);
-    let last = four(sending.last);
-    put(d, 453, &last);
+    let sum = four(last);
+    put(d, 453, &sum);
 }
 
 fn put_width(d: &mut [u8], window: Window)

@@ -17,6 +17,7 @@ use Rattle.record.proofs.window.Window.emptied as window-window-emptied
 use Rattle.record.proofs.window.Window.accept as window-window-accept
 use Rattle.record.proofs.keys.Keys.key as keys-keys-key
 use Rattle.record.proofs.keys.key_number as keys-key-number
+use Rattle.record.proofs.protection.Wrote.size as protection-wrote-size
 use Rattle.record.proofs.protection.Protection.open as protection-protection-open
 use Rattle.record.proofs.protection.Protection.write as protection-protection-write
 use Rattle.record.proofs.protection.Protection.with_window as protection-protection-with-window
@@ -104,6 +105,9 @@ protection-protection-write-one κs a x y s u e f =
 
 pub protection-protection-with-window-one : OneOutcome protection-protection-with-window.ended protection-protection-with-window.Reads.Learnt
 protection-protection-with-window-one κs a x y s u e f = (e ∙ sym f, refl)
+
+pub protection-wrote-size-one : OneOutcome protection-wrote-size.ended protection-wrote-size.Reads.Learnt
+protection-wrote-size-one κs a x y s u e f = (e ∙ sym f, refl)
 
 pub mask-mask-one : OneOutcome mask-mask.ended mask-mask.Reads.Learnt
 mask-mask-one κs a x y s u e f = (refl, ap (λ w. (w, (tt, tt))) (e ∙ sym f))

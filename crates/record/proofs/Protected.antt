@@ -89,6 +89,25 @@ module _ (p : Protection) (sense : Sense) (s byte : ℕ) (f : List ℕ) where
           let z : _≡_ {A = ℕ} 0 1 = cc in
           absurd (omega arith)
 
+  -- the content of a new record lies inside its fragment
+  pub new-within : (n : ℕ) → openedBy p sense s byte f .opened ≡ O.New n → n ≤ length f
+  new-within n e = told (genuineUnder (p .keys) sense s byte f) refl
+    where
+      size-of : (x : Acceptance) → openedTo p (contentSize (p .keys) f) x .opened ≡ O.New n → contentSize (p .keys) f ≡ n
+      size-of A.TooOld q = let z : _≡_ {A = ℕ} 0 1 = cc in absurd (omega arith)
+      size-of A.Repeated q = let z : _≡_ {A = ℕ} 0 1 = cc in absurd (omega arith)
+      size-of (A.New w m) q = cc
+
+      told : (b : Bool) → genuineUnder (p .keys) sense s byte f ≡ b → n ≤ length f
+      told true g =
+          let is = opened-as p sense s byte f (genuineUnder (p .keys) sense s byte f) refl g (acceptOf (p .window) s) refl in
+          omega (arith, size-of (acceptOf (p .window) s) (ap (λ (o : Opening). o .opened) is ∙ e))
+      told false g =
+          let is = forged-as p sense s byte f (genuineUnder (p .keys) sense s byte f) refl g in
+          let q : O.Forged ≡ O.New n = ap (λ (o : Opening). o .opened) is ∙ e in
+          let z : _≡_ {A = ℕ} 0 1 = cc in
+          absurd (omega arith)
+
 -- ---- the window means the history
 
 module _ (w : ℕ) (held : Held w) (h : List ℕ) (p : Protection) (is : p .window ≡ windowOf w h) (sense : Sense) (s byte : ℕ)

@@ -6,8 +6,9 @@ use Prim.Native.Nat.{ℕ, _+_, _-_, _≤_, _<_}
 use native.Mathlib.Omega.{arith}
 use lib.ListN.{length}
 use lib.Dec.{leb, ltb}
-use borrow.Author.Tests.{lt-ltb, le-ltb, leb-true, leb-false}
+use borrow.Author.Tests.{lt-ltb, le-ltb, le-leb, leb-true, leb-false}
 use Rattle.digest.specs.Pick.{pick}
+use Rattle.digest.specs.Bytes.{laidOver}
 use Rattle.digest.specs.Hmac.{codeUnder, hmac, keyOf}
 use Rattle.digest.specs.Mac.{sizeOf}
 use Rattle.digest.specs.declared.key.Key.{Key}
@@ -116,3 +117,14 @@ module _ (p : Protection) (sense : Sense) (content : Content) (body out : List �
           ∙ rw (le-ltb 65535 (p .protected) few, le-ltb (length out) (length (nextRecord p sense content body)) (room-is .1 d .0)),
       written-is,
     )
+
+-- where there is a number to spend, and room
+module _ (p : Protection) (sense : Sense) (content : Content) (body out : List ℕ) (few : p .protected ≤ 65535)
+    (fits : length (nextRecord p sense content body) ≤ length out) where
+  pub wrote-when : wroteBy p sense content body (length out) ≡ writing (W.Done (length (nextRecord p sense content body))) (countedOn p)
+  unfolding wroteBy
+  wrote-when = rw (le-ltb 65535 (p .protected) few, le-ltb (length out) (length (nextRecord p sense content body)) fits)
+
+  pub output-when : outputBy p sense content body out ≡ laidOver out 0 (nextRecord p sense content body)
+  unfolding outputBy writtenOf
+  output-when = rw (le-ltb 65535 (p .protected) few, le-leb (length (nextRecord p sense content body)) (length out) fits)

@@ -70,6 +70,11 @@ recordUnder k sense content number body =
 abbrev pub nextRecord : Protection → Sense → Content → List ℕ → List ℕ
 nextRecord p sense content body = recordUnder (p .keys) sense content (p .protected) body
 
+abbrev pub wroteSize : Wrote → ℕ
+wroteSize W.Spent = 0
+wroteSize W.NoRoom = 0
+wroteSize (W.Done size) = size
+
 abbrev pub writing : Wrote → Protection → Writing
 writing wrote p = record { wrote = wrote; protection = p }
 

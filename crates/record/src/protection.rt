@@ -4,7 +4,7 @@
 ghost use mathlib.Core.Path.{_≡_};
 ghost use Prim.Native.Nat.{_≤_};
 ghost use lib.ListN.{length};
-ghost use Rattle.record.specs.Protection.{openedBy, wroteBy, outputBy, withWindow, countedOn};
+ghost use Rattle.record.specs.Protection.{openedBy, wroteBy, outputBy, wroteSize, withWindow, countedOn};
 use crate::code::genuine;
 use crate::code::write_protected;
 use crate::header::Content;
@@ -48,6 +48,19 @@ pub enum Wrote {
 pub struct Writing {
     pub wrote: Wrote,
     pub protection: Protection,
+}
+
+impl Wrote {
+    // How many bytes stand at the front of the output.
+    pub fn size(self) -> usize
+        ensures { λ r. ⌜ r ≡ wroteSize self ⌝ }
+    {
+        match self {
+            Wrote::Spent => 0,
+            Wrote::NoRoom => 0,
+            Wrote::Done(size) => size,
+        }
+    }
 }
 
 impl Protection {

@@ -50,7 +50,8 @@ use Rattle.connection.specs.Answer.{judged, refusing}
 use Rattle.connection.specs.Clear.{heardTo, greetedBy, greetedAgain, isKept, changedBy, byLevel, heardBy, heardAlert}
 use Rattle.connection.specs.Handshake.{withState, withWindow, keptHello}
 use Rattle.connection.specs.Judge.{judgedRecord, ruledBy, fragmentOf}
-use Rattle.connection.specs.Sealed.{finishedIn, verifiedTo, verifiedBy, sealedLevel, alertedTo, alertedBy, contentBy, windowedTo, genuineIn, contentIn, unsealedBy}
+use Rattle.connection.specs.Sealed.{finishedIn, verifiedTo, verifiedBy, sealedLevel, alertedTo, alertedBy, contentBy, unsealedBy}
+use Rattle.connection.proofs.Unsealing.{windowedTo, genuineIn, contentIn, unsealed-is}
 use Rattle.connection.specs.State.{ruleOf}
 use Rattle.connection.specs.declared.answer.Answer.{Answer}
 use Rattle.connection.specs.declared.answer.Answer.the-variants as W
@@ -116,22 +117,22 @@ finished-in Why h S.Barred = tt
 module _ (h : Handshake) (numbers random : List ℕ) (window : HoldsNumbers h numbers) (byte number place at : ℕ)
     (f : List ℕ) (bytes : Bytes f) where
   -- the window answers as the history does
-  by-history : acceptOf (h .window) number ≡ judgedBy (h .window .width) numbers number
-  by-history = ap (λ w. acceptOf w number) (window .means) ∙ meaning (h .window .width) (window .held) numbers number
+  by-history : acceptOf (h .protection .window) number ≡ judgedBy (h .protection .window .width) numbers number
+  by-history = ap (λ w. acceptOf w number) (window .means) ∙ meaning (h .protection .window .width) (window .held) numbers number
 
   -- a fragment is genuine exactly if it is a content with its code
   made-of : (g : genuineIn h byte number f ≡ true)
-      → f ≡ fragmentBy (hmac (unitKey (keysOf h) number)) (sizeOf (h .agreed .mac)) number byte (contentIn h f)
-  made-of g = genuine-made (hmac (unitKey (keysOf h) number)) (sizeOf (h .agreed .mac)) number byte f g .1
+      → f ≡ fragmentBy (hmac (unitKey (keysOf h) number)) (sizeOf (h .protection .keys .mac)) number byte (contentIn h f)
+  made-of g = genuine-made (hmac (unitKey (keysOf h) number)) (sizeOf (h .protection .keys .mac)) number byte f g .1
 
-  of-made : (c : List ℕ) → f ≡ fragmentBy (hmac (unitKey (keysOf h) number)) (sizeOf (h .agreed .mac)) number byte c
+  of-made : (c : List ℕ) → f ≡ fragmentBy (hmac (unitKey (keysOf h) number)) (sizeOf (h .protection .keys .mac)) number byte c
       → genuineIn h byte number f ≡ true
   of-made c e =
-      ap (genuineIn h byte number) e ∙ sealed-genuine (unitKey (keysOf h) number) (h .agreed .mac) number byte c
+      ap (genuineIn h byte number) e ∙ sealed-genuine (unitKey (keysOf h) number) (h .protection .keys .mac) number byte c
 
-  content-of : (c : List ℕ) → f ≡ fragmentBy (hmac (unitKey (keysOf h) number)) (sizeOf (h .agreed .mac)) number byte c
+  content-of : (c : List ℕ) → f ≡ fragmentBy (hmac (unitKey (keysOf h) number)) (sizeOf (h .protection .keys .mac)) number byte c
       → contentIn h f ≡ c
-  content-of c e = ap (contentIn h) e ∙ content-before (unitKey (keysOf h) number) (h .agreed .mac) number byte c
+  content-of c e = ap (contentIn h) e ∙ content-before (unitKey (keysOf h) number) (h .protection .keys .mac) number byte c
 
   module _ (p : Bool) where
     abbrev seen : Content → Seen
@@ -142,7 +143,7 @@ module _ (h : Handshake) (numbers random : List ℕ) (window : HoldsNumbers h nu
 
     -- ---- each way out has its reason
 
-    heard-a : (content : Content) → GreetsAs h (seen content) → (x : Heard) → HeardHolds f (h .session .id) x
+    heard-a : (content : Content) → GreetsAs h (seen content) → (x : Heard) → HeardHolds f (h .id) x
         → AnswerHolds (Why content) (heardTo h random f x .answer)
     heard-a content g (H.Accepted plan) w = tt
     heard-a content g (H.Unacceptable condition) w = (g, w)
@@ -150,7 +151,7 @@ module _ (h : Handshake) (numbers random : List ℕ) (window : HoldsNumbers h nu
 
     greet-a : (content : Content) → GreetsAs h (seen content) → AnswerHolds (Why content) (greetedBy h random f .answer)
     unfolding greetedBy
-    greet-a content g = heard-a content g (heardOf f (h .session .id)) (heard-holds f (h .session .id) bytes)
+    greet-a content g = heard-a content g (heardOf f (h .id)) (heard-holds f (h .id) bytes)
 
     again-a : (content : Content) → IsHello (seen content) → at ≡ 0 → Hears (h .state)
         → AnswerHolds (Why content) (greetedAgain h random f .answer)
@@ -178,12 +179,12 @@ module _ (h : Handshake) (numbers random : List ℕ) (window : HoldsNumbers h nu
         go : (x : Reading) → AlertHolds f x → AnswerHolds (Why content) (heardBy h x .answer)
         go R.Malformed w = bad-alert s c n w
         go (R.WellFormed a) w =
-            decide (eqb (a .checksum) (h .sending .last))
+            decide (eqb (a .checksum) (h .last))
             (λ e. rw e (clear-level (Why content) h (a .level) (a .description)))
-            (λ e. rw e (s, c, n, w .0, λ k. eqb-false (a .checksum) (h .sending .last) e (w .1 ∙ k)))
+            (λ e. rw e (s, c, n, w .0, λ k. eqb-false (a .checksum) (h .last) e (w .1 ∙ k)))
 
     -- the content of a genuine new record, in the handshake g with its mark
-    content-a : (content : Content) (g : Handshake) (c : List ℕ) → g .agreed ≡ h .agreed
+    content-a : (content : Content) (g : Handshake) (c : List ℕ) → g .expected ≡ h .expected
         → NewAs h numbers (seen content) c
         → AnswerHolds (Why content) (contentBy g (sealedKind content) number place c .answer)
     unfolding contentBy alertedBy verifiedBy
@@ -193,34 +194,34 @@ module _ (h : Handshake) (numbers random : List ℕ) (window : HoldsNumbers h nu
         go : (x : Reading) → AlertHolds c x → AnswerHolds (Why C.Alert) (alertedTo g x .answer)
         go R.Malformed w = bad-sealed-alert c fresh refl w
         go (R.WellFormed a) w = sealed-level (Why C.Alert) g (a .level) (a .description)
-    content-a C.Handshake g c same fresh = go (judgedOf c (g .agreed .expected))
-        (finished-holds c (g .agreed .expected))
+    content-a C.Handshake g c same fresh = go (judgedOf c (g .expected))
+        (finished-holds c (g .expected))
       where
-        go : (x : Verified) → FinishedHolds c (g .agreed .expected) x
+        go : (x : Verified) → FinishedHolds c (g .expected) x
             → AnswerHolds (Why C.Handshake) (verifiedTo g x .answer)
         go F.Right w = finished-in (Why C.Handshake) g (g .state)
-        go F.Wrong w = (c, fresh, refl, w .0, λ e. w .1 (e ∙ ap (λ a. a .expected) (sym same)))
+        go F.Wrong w = (c, fresh, refl, w .0, λ e. w .1 (e ∙ sym same))
         go F.Malformed w = bad-message c fresh refl w
     content-a C.Data g c same fresh =
         decide (eqb (length c) 0) (λ e. rw e (empty-data c fresh refl (eqb-true (length c) 0 e))) (λ e. rw e tt)
 
     window-a : (content : Content) (c : List ℕ) → GuardedAs (h .state) (seen content)
-        → CodedAs (keysOf h) (seen content) c → (x : Acceptance) → acceptOf (h .window) number ≡ x
+        → CodedAs (keysOf h) (seen content) c → (x : Acceptance) → acceptOf (h .protection .window) number ≡ x
         → AnswerHolds (Why content) (windowedTo h (sealedKind content) number place c x .answer)
-    window-a content c g k A.TooOld e = (g, (c, k), old-means (h .window .width) numbers number (sym by-history ∙ e))
+    window-a content c g k A.TooOld e = (g, (c, k), old-means (h .protection .window .width) numbers number (sym by-history ∙ e))
     window-a content c g k A.Repeated e =
-        let m = repeated-means (h .window .width) numbers number (sym by-history ∙ e) in (g, (c, k), m .0, m .1)
+        let m = repeated-means (h .protection .window .width) numbers number (sym by-history ∙ e) in (g, (c, k), m .0, m .1)
     window-a content c g k (A.New w arrived) e =
-        let m = new-means (h .window .width) numbers number w arrived (sym by-history ∙ e) in
+        let m = new-means (h .protection .window .width) numbers number w arrived (sym by-history ∙ e) in
         content-a content (withWindow h w) c refl (record { guarded = g; coded = k; recent = m .0; unseen = m .1 })
 
     unseal-a : (content : Content) → GuardedAs (h .state) (seen content)
         → AnswerHolds (Why content) (unsealedBy h (sealedKind content) byte number place f .answer)
-    unfolding unsealedBy
     unseal-a content g =
-        decide (genuineIn h byte number f)
-        (λ e. rw e (window-a content (contentIn h f) g (made-of e) (acceptOf (h .window) number) refl))
-        (λ e. rw e (g, λ c k. clash (sym (of-made c k) ∙ e)))
+        subst (λ j. AnswerHolds (Why content) (j .answer)) (sym (unsealed-is h (sealedKind content) byte number place f))
+        (decide (genuineIn h byte number f)
+        (λ e. rw e (window-a content (contentIn h f) g (made-of e) (acceptOf (h .protection .window) number) refl))
+        (λ e. rw e (g, λ c k. clash (sym (of-made c k) ∙ e))))
 
     -- a ClientHello that is not first in its datagram
     late-not : (content : Content) → IsHello (seen content) → at ≢ 0 → Allowed (h .state) (seen content) → ⊥
@@ -316,23 +317,24 @@ module _ (h : Handshake) (numbers random : List ℕ) (window : HoldsNumbers h nu
               ∙ rw (eq-eqb at 0 (g .first), differ-same f (keptHello h) n) refl
 
       -- a protected record of an allowed kind
-      unsealed : GuardedAs (h .state) (seen content) → verdict ≡ unsealedBy h (sealedKind content) byte number place f
+      unsealed : GuardedAs (h .state) (seen content) → verdict
+          ≡ pick (genuineIn h byte number f)
+          (windowedTo h (sealedKind content) number place (contentIn h f) (acceptOf (h .protection .window) number)) (refusing X.Forged h)
       unfolding ruledBy
       unsealed g =
           by-rule T.Unseal (guarded-rule byte number f at (h .state) content p one first g)
           ∙ ap (λ k. unsealedBy h k byte number place f) (kind-sealed content p one (g .protection))
+          ∙ unsealed-is h (sealedKind content) byte number place f
 
       -- .. whose code is not right
       forged-b : GuardedAs (h .state) (seen content) → ((c : List ℕ) → CodedAs (keysOf h) (seen content) c → ⊥)
           → verdict ≡ refusing X.Forged h
-      unfolding unsealedBy
       forged-b g n =
           unsealed g ∙ decide (genuineIn h byte number f) (λ e. absurd (n (contentIn h f) (made-of e))) (λ e. rw e refl)
 
       -- .. whose code is right: by the window
       windowed : GuardedAs (h .state) (seen content) → (c : List ℕ) → CodedAs (keysOf h) (seen content) c
-          → verdict ≡ windowedTo h (sealedKind content) number place c (judgedBy (h .window .width) numbers number)
-      unfolding unsealedBy
+          → verdict ≡ windowedTo h (sealedKind content) number place c (judgedBy (h .protection .window .width) numbers number)
       windowed g c k =
           unsealed g
           ∙ rw (of-made c k) refl
@@ -340,20 +342,20 @@ module _ (h : Handshake) (numbers random : List ℕ) (window : HoldsNumbers h nu
 
       -- .. and new: by its content
       fresh-b : (c : List ℕ) → NewAs h numbers (seen content) c
-          → verdict ≡ contentBy (withWindow h (windowOf (h .window .width) (number ∷ numbers))) (sealedKind content) number place c
+          → verdict ≡ contentBy (withWindow h (windowOf (h .protection .window .width) (number ∷ numbers))) (sealedKind content) number place c
       fresh-b c w =
           windowed (w .guarded) c (w .coded)
-          ∙ ap (windowedTo h (sealedKind content) number place c) (new-when (h .window .width) numbers number (w .recent) (w .unseen))
+          ∙ ap (windowedTo h (sealedKind content) number place c) (new-when (h .protection .window .width) numbers number (w .recent) (w .unseen))
 
       -- the handshake with the mark of the number
       abbrev marked : Handshake
-      marked = withWindow h (windowOf (h .window .width) (number ∷ numbers))
+      marked = withWindow h (windowOf (h .protection .window .width) (number ∷ numbers))
 
       -- 12
       malformed-b : WhyMalformed h numbers (seen content) → verdict .answer ≡ W.Refused X.Malformed
       unfolding greetedBy changedBy heardAlert alertedBy verifiedBy contentBy ruledBy
       malformed-b (bad-hello g n) =
-          let (fault, e) = not-hello f (h .session .id) bytes n in
+          let (fault, e) = not-hello f (h .id) bytes n in
           ap (λ j. j .answer) (greeted g) ∙ ap (λ x. heardTo h random f x .answer) e
       malformed-b (bad-change s c n w) =
           ap (λ j. j .answer) (by-rule T.Change (change-rule byte number f at (h .state) content p one first s c n))
@@ -371,7 +373,7 @@ module _ (h : Handshake) (numbers random : List ℕ) (window : HoldsNumbers h nu
       malformed-b (bad-message c w n a) =
           ap (λ j. j .answer) (fresh-b c w)
           ∙ ap (λ x. contentBy marked (sealedKind x) number place c .answer) (number-three content n)
-          ∙ ap (λ x. verifiedTo marked x .answer) (not-finished c (h .agreed .expected) a)
+          ∙ ap (λ x. verifiedTo marked x .answer) (not-finished c (h .expected) a)
       malformed-b (empty-data c w n e) =
           ap (λ j. j .answer) (fresh-b c w)
           ∙ ap (λ x. contentBy marked (sealedKind x) number place c .answer) (number-four content n)
@@ -387,23 +389,23 @@ module _ (h : Handshake) (numbers random : List ℕ) (window : HoldsNumbers h nu
       because X.Forged (g, n) = ap (λ j. j .answer) (forged-b g n)
       because X.TooOld (g, (c, k), l) =
           ap (λ j. j .answer) (windowed g c k) ∙ ap (λ x. windowedTo h (sealedKind content) number place c x .answer)
-          (old-when (h .window .width) numbers number l)
+          (old-when (h .protection .window .width) numbers number l)
       because X.Repeated (g, (c, k), l, a) =
           ap (λ j. j .answer) (windowed g c k) ∙ ap (λ x. windowedTo h (sealedKind content) number place c x .answer)
-          (repeated-when (h .window .width) numbers number l a)
+          (repeated-when (h .protection .window .width) numbers number l a)
       because X.Malformed w = malformed-b w
       because X.Unacceptable (g, (w, n)) =
-          let (condition, e) = not-acceptable f (h .session .id) w n in
+          let (condition, e) = not-acceptable f (h .id) w n in
           ap (λ j. j .answer) (greeted g) ∙ ap (λ x. heardTo h random f x .answer) e
       because X.Checksum (s, c, n, i, k) =
           let (a, e, m) = is-alert f i in
           ap (λ j. j .answer) (by-rule T.Hear (alert-rule byte number f at (h .state) content p one first s c n))
           ∙ ap (λ x. heardBy h x .answer) e
-          ∙ rw (ne-eqb (a .checksum) (h .sending .last) (λ z. k (sym m ∙ z))) refl
+          ∙ rw (ne-eqb (a .checksum) (h .last) (λ z. k (sym m ∙ z))) refl
       because X.WrongFinished (c, w, n, i, d) =
           ap (λ j. j .answer) (fresh-b c w)
           ∙ ap (λ x. contentBy marked (sealedKind x) number place c .answer) (number-three content n)
-          ∙ ap (λ x. verifiedTo marked x .answer) (wrong-finished c (h .agreed .expected) i d)
+          ∙ ap (λ x. verifiedTo marked x .answer) (wrong-finished c (h .expected) i d)
       because (X.Framing fault) w = absurd w
       because X.Room w = absurd w
       because X.Spent w = absurd w

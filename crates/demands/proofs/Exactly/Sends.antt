@@ -151,8 +151,8 @@ exactly-data =
       refused = λ c bytes out x.
           let h : Handshake = c .handshake in
           let next : List ℕ = nextProtected h C.Data bytes in
-          let n : ℕ = h .sending .protected in
-          let z : ℕ = sizeOf (h .agreed .mac) in
+          let n : ℕ = h .protection .protected in
+          let z : ℕ = sizeOf (h .protection .keys .mac) in
           through (sent-refused c (afterProtected h next) next out (dataOutcome h (length bytes) (length out)) x)
           (refused-when (WhyData (h .state) (length bytes) n z (length out))
           (DataGoes (h .state) (length bytes) n z (length out)) (dataOutcome h (length bytes) (length out))
@@ -161,8 +161,8 @@ exactly-data =
       goes = λ c bytes out.
           let h : Handshake = c .handshake in
           let next : List ℕ = nextProtected h C.Data bytes in
-          let n : ℕ = h .sending .protected in
-          let z : ℕ = sizeOf (h .agreed .mac) in
+          let n : ℕ = h .protection .protected in
+          let z : ℕ = sizeOf (h .protection .keys .mac) in
           through (sent-done c (afterProtected h next) next out (dataOutcome h (length bytes) (length out))
           (3 + length bytes + z) (next-size h C.Data bytes))
           (done-when (WhyData (h .state) (length bytes) n z (length out))

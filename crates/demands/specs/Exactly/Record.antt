@@ -15,7 +15,7 @@ use Rattle.record.specs.History.{accepted, highestOf, windowOf}
 use Rattle.record.specs.Reader.{pairAt}
 use Rattle.record.specs.declared.reader.Record.{Record}
 use Rattle.message.specs.Values.{Values, allowed, helloOf}
-use Rattle.connection.specs.Handshake.{keptHello}
+use Rattle.connection.specs.Handshake.{keptHello, planted}
 use Rattle.connection.specs.Judge.{judgedRecord}
 use Rattle.connection.specs.declared.answer.Answer.the-variants as W
 use Rattle.connection.specs.declared.handshake.Handshake.{Handshake}
@@ -87,7 +87,7 @@ CodedAs k q c = q .fragment ≡ fragmentBy (hmac (unitKey k (q .number))) (sizeO
 pub record NewAs (h : Handshake) (numbers : List ℕ) (q : Seen) (c : List ℕ) : Type 0 where
   pub guarded : GuardedAs (h .state) q
   pub coded : CodedAs (keysOf h) q c
-  pub recent : highestOf numbers < q .number + h .window .width
+  pub recent : highestOf numbers < q .number + h .protection .window .width
   pub unseen : accepted numbers (q .number) ≡ false
 
 -- ---- content
@@ -155,23 +155,23 @@ WhyRecord h numbers q X.NotAllowed =
 WhyRecord h numbers q X.Forged = GuardedAs (h .state) q × ((c : List ℕ) → CodedAs (keysOf h) q c → ⊥)
 -- 10: "too old": "with n the highest number accepted, a number at most n - 32", less the width
 WhyRecord h numbers q X.TooOld =
-    GuardedAs (h .state) q × ((c : List ℕ) × CodedAs (keysOf h) q c) × (q .number + h .window .width ≤ highestOf numbers)
+    GuardedAs (h .state) q × ((c : List ℕ) × CodedAs (keysOf h) q c) × (q .number + h .protection .window .width ≤ highestOf numbers)
 -- 11: "repeated": "a number accepted before"
 WhyRecord h numbers q X.Repeated =
-    GuardedAs (h .state) q × ((c : List ℕ) × CodedAs (keysOf h) q c) × (highestOf numbers < q .number + h .window .width) ×
+    GuardedAs (h .state) q × ((c : List ℕ) × CodedAs (keysOf h) q c) × (highestOf numbers < q .number + h .protection .window .width) ×
     (accepted numbers (q .number) ≡ true)
 -- 12: "malformed content"
 WhyRecord h numbers q X.Malformed = WhyMalformed h numbers q
 -- 13: "hello well formed, not acceptable"
 WhyRecord h numbers q X.Unacceptable =
-    GreetsAs h q × ((w : WellFormedHello (q .fragment)) × (Acceptable (w .values) (h .session .id) → ⊥))
+    GreetsAs h q × ((w : WellFormedHello (q .fragment)) × (Acceptable (w .values) (h .id) → ⊥))
 -- 14: "clear alert with another checksum"
 WhyRecord h numbers q X.Checksum =
     Hears (h .state) × (q .protected ≡ false) × (q .content ≡ 2) × IsAlert (q .fragment) ×
-    (wordAt (q .fragment) 2 ≢ h .sending .last)
+    (wordAt (q .fragment) 2 ≢ h .last)
 -- 17: "genuine Finished with wrong contents"
 WhyRecord h numbers q X.WrongFinished =
-    (c : List ℕ) × NewAs h numbers q c × (q .content ≡ 3) × IsFinished c × (drop 3 c ≢ h .agreed .expected)
+    (c : List ℕ) × NewAs h numbers q c × (q .content ≡ 3) × IsFinished c × (drop 3 c ≢ h .expected)
 -- no other
 WhyRecord h numbers q (X.Framing fault) = ⊥
 WhyRecord h numbers q X.Room = ⊥
@@ -184,8 +184,8 @@ Bytes d = (i : ℕ) → getD d i 0 < 256
 
 -- the window of a handshake, of a width that it may have, holds these numbers
 pub record HoldsNumbers (h : Handshake) (numbers : List ℕ) : Type 0 where
-  pub held : Held (h .window .width)
-  pub means : h .window ≡ windowOf (h .window .width) numbers
+  pub held : Held (h .protection .window .width)
+  pub means : h .protection .window ≡ windowOf (h .protection .window .width) numbers
 
 -- A record of a soundly framed datagram, in a handshake whose window holds the numbers accepted so far (as it does in
 -- every run from fresh), is refused so exactly if there is that reason.

@@ -55,12 +55,12 @@ DataGoes state size number code room =
 pub record ExactlyData (g : Gateway) : Type 0 where
   pub refused : (c : Connection) (bytes out : List ℕ) (x : Refusal)
       → (g c (send-data bytes out) .result ≡ sent (Refused x) 0)
-      ↔ WhyData (c .handshake .state) (length bytes) (c .handshake .sending .protected)
-      (sizeOf (c .handshake .agreed .mac)) (length out) x
+      ↔ WhyData (c .handshake .state) (length bytes) (c .handshake .protection .protected)
+      (sizeOf (c .handshake .protection .keys .mac)) (length out) x
   pub goes : (c : Connection) (bytes out : List ℕ)
-      → (g c (send-data bytes out) .result ≡ sent Done (3 + length bytes + sizeOf (c .handshake .agreed .mac)))
-      ↔ DataGoes (c .handshake .state) (length bytes) (c .handshake .sending .protected)
-      (sizeOf (c .handshake .agreed .mac)) (length out)
+      → (g c (send-data bytes out) .result ≡ sent Done (3 + length bytes + sizeOf (c .handshake .protection .keys .mac)))
+      ↔ DataGoes (c .handshake .state) (length bytes) (c .handshake .protection .protected)
+      (sizeOf (c .handshake .protection .keys .mac)) (length out)
 
 -- ---- send an alert, protected or clear: a level, a description, and the record of `lent` bytes that it answers. An
 -- alert is six bytes.
@@ -80,11 +80,11 @@ AlertMayNot false state = (state ≡ Idle) ⊎ (state ≡ Open)
 
 -- the numbers of protected and of clear records are counted apart; a clear record has no code
 abbrev pub alertNumberOf : Bool → Handshake → ℕ
-alertNumberOf true h = h .sending .protected
-alertNumberOf false h = h .sending .clear
+alertNumberOf true h = h .protection .protected
+alertNumberOf false h = h .protection .clear
 
 abbrev pub alertCodeOf : Bool → Handshake → ℕ
-alertCodeOf true h = sizeOf (h .agreed .mac)
+alertCodeOf true h = sizeOf (h .protection .keys .mac)
 alertCodeOf false h = 0
 
 abbrev pub WhyAlert : Bool → State → ℕ → ℕ → ℕ → ℕ → ℕ → ℕ → Refusal → Type 0

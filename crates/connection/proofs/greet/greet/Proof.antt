@@ -30,7 +30,7 @@ enum-known-plan : tie.Need-enum-known-plan
 enum-known-plan c = search needs
 
 answered-requires : tie.Need-answered-requires
-answered-requires c κs = (c .before .before .before .before .before .before .before .before .pre, accepted-size (c .before .before .before .before .before .before .before .before .args .m .now) (c .before .before .before .before .before .before .before .before .args .h .session .id) (c .before .plan .given .0 .0) (sym (c .before .before .before .hear .ensures) ∙ c .before .plan .given .1))
+answered-requires c κs = (c .before .before .before .before .before .before .before .pre, accepted-size (c .before .before .before .before .before .before .before .args .m .now) (c .before .before .before .before .before .before .before .args .h .id) (c .before .plan .given .0 .0) (sym (c .before .before .before .hear .ensures) ∙ c .before .plan .given .1))
 
 returns : tie.Need-returns
 unfolding greetedBy

@@ -4,6 +4,7 @@ use mathlib.Core.Path.{_≡_, sym, _∙_, ap}
 use lib.ListN.{length}
 use Rattle.record.proofs.Sealed.{size-most}
 use Rattle.connection.proofs.Replying.{answered-by, reply-size}
+use Rattle.connection.specs.Handshake.{planted}
 use borrow.Author.Needs.{needs}
 use native.Mathlib.Omega.{arith}
 use Rattle.connection.proofs.reply.answered.Statement.{statement}
@@ -16,7 +17,7 @@ server-hello-requires : tie.Need-server-hello-requires
 server-hello-requires c κs = search needs
 
 slice-aggregate-server-verify : tie.Need-slice-aggregate-server-verify
-slice-aggregate-server-verify c = search needs
+slice-aggregate-server-verify c = search (needs, c .before .before .before .before .before .before .before .before .good .0 .1 .1 .1 .1 .1 .1 .1 .0)
 
 slice-aggregate-server-verify-2 : tie.Need-slice-aggregate-server-verify-2
 slice-aggregate-server-verify-2 c = search needs
@@ -28,7 +29,7 @@ message-requires : tie.Need-message-requires
 message-requires c κs = search needs
 
 slice-aggregate-client-verify : tie.Need-slice-aggregate-client-verify
-slice-aggregate-client-verify c = search (needs, c .before .before .before .before .before .before .before .before .before .before .before .good .0)
+slice-aggregate-client-verify c = search (needs, c .before .before .before .before .before .before .before .before .before .before .before .before .good .0 .1 .1 .1 .1 .1 .1 .1 .0)
 
 slice-aggregate-client-verify-2 : tie.Need-slice-aggregate-client-verify-2
 slice-aggregate-client-verify-2 c = search needs
@@ -49,14 +50,14 @@ size-requires : tie.Need-size-requires
 size-requires c κs = search needs
 
 add-t35 : tie.Need-add-t35
-add-t35 c = omega (arith, c .size .ensures, size-most (c .before .before .before .before .before .before .before .before .before .before .before .before .before .before .before .before .before .before .before .args .plan .mac))
+add-t35 c = omega (arith, c .size .ensures, size-most (c .before .before .before .before .before .before .before .before .before .before .before .before .before .before .before .before .before .before .before .before .args .plan .mac))
 
 returns : tie.Need-returns
-returns c = let args = c .before .before .before .before .before .before .before .before .before .before .before .before .before .before .before .before .before .before .before .args in
-    let id-size : length (args .h .session .id) ≡ 8 = search (needs, c .before .before .before .before .before .before .before .before .before .before .before .before .before .before .before .before .before .before .before .good .0) in
+returns c = let args = c .before .before .before .before .before .before .before .before .before .before .before .before .before .before .before .before .before .before .before .before .args in
+    let id-size : length (args .h .id) ≡ 8 = search (needs, c .before .before .before .before .before .before .before .before .before .before .before .before .before .before .before .before .before .before .before .before .good .0) in
     answered-by (args .h) (args .random) (args .m .now) (args .plan) _ _ _ _ _ _ _ _
     (c .before .before .before .before .before .before .before .before .before .before .before .before .before .before .client-random .ensures) (c .before .before .before .before .before .before .before .before .before .before .before .before .before .server-hello .ensures) (c .before .before .before .before .before .before .before .before .before .before .server-verify .ensures) (c .before .before .before .before .before .before .before .before .before .message .ensures) (c .before .before .before .before .before .client-verify .ensures) (c .before .before .before .before .flown .ensures) (c .before .kept-hello .ensures)
-    (ap (λ n. 64 + n) (c .size .ensures) ∙ sym (reply-size (args .h .session) (args .random) (args .m .now) (args .plan) (c .before .before .before .before .before .before .before .before .before .before .before .before .before .before .before .before .before .before .before .pre .0) id-size))
+    (ap (λ n. 64 + n) (c .size .ensures) ∙ sym (reply-size (planted (args .h)) (args .random) (args .m .now) (args .plan) (c .before .before .before .before .before .before .before .before .before .before .before .before .before .before .before .before .before .before .before .before .pre .0) id-size))
 
 pub answered-spec : {M : Type 1} → statement M
 answered-spec =

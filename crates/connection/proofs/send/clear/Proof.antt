@@ -7,8 +7,8 @@ use lib.ListN.{length}
 use Rattle.digest.specs.Bytes.{wordAt}
 use Rattle.record.specs.Checksum.{checksumOf}
 use Rattle.digest.proofs.Lay.{length-laid}
-use Rattle.connection.specs.Handshake.{withSending}
-use Rattle.connection.specs.Send.{doneWith, nextClear}
+use Rattle.connection.specs.Handshake.{withSent}
+use Rattle.connection.specs.Send.{clearOn, doneWith, nextClear}
 use Rattle.connection.proofs.Sending.{wrote}
 use Rattle.connection.proofs.send.clear.Statement.{statement}
 use Rattle.connection.proofs.send.clear.Tie as tie
@@ -33,11 +33,11 @@ slice-aggregate-checksum c = let w = wrote _ _ _ _ _ refl (c .before .before .be
 checksum-requires : tie.Need-checksum-requires
 checksum-requires c κs = search needs
 
-add-t14 : tie.Need-add-t14
-add-t14 c = search needs
+add-next : tie.Need-add-next
+add-next c = search needs
 
-with-sending-requires : tie.Need-with-sending-requires
-with-sending-requires c κs = search needs
+with-sent-requires : tie.Need-with-sent-requires
+with-sent-requires c κs = search needs
 
 finish-requires : tie.Need-finish-requires
 finish-requires c κs = search needs
@@ -50,7 +50,7 @@ unfolding nextClear
 returns c = let w = wrote _ _ _ _ _ refl (c .before .before .before .before .before .before .before .before .before .before .before .before .before .pre .1) (c .before .before .before .before .before .before .before .write-clear .ensures .0) (c .before .before .before .before .before .before .before .write-clear .ensures .1) in
     let h = c .before .before .before .before .before .before .before .before .before .before .before .before .before .args .h in
     let sum = c .before .before .before .checksum .ensures ∙ ap (λ x. wordAt (checksumOf x) 0) (w .front) in
-    (c .finish .ensures ∙ ap (doneWith (c .before .before .before .before .before .before .before .write-clear .result)) (c .before .with-sending .ensures) ∙ (λ i. doneWith (w .count i) (withSending h (record { protected = h .sending .protected; clear = h .sending .clear + 1; last = sum i }))), w .bytes-are)
+    (c .finish .ensures ∙ ap (doneWith (c .before .before .before .before .before .before .before .write-clear .result)) (c .before .with-sent .ensures) ∙ (λ i. doneWith (w .count i) (withSent h (clearOn (h .protection)) (sum i))), w .bytes-are)
 
 pub clear-spec : {M : Type 1} → statement M
 clear-spec =
@@ -61,8 +61,8 @@ clear-spec =
     slice-reshare-prefix-checksum
     slice-aggregate-checksum
     checksum-requires
-    add-t14
-    with-sending-requires
+    add-next
+    with-sent-requires
     finish-requires
     same-length
     returns)

@@ -56,7 +56,7 @@ size-requires : tie.Need-size-requires
 size-requires c κs = search needs
 
 alert-refusal-requires : tie.Need-alert-refusal-requires
-alert-refusal-requires c κs = omega (arith, c .size .ensures, size-most (c .before .before .before .before .before .before .before .before .before .before .before .before .before .before .before .before .args .c .handshake .agreed .mac))
+alert-refusal-requires c κs = omega (arith, c .size .ensures, size-most (c .before .before .before .before .before .before .before .before .before .before .before .before .before .before .before .before .args .c .handshake .protection .keys .mac))
 
 enum-known-refusal : tie.Need-enum-known-refusal
 enum-known-refusal c = search needs
@@ -78,7 +78,7 @@ slice-aggregate-protected c = search needs
 
 protected-requires : tie.Need-protected-requires
 protected-requires c κs = let h = c .before .before .before .before .before .before .before .before .before .before .before .before .before .before .before .before .before .before .before .before .before .before .before .args .c .handshake in
-    let room = alert-done (c .before .before .before .before .before .before .before .before .may-seal .result) (length (c .before .before .before .before .before .before .before .before .before .before .before .before .before .before .before .before .before .before .before .before .before .before .before .args .answered .now)) (h .sending .protected) (c .before .before .before .before .before .before .before .size .result) (length (c .before .before .before .before .before .before .before .before .before .before .before .before .before .before .before .before .before .before .before .before .before .before .before .args .out .now)) (sym (c .before .before .before .before .before .before .alert-refusal .ensures) ∙ c .before .before .before .before .enum-told3 .given .1) in
+    let room = alert-done (c .before .before .before .before .before .before .before .before .may-seal .result) (length (c .before .before .before .before .before .before .before .before .before .before .before .before .before .before .before .before .before .before .before .before .before .before .before .args .answered .now)) (h .protection .protected) (c .before .before .before .before .before .before .before .size .result) (length (c .before .before .before .before .before .before .before .before .before .before .before .before .before .before .before .before .before .before .before .before .before .before .before .args .out .now)) (sym (c .before .before .before .before .before .before .alert-refusal .ensures) ∙ c .before .before .before .before .enum-told3 .given .1) in
     (room .0, omega (arith, room .1, c .before .before .before .before .before .before .before .size .ensures, next-size h C.Alert (c .before .before .write .result), ap length (c .before .before .write .ensures)))
 
 returns-3 : tie.Need-returns-3
@@ -88,8 +88,8 @@ returns-3 c = let cn = c .before .before .before .before .before .before .before
     let lent = c .before .before .before .before .before .before .before .before .before .before .before .before .before .before .before .before .before .before .before .before .before .args .answered .now in
     let out = c .before .before .before .before .before .before .before .before .before .before .before .before .before .before .before .before .before .before .before .before .before .args .out .now in
     let next = nextProtected h C.Alert (alertBody (c .before .before .before .before .before .before .before .before .before .before .before .before .before .before .before .before .graded .given .0 .0) (c .before .before .before .before .before .before .before .before .before .before .before .before .sorted .given .0 .0) lent) in
-    let told = sym (ap₂ (λ o z. alertRefused o (length lent) (h .sending .protected) z (length out)) (c .before .before .before .before .before .before .may-seal .ensures) (c .before .before .before .before .before .size .ensures)) ∙ sym (c .before .before .before .before .alert-refusal .ensures) ∙ c .before .before .refusal .given .1 in
-    let both = refused-send cn (done next (afterProtected h next)) out next (alertRefused (maySeal (h .state)) (length lent) (h .sending .protected) (sizeOf (h .agreed .mac)) (length out)) _ told in
+    let told = sym (ap₂ (λ o z. alertRefused o (length lent) (h .protection .protected) z (length out)) (c .before .before .before .before .before .before .may-seal .ensures) (c .before .before .before .before .before .size .ensures)) ∙ sym (c .before .before .before .before .alert-refusal .ensures) ∙ c .before .before .refusal .given .1 in
+    let both = refused-send cn (done next (afterProtected h next)) out next (alertRefused (maySeal (h .state)) (length lent) (h .protection .protected) (sizeOf (h .protection .keys .mac)) (length out)) _ told in
     rw (sym (c .before .before .before .before .before .before .before .before .before .before .before .before .before .before .before .before .before .before .grade .ensures) ∙ c .before .before .before .before .before .before .before .before .before .before .before .before .before .before .before .before .graded .given .1) (rw (sym (c .before .before .before .before .before .before .before .before .before .before .before .before .before .before .sort .ensures) ∙ c .before .before .before .before .before .before .before .before .before .before .before .before .sorted .given .1) (rw (c .before .before .before .before .before .before .before .if1 .taken) (c .refused3 .ensures ∙ both .0, both .1)))
 
 same-length : tie.Need-same-length
@@ -103,8 +103,8 @@ returns-4 c = let cn = c .before .before .before .before .before .before .before
     let out = c .before .before .before .before .before .before .before .before .before .before .before .before .before .before .before .before .before .before .before .before .before .before .before .before .before .before .args .out .now in
     let body-is = c .before .before .before .before .before .write .ensures ∙ ap (alertBytes (c .before .before .before .before .before .before .before .before .before .before .before .before .before .before .before .before .before .before .before .before .before .graded .given .0 .0) (c .before .before .before .before .before .before .before .before .before .before .before .before .before .before .before .before .before .sorted .given .0 .0)) (c .before .before .before .before .before .before .checksum .ensures) in
     let next = nextProtected h C.Alert (alertBody (c .before .before .before .before .before .before .before .before .before .before .before .before .before .before .before .before .before .before .before .before .before .graded .given .0 .0) (c .before .before .before .before .before .before .before .before .before .before .before .before .before .before .before .before .before .sorted .given .0 .0) lent) in
-    let told = sym (ap₂ (λ o z. alertRefused o (length lent) (h .sending .protected) z (length out)) (c .before .before .before .before .before .before .before .before .before .before .before .may-seal .ensures) (c .before .before .before .before .before .before .before .before .before .before .size .ensures)) ∙ sym (c .before .before .before .before .before .before .before .before .before .alert-refusal .ensures) ∙ c .before .before .before .before .before .before .before .enum-told3 .given .1 in
-    let both = done-send cn (done next (afterProtected h next)) out next (alertRefused (maySeal (h .state)) (length lent) (h .sending .protected) (sizeOf (h .agreed .mac)) (length out)) told in
+    let told = sym (ap₂ (λ o z. alertRefused o (length lent) (h .protection .protected) z (length out)) (c .before .before .before .before .before .before .before .before .before .before .before .may-seal .ensures) (c .before .before .before .before .before .before .before .before .before .before .size .ensures)) ∙ sym (c .before .before .before .before .before .before .before .before .before .alert-refusal .ensures) ∙ c .before .before .before .before .before .before .before .enum-told3 .given .1 in
+    let both = done-send cn (done next (afterProtected h next)) out next (alertRefused (maySeal (h .state)) (length lent) (h .protection .protected) (sizeOf (h .protection .keys .mac)) (length out)) told in
     rw (sym (c .before .before .before .before .before .before .before .before .before .before .before .before .before .before .before .before .before .before .before .before .before .before .before .grade .ensures) ∙ c .before .before .before .before .before .before .before .before .before .before .before .before .before .before .before .before .before .before .before .before .before .graded .given .1) (rw (sym (c .before .before .before .before .before .before .before .before .before .before .before .before .before .before .before .before .before .before .before .sort .ensures) ∙ c .before .before .before .before .before .before .before .before .before .before .before .before .before .before .before .before .before .sorted .given .1) (rw (c .before .before .before .before .before .before .before .before .before .before .before .before .if1 .taken)
     (c .before .before .protected .ensures .0 ∙ ap (λ b. done (nextProtected h C.Alert b) (afterProtected h (nextProtected h C.Alert b))) body-is ∙ both .0, c .before .before .protected .ensures .1 ∙ ap (λ b. laidOver out 0 (nextProtected h C.Alert b)) body-is ∙ both .1)))
 
@@ -134,7 +134,7 @@ slice-aggregate-clear c = search needs
 
 clear-requires : tie.Need-clear-requires
 clear-requires c κs = let h = c .before .before .before .before .before .before .before .before .before .before .before .before .before .before .before .before .before .before .before .before .before .before .args .c .handshake in
-    let room = alert-done (c .before .before .before .before .before .before .before .may-clear .result) (length (c .before .before .before .before .before .before .before .before .before .before .before .before .before .before .before .before .before .before .before .before .before .before .args .answered .now)) (h .sending .clear) 0 (length (c .before .before .before .before .before .before .before .before .before .before .before .before .before .before .before .before .before .before .before .before .before .before .args .out .now)) (sym (c .before .before .before .before .before .before .alert-refusal2 .ensures) ∙ c .before .before .before .before .enum-told4 .given .1) in
+    let room = alert-done (c .before .before .before .before .before .before .before .may-clear .result) (length (c .before .before .before .before .before .before .before .before .before .before .before .before .before .before .before .before .before .before .before .before .before .before .args .answered .now)) (h .protection .clear) 0 (length (c .before .before .before .before .before .before .before .before .before .before .before .before .before .before .before .before .before .before .before .before .before .before .args .out .now)) (sym (c .before .before .before .before .before .before .alert-refusal2 .ensures) ∙ c .before .before .before .before .enum-told4 .given .1) in
     (room .0, omega (arith, room .1, clear-size h (c .before .before .write2 .result), ap length (c .before .before .write2 .ensures)))
 
 returns-5 : tie.Need-returns-5
@@ -144,8 +144,8 @@ returns-5 c = let cn = c .before .before .before .before .before .before .before
     let lent = c .before .before .before .before .before .before .before .before .before .before .before .before .before .before .before .before .before .before .before .before .args .answered .now in
     let out = c .before .before .before .before .before .before .before .before .before .before .before .before .before .before .before .before .before .before .before .before .args .out .now in
     let next = nextClear h (alertBody (c .before .before .before .before .before .before .before .before .before .before .before .before .before .before .before .graded .given .0 .0) (c .before .before .before .before .before .before .before .before .before .before .before .sorted .given .0 .0) lent) in
-    let told = sym (ap (λ o. alertRefused o (length lent) (h .sending .clear) 0 (length out)) (c .before .before .before .before .before .may-clear .ensures)) ∙ sym (c .before .before .before .before .alert-refusal2 .ensures) ∙ c .before .before .refusal2 .given .1 in
-    let both = refused-send cn (done next (afterClear h next)) out next (alertRefused (mayClear (h .state)) (length lent) (h .sending .clear) 0 (length out)) _ told in
+    let told = sym (ap (λ o. alertRefused o (length lent) (h .protection .clear) 0 (length out)) (c .before .before .before .before .before .may-clear .ensures)) ∙ sym (c .before .before .before .before .alert-refusal2 .ensures) ∙ c .before .before .refusal2 .given .1 in
+    let both = refused-send cn (done next (afterClear h next)) out next (alertRefused (mayClear (h .state)) (length lent) (h .protection .clear) 0 (length out)) _ told in
     rw (sym (c .before .before .before .before .before .before .before .before .before .before .before .before .before .before .before .before .before .grade .ensures) ∙ c .before .before .before .before .before .before .before .before .before .before .before .before .before .before .before .graded .given .1) (rw (sym (c .before .before .before .before .before .before .before .before .before .before .before .before .before .sort .ensures) ∙ c .before .before .before .before .before .before .before .before .before .before .before .sorted .given .1) (rw (c .before .before .before .before .before .before .if1 .left) (c .refused4 .ensures ∙ both .0, both .1)))
 
 same-length-2 : tie.Need-same-length-2
@@ -159,8 +159,8 @@ returns-6 c = let cn = c .before .before .before .before .before .before .before
     let out = c .before .before .before .before .before .before .before .before .before .before .before .before .before .before .before .before .before .before .before .before .before .before .before .before .before .args .out .now in
     let body-is = c .before .before .before .before .before .write2 .ensures ∙ ap (alertBytes (c .before .before .before .before .before .before .before .before .before .before .before .before .before .before .before .before .before .before .before .before .graded .given .0 .0) (c .before .before .before .before .before .before .before .before .before .before .before .before .before .before .before .before .sorted .given .0 .0)) (c .before .before .before .before .before .before .checksum2 .ensures) in
     let next = nextClear h (alertBody (c .before .before .before .before .before .before .before .before .before .before .before .before .before .before .before .before .before .before .before .before .graded .given .0 .0) (c .before .before .before .before .before .before .before .before .before .before .before .before .before .before .before .before .sorted .given .0 .0) lent) in
-    let told = sym (ap (λ o. alertRefused o (length lent) (h .sending .clear) 0 (length out)) (c .before .before .before .before .before .before .before .before .before .before .may-clear .ensures)) ∙ sym (c .before .before .before .before .before .before .before .before .before .alert-refusal2 .ensures) ∙ c .before .before .before .before .before .before .before .enum-told4 .given .1 in
-    let both = done-send cn (done next (afterClear h next)) out next (alertRefused (mayClear (h .state)) (length lent) (h .sending .clear) 0 (length out)) told in
+    let told = sym (ap (λ o. alertRefused o (length lent) (h .protection .clear) 0 (length out)) (c .before .before .before .before .before .before .before .before .before .before .may-clear .ensures)) ∙ sym (c .before .before .before .before .before .before .before .before .before .alert-refusal2 .ensures) ∙ c .before .before .before .before .before .before .before .enum-told4 .given .1 in
+    let both = done-send cn (done next (afterClear h next)) out next (alertRefused (mayClear (h .state)) (length lent) (h .protection .clear) 0 (length out)) told in
     rw (sym (c .before .before .before .before .before .before .before .before .before .before .before .before .before .before .before .before .before .before .before .before .before .before .grade .ensures) ∙ c .before .before .before .before .before .before .before .before .before .before .before .before .before .before .before .before .before .before .before .before .graded .given .1) (rw (sym (c .before .before .before .before .before .before .before .before .before .before .before .before .before .before .before .before .before .before .sort .ensures) ∙ c .before .before .before .before .before .before .before .before .before .before .before .before .before .before .before .before .sorted .given .1) (rw (c .before .before .before .before .before .before .before .before .before .before .before .if1 .left)
     (c .before .before .clear .ensures .0 ∙ ap (λ b. done (nextClear h b) (afterClear h (nextClear h b))) body-is ∙ both .0, c .before .before .clear .ensures .1 ∙ ap (λ b. laidOver out 0 (nextClear h b)) body-is ∙ both .1)))
 

@@ -15,7 +15,7 @@ size-requires : tie.Need-size-requires
 size-requires c κs = search needs
 
 data-refusal-requires : tie.Need-data-refusal-requires
-data-refusal-requires c κs = omega (arith, c .size .ensures, size-most (c .before .before .before .before .before .before .args .c .handshake .agreed .mac))
+data-refusal-requires c κs = omega (arith, c .size .ensures, size-most (c .before .before .before .before .before .before .args .c .handshake .protection .keys .mac))
 
 enum-known-refusal : tie.Need-enum-known-refusal
 enum-known-refusal c = search needs
@@ -29,7 +29,7 @@ enum-told c = search needs
 protected-requires : tie.Need-protected-requires
 protected-requires c κs = let h = c .before .before .before .before .before .before .before .before .before .before .args .c .handshake in
     let bytes = c .before .before .before .before .before .before .before .before .before .before .args .«data» .now in
-    let room = data-done (h .state) (length bytes) (h .sending .protected) (c .before .before .before .before .size .result) (length (c .before .before .before .before .before .before .before .before .before .before .args .out .now)) (sym (c .before .before .before .data-refusal .ensures) ∙ c .before .enum-told .given .1) in
+    let room = data-done (h .state) (length bytes) (h .protection .protected) (c .before .before .before .before .size .result) (length (c .before .before .before .before .before .before .before .before .before .before .args .out .now)) (sym (c .before .before .before .data-refusal .ensures) ∙ c .before .enum-told .given .1) in
     (room .0, omega (arith, room .1, c .before .before .before .before .size .ensures, next-size h C.Data bytes))
 
 returns : tie.Need-returns
@@ -39,7 +39,7 @@ returns c = let cn = c .before .before .before .before .before .before .before .
     let bytes = c .before .before .before .before .before .before .before .before .before .before .before .args .«data» .now in
     let out = c .before .before .before .before .before .before .before .before .before .before .before .args .out .now in
     let next = nextProtected h C.Data bytes in
-    let told : dataOutcome h (length bytes) (length out) ≡ _ = sym (ap (λ z. dataRefused (h .state) (length bytes) (h .sending .protected) z (length out)) (c .before .before .before .before .before .size .ensures)) ∙ sym (c .before .before .before .before .data-refusal .ensures) ∙ c .before .before .refusal .given .1 in
+    let told : dataOutcome h (length bytes) (length out) ≡ _ = sym (ap (λ z. dataRefused (h .state) (length bytes) (h .protection .protected) z (length out)) (c .before .before .before .before .before .size .ensures)) ∙ sym (c .before .before .before .before .data-refusal .ensures) ∙ c .before .before .refusal .given .1 in
     let both = refused-send cn (done next (afterProtected h next)) out next (dataOutcome h (length bytes) (length out)) _ told in
     (c .refused .ensures ∙ both .0, both .1)
 
@@ -53,7 +53,7 @@ returns-2 c = let cn = c .before .before .before .before .before .before .before
     let bytes = c .before .before .before .before .before .before .before .before .before .before .before .before .before .args .«data» .now in
     let out = c .before .before .before .before .before .before .before .before .before .before .before .before .before .args .out .now in
     let next = nextProtected h C.Data bytes in
-    let told = sym (ap (λ z. dataRefused (h .state) (length bytes) (h .sending .protected) z (length out)) (c .before .before .before .before .before .before .before .size .ensures)) ∙ sym (c .before .before .before .before .before .before .data-refusal .ensures) ∙ c .before .before .before .before .enum-told .given .1 in
+    let told = sym (ap (λ z. dataRefused (h .state) (length bytes) (h .protection .protected) z (length out)) (c .before .before .before .before .before .before .before .size .ensures)) ∙ sym (c .before .before .before .before .before .before .data-refusal .ensures) ∙ c .before .before .before .before .enum-told .given .1 in
     let both = done-send cn (done next (afterProtected h next)) out next (dataOutcome h (length bytes) (length out)) told in
     (c .before .before .protected .ensures .0 ∙ both .0, c .before .before .protected .ensures .1 ∙ both .1)
 

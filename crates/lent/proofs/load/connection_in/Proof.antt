@@ -10,24 +10,34 @@ shared-slice-read-state-numbered c = search needs
 state-numbered-requires : tie.Need-state-numbered-requires
 state-numbered-requires c κs = search needs
 
-session-in-requires : tie.Need-session-in-requires
-session-in-requires c κs = search needs
+id-in-requires : tie.Need-id-in-requires
+id-in-requires c κs = search needs
 
-agreed-in-requires : tie.Need-agreed-in-requires
-agreed-in-requires c κs = search needs
+expected-in-requires : tie.Need-expected-in-requires
+expected-in-requires c κs = search needs
 
 kept-in-requires : tie.Need-kept-in-requires
 kept-in-requires c κs = search needs
 
-window-in-requires : tie.Need-window-in-requires
-window-in-requires c κs = search needs
+four-in-requires : tie.Need-four-in-requires
+four-in-requires c κs = search needs
 
-sending-in-requires : tie.Need-sending-in-requires
-sending-in-requires c κs = search needs
+protection-in-requires : tie.Need-protection-in-requires
+protection-in-requires c κs = search needs
 
 returns : tie.Need-returns
 unfolding handshakeIn
-returns c = λ i. record { handshake = record { state = c .before .before .before .before .before .state-numbered .ensures i; session = c .before .before .before .before .session-in .ensures i; agreed = c .before .before .before .agreed-in .ensures i; kept = c .before .before .kept-in .ensures i; window = c .before .window-in .ensures i; sending = c .sending-in .ensures i } }
+returns c =
+    λ i. record {
+      handshake = record {
+        state = c .before .before .before .before .before .state-numbered .ensures i;
+        id = c .before .before .before .before .id-in .ensures i;
+        expected = c .before .before .before .expected-in .ensures i;
+        kept = c .before .before .kept-in .ensures i;
+        last = c .before .four-in .ensures i;
+        protection = c .protection-in .ensures i;
+      };
+    }
 
 pub connection-in-spec : {M : Type 1} → statement M
 connection-in-spec =
@@ -35,9 +45,9 @@ connection-in-spec =
     (tie.spec
     shared-slice-read-state-numbered
     state-numbered-requires
-    session-in-requires
-    agreed-in-requires
+    id-in-requires
+    expected-in-requires
     kept-in-requires
-    window-in-requires
-    sending-in-requires
+    four-in-requires
+    protection-in-requires
     returns)

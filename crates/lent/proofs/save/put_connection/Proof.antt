@@ -3,6 +3,7 @@ use mathlib.Core.Path.{refl, ap, _∙_}
 use native.Mathlib.Omega.{arith}
 use Rattle.lent.proofs.Laying.{laid-none, laid-block, laid-whole}
 use Rattle.lent.proofs.Back.{saved-loads}
+use Rattle.connection.specs.Handshake.{planted}
 use Rattle.lent.specs.Saved.{savedHandshake, loaded, Ranged, headFields, sessionFields, agreedFields, keptFields, windowFields, sendingFields, widthFields}
 use borrow.Author.Needs.{needs}
 use Rattle.lent.proofs.save.put_connection.Statement.{statement}
@@ -35,20 +36,20 @@ same-length c = search needs
 returns : tie.Need-returns
 unfolding savedHandshake
 returns c =
-    let d = c .before .before .before .before .before .before .before .before .before .before .before .before .before .before .before .before .before .before .before .before .before .before .before .before .before .before .before .before .before .before .args .d .now in
-    let h = c .before .before .before .before .before .before .before .before .before .before .before .before .before .before .before .before .before .before .before .before .before .before .before .before .before .before .before .before .before .before .args .c .handshake in
-    let one = laid-block 0 5 (headFields (h .state)) (c .before .before .before .before .before .before .before .before .before .before .before .before .before .before .before .before .before .before .before .before .before .before .before .before .before .before .put-head .last .0) (laid-none d 0 (omega arith)) refl (c .before .before .before .before .before .before .before .before .before .before .before .before .before .before .before .before .before .before .before .before .before .before .before .before .before .before .put-head .ensures .1) (omega (arith, c .before .before .before .before .before .before .before .before .before .before .before .before .before .before .before .before .before .before .before .before .before .before .before .before .before .before .before .before .before .before .pre)) (c .before .before .before .before .before .before .before .before .before .before .before .before .before .before .before .before .before .before .before .before .before .before .before .before .before .before .put-head .ensures .0) in
-    let two = laid-block 5 28 (sessionFields (h .session)) (c .before .before .before .before .before .before .before .before .before .before .before .before .before .before .before .before .before .before .before .before .before .before .put-session .last .0) one refl (c .before .before .before .before .before .before .before .before .before .before .before .before .before .before .before .before .before .before .before .before .before .before .put-session .ensures .1 .0) (omega (arith, c .before .before .before .before .before .before .before .before .before .before .before .before .before .before .before .before .before .before .before .before .before .before .before .before .before .before .before .before .before .before .pre)) (c .before .before .before .before .before .before .before .before .before .before .before .before .before .before .before .before .before .before .before .before .before .before .put-session .ensures .0) in
-    let three = laid-block 33 46 (agreedFields (h .agreed)) (c .before .before .before .before .before .before .before .before .before .before .before .before .before .before .before .before .before .before .put-agreed .last .0) two refl (c .before .before .before .before .before .before .before .before .before .before .before .before .before .before .before .before .before .before .put-agreed .ensures .1 .0) (omega (arith, c .before .before .before .before .before .before .before .before .before .before .before .before .before .before .before .before .before .before .before .before .before .before .before .before .before .before .before .before .before .before .pre)) (c .before .before .before .before .before .before .before .before .before .before .before .before .before .before .before .before .before .before .put-agreed .ensures .0) in
-    let four = laid-block 79 356 (keptFields (h .kept)) (c .before .before .before .before .before .before .before .before .before .before .before .before .before .before .put-kept .last .0) three refl (c .before .before .before .before .before .before .before .before .before .before .before .before .before .before .put-kept .ensures .1 .0) (omega (arith, c .before .before .before .before .before .before .before .before .before .before .before .before .before .before .before .before .before .before .before .before .before .before .before .before .before .before .before .before .before .before .pre)) (c .before .before .before .before .before .before .before .before .before .before .before .before .before .before .put-kept .ensures .0) in
-    let five = laid-block 435 10 (windowFields (h .window)) (c .before .before .before .before .before .before .before .before .before .before .put-window .last .0) four refl (c .before .before .before .before .before .before .before .before .before .before .put-window .ensures .1 .0) (omega (arith, c .before .before .before .before .before .before .before .before .before .before .before .before .before .before .before .before .before .before .before .before .before .before .before .before .before .before .before .before .before .before .pre)) (c .before .before .before .before .before .before .before .before .before .before .put-window .ensures .0) in
-    let six = laid-block 445 12 (sendingFields (h .sending)) (c .before .before .before .before .before .before .put-sending .last .0) five refl (c .before .before .before .before .before .before .put-sending .ensures .1 .0) (omega (arith, c .before .before .before .before .before .before .before .before .before .before .before .before .before .before .before .before .before .before .before .before .before .before .before .before .before .before .before .before .before .before .pre)) (c .before .before .before .before .before .before .put-sending .ensures .0) in
-    let seven = laid-block 457 1 (widthFields (h .window)) (c .before .before .put-width .last .0) six refl (c .before .before .put-width .ensures .1) (omega (arith, c .before .before .before .before .before .before .before .before .before .before .before .before .before .before .before .before .before .before .before .before .before .before .before .before .before .before .before .before .before .before .pre)) (c .before .before .put-width .ensures .0) in
-    let all = laid-whole seven (c .before .before .before .before .before .before .before .before .before .before .before .before .before .before .before .before .before .before .before .before .before .before .before .before .before .before .before .before .before .before .pre) in
+    let d = c .before .before .before .before .before .before .before .before .before .before .before .before .before .before .before .before .before .before .before .before .before .before .before .before .before .before .before .before .before .before .before .before .before .before .before .before .args .d .now in
+    let h = c .before .before .before .before .before .before .before .before .before .before .before .before .before .before .before .before .before .before .before .before .before .before .before .before .before .before .before .before .before .before .before .before .before .before .before .before .args .c .handshake in
+    let one = laid-block 0 5 (headFields (h .state)) (c .before .before .before .before .before .before .before .before .before .before .before .before .before .before .before .before .before .before .before .before .before .before .before .before .before .before .before .before .before .before .before .before .put-head .last .0) (laid-none d 0 (omega arith)) refl (c .before .before .before .before .before .before .before .before .before .before .before .before .before .before .before .before .before .before .before .before .before .before .before .before .before .before .before .before .before .before .before .before .put-head .ensures .1) (omega (arith, c .before .before .before .before .before .before .before .before .before .before .before .before .before .before .before .before .before .before .before .before .before .before .before .before .before .before .before .before .before .before .before .before .before .before .before .before .pre)) (c .before .before .before .before .before .before .before .before .before .before .before .before .before .before .before .before .before .before .before .before .before .before .before .before .before .before .before .before .before .before .before .before .put-head .ensures .0) in
+    let two = laid-block 5 28 (sessionFields (planted h)) (c .before .before .before .before .before .before .before .before .before .before .before .before .before .before .before .before .before .before .before .before .before .before .before .put-session .last .0) one refl (c .before .before .before .before .before .before .before .before .before .before .before .before .before .before .before .before .before .before .before .before .before .before .before .put-session .ensures .1 .0) (omega (arith, c .before .before .before .before .before .before .before .before .before .before .before .before .before .before .before .before .before .before .before .before .before .before .before .before .before .before .before .before .before .before .before .before .before .before .before .before .pre)) (c .before .before .before .before .before .before .before .before .before .before .before .before .before .before .before .before .before .before .before .before .before .before .before .put-session .ensures .0) in
+    let three = laid-block 33 46 (agreedFields (h .protection .keys) (h .expected)) (c .before .before .before .before .before .before .before .before .before .before .before .before .before .before .before .before .before .before .put-agreed .last .0) two refl (c .before .before .before .before .before .before .before .before .before .before .before .before .before .before .before .before .before .before .put-agreed .ensures .1 .0) (omega (arith, c .before .before .before .before .before .before .before .before .before .before .before .before .before .before .before .before .before .before .before .before .before .before .before .before .before .before .before .before .before .before .before .before .before .before .before .before .pre)) (c .before .before .before .before .before .before .before .before .before .before .before .before .before .before .before .before .before .before .put-agreed .ensures .0) in
+    let four = laid-block 79 356 (keptFields (h .kept)) (c .before .before .before .before .before .before .before .before .before .before .before .before .before .before .put-kept .last .0) three refl (c .before .before .before .before .before .before .before .before .before .before .before .before .before .before .put-kept .ensures .1 .0) (omega (arith, c .before .before .before .before .before .before .before .before .before .before .before .before .before .before .before .before .before .before .before .before .before .before .before .before .before .before .before .before .before .before .before .before .before .before .before .before .pre)) (c .before .before .before .before .before .before .before .before .before .before .before .before .before .before .put-kept .ensures .0) in
+    let five = laid-block 435 10 (windowFields (h .protection .window)) (c .before .before .before .before .before .before .before .before .before .before .put-window .last .0) four refl (c .before .before .before .before .before .before .before .before .before .before .put-window .ensures .1 .0) (omega (arith, c .before .before .before .before .before .before .before .before .before .before .before .before .before .before .before .before .before .before .before .before .before .before .before .before .before .before .before .before .before .before .before .before .before .before .before .before .pre)) (c .before .before .before .before .before .before .before .before .before .before .put-window .ensures .0) in
+    let six = laid-block 445 12 (sendingFields (h .protection) (h .last)) (c .before .before .before .before .before .before .put-sending .last .0) five refl (c .before .before .before .before .before .before .put-sending .ensures .1 .0) (omega (arith, c .before .before .before .before .before .before .before .before .before .before .before .before .before .before .before .before .before .before .before .before .before .before .before .before .before .before .before .before .before .before .before .before .before .before .before .before .pre)) (c .before .before .before .before .before .before .put-sending .ensures .0) in
+    let seven = laid-block 457 1 (widthFields (h .protection .window)) (c .before .before .put-width .last .0) six refl (c .before .before .put-width .ensures .1) (omega (arith, c .before .before .before .before .before .before .before .before .before .before .before .before .before .before .before .before .before .before .before .before .before .before .before .before .before .before .before .before .before .before .before .before .before .before .before .before .pre)) (c .before .before .put-width .ensures .0) in
+    let all = laid-whole seven (c .before .before .before .before .before .before .before .before .before .before .before .before .before .before .before .before .before .before .before .before .before .before .before .before .before .before .before .before .before .before .before .before .before .before .before .before .pre) in
     let ranged : Ranged (record { handshake = h })
     = record {
-      id = c .before .before .before .before .before .before .before .before .before .before .before .before .before .before .before .before .before .before .before .before .before .before .put-session .ensures .1 .1 .0;
-      secret = c .before .before .before .before .before .before .before .before .before .before .before .before .before .before .before .before .before .before .before .before .before .before .put-session .ensures .1 .1 .1;
+      id = c .before .before .before .before .before .before .before .before .before .before .before .before .before .before .before .before .before .before .before .before .before .before .before .put-session .ensures .1 .1 .0;
+      secret = c .before .before .before .before .before .before .before .before .before .before .before .before .before .before .before .before .before .before .before .before .before .before .before .put-session .ensures .1 .1 .1;
       server = c .before .before .before .before .before .before .before .before .before .before .before .before .before .before .before .before .before .before .put-agreed .ensures .1 .1 .0;
       client = c .before .before .before .before .before .before .before .before .before .before .before .before .before .before .before .before .before .before .put-agreed .ensures .1 .1 .1 .0;
       expected = c .before .before .before .before .before .before .before .before .before .before .before .before .before .before .before .before .before .before .put-agreed .ensures .1 .1 .1 .1;

@@ -1,11 +1,11 @@
--- `load::agreed_in`: each array is the part of the bytes at its place.
+-- `load::keys_in`: each array is the part of the bytes at its place.
 use native.Mathlib.Omega.{arith}
-use Rattle.lent.specs.Saved.{agreedIn}
+use Rattle.lent.specs.Saved.{keysIn}
 use Rattle.lent.proofs.Reading.{part-filled}
 use lib.ListN.{getD}
 use borrow.Author.Needs.{needs}
-use Rattle.lent.proofs.load.agreed_in.Statement.{statement}
-use Rattle.lent.proofs.load.agreed_in.Tie as tie
+use Rattle.lent.proofs.load.keys_in.Statement.{statement}
+use Rattle.lent.proofs.load.keys_in.Tie as tie
 
 slice-aggregate-put : tie.Need-slice-aggregate-put
 slice-aggregate-put c = search needs
@@ -58,17 +58,23 @@ shared-slice-read-mac-numbered c = search needs
 mac-numbered-requires : tie.Need-mac-numbered-requires
 mac-numbered-requires c κs = search needs
 
-shared-slice-read-t28 : tie.Need-shared-slice-read-t28
-shared-slice-read-t28 c = search needs
+shared-slice-read-t29 : tie.Need-shared-slice-read-t29
+shared-slice-read-t29 c = search needs
 
 returns : tie.Need-returns
-unfolding agreedIn
+unfolding keysIn
 returns c =
     let b = c .before .before .before .before .before .before .before .before .before .before .before .before .before .before .before .before .args .b .now in
-    λ i. record { server = part-filled 16 33 b (c .before .before .before .before .before .before .before .before .before .before .before .before .put .last .0) (omega (arith, c .before .before .before .before .before .before .before .before .before .before .before .before .before .before .before .before .pre)) (c .before .before .before .before .before .before .before .before .before .before .before .before .put .ensures) i; client = part-filled 16 49 b (c .before .before .before .before .before .before .before .before .put2 .last .0) (omega (arith, c .before .before .before .before .before .before .before .before .before .before .before .before .before .before .before .before .pre)) (c .before .before .before .before .before .before .before .before .put2 .ensures) i; mac = c .before .mac-numbered .ensures i; refresh = getD b 66 0; expected = part-filled 12 67 b (c .before .before .before .before .put3 .last .0) (omega (arith, c .before .before .before .before .before .before .before .before .before .before .before .before .before .before .before .before .pre)) (c .before .before .before .before .put3 .ensures) i }
+    λ i. record {
+      secret = part-filled 20 13 b (c .before .before .before .before .before .before .before .before .before .before .before .before .put .last .0) (omega (arith, c .before .before .before .before .before .before .before .before .before .before .before .before .before .before .before .before .pre)) (c .before .before .before .before .before .before .before .before .before .before .before .before .put .ensures) i;
+      server = part-filled 16 33 b (c .before .before .before .before .before .before .before .before .put2 .last .0) (omega (arith, c .before .before .before .before .before .before .before .before .before .before .before .before .before .before .before .before .pre)) (c .before .before .before .before .before .before .before .before .put2 .ensures) i;
+      client = part-filled 16 49 b (c .before .before .before .before .put3 .last .0) (omega (arith, c .before .before .before .before .before .before .before .before .before .before .before .before .before .before .before .before .pre)) (c .before .before .before .before .put3 .ensures) i;
+      mac = c .before .mac-numbered .ensures i;
+      refresh = getD b 66 0;
+    }
 
-pub agreed-in-spec : {M : Type 1} → statement M
-agreed-in-spec =
+pub keys-in-spec : {M : Type 1} → statement M
+keys-in-spec =
     tie.close
     (tie.spec
     slice-aggregate-put
@@ -88,5 +94,5 @@ agreed-in-spec =
     put-requires-3
     shared-slice-read-mac-numbered
     mac-numbered-requires
-    shared-slice-read-t28
+    shared-slice-read-t29
     returns)
