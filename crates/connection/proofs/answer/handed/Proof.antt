@@ -15,7 +15,7 @@ slice-aggregate-result : tie.Need-slice-aggregate-result
 slice-aggregate-result c = search needs
 
 returns : tie.Need-returns
-returns c = rw (c .before .before .before .answer .given .1) (search picks)
+returns c = rw (c .before .before .before .answer .given .1) (search picks depth 2)
 
 sub-if2 : tie.Need-sub-if2
 sub-if2 c = search needs
@@ -24,7 +24,7 @@ slice-aggregate-result-2 : tie.Need-slice-aggregate-result-2
 slice-aggregate-result-2 c = search needs
 
 returns-2 : tie.Need-returns-2
-returns-2 c = rw (c .before .before .before .before .answer .given .1) (search picks)
+returns-2 c = rw (c .before .before .before .before .answer .given .1) (search picks depth 2)
 
 add-result : tie.Need-add-result
 add-result c = search needs
@@ -109,7 +109,7 @@ returns-3 c = rw (c .before .before .before .before .answer .given .1)
     (let at = c .before .before .before .before .answer .given .0 .1 .0 in
     let size = c .before .before .before .before .answer .given .0 .1 .1 .0 in
     let back : at + size - at ≡ size = omega arith in
-    let part = ap (λ n. take n (drop at (c .before .before .before .before .before .before .args .datagram .now))) back in search picks)
+    let part = ap (λ n. take n (drop at (c .before .before .before .before .before .before .args .datagram .now))) back in search picks depth 2)
 
 returns-4 : tie.Need-returns-4
 returns-4 c = search needs

@@ -18,7 +18,7 @@ leave-requires c κs = search needs
 
 returns : tie.Need-returns
 unfolding freshOf
-returns c = let e = c .leave .ensures ∙ ap (leaving (Refused Argument)) (c .before .blank .ensures) in search picks
+returns c = let e = c .leave .ensures ∙ ap (leaving (Refused Argument)) (c .before .blank .ensures) in search picks depth 2
 
 blank-requires-2 : tie.Need-blank-requires-2
 blank-requires-2 c κs = search needs
@@ -28,7 +28,7 @@ leave-requires-2 c κs = search needs
 
 returns-2 : tie.Need-returns-2
 unfolding freshOf
-returns-2 c = let e = c .leave2 .ensures ∙ ap (leaving (Refused Argument)) (c .before .blank2 .ensures) in search picks
+returns-2 c = let e = c .leave2 .ensures ∙ ap (leaving (Refused Argument)) (c .before .blank2 .ensures) in search picks depth 2
 
 planted-requires : tie.Need-planted-requires
 planted-requires c κs = search needs
@@ -41,7 +41,7 @@ leave-requires-3 c κs = search needs
 
 returns-3 : tie.Need-returns-3
 unfolding freshOf
-returns-3 c = let e = c .leave3 .ensures ∙ ap (leaving Done) (c .before .made .ensures ∙ ap (λ s. newHandshake s Idle) (c .before .before .planted .ensures)) in search picks
+returns-3 c = let e = c .leave3 .ensures ∙ ap (leaving Done) (c .before .made .ensures ∙ ap (λ s. newHandshake s Idle) (c .before .before .planted .ensures)) in search picks depth 2
 
 pub fresh-spec : {M : Type 1} → statement M
 fresh-spec =

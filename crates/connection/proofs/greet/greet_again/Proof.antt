@@ -19,14 +19,14 @@ returns : tie.Need-returns
 unfolding greetedAgain
 returns c = let h = c .before .before .before .before .before .args .h in
     let e : _≡_ {A = Judged} (record { answer = Resent (c .kept-size .result); handshake = h }) (judged (Resent (keptSize (h .kept))) h) = λ i. record { answer = Resent (c .kept-size .ensures i); handshake = h } in
-    search picks
+    search picks depth 2
 
 greet-requires : tie.Need-greet-requires
 greet-requires c κs = search needs
 
 returns-2 : tie.Need-returns-2
 unfolding greetedAgain
-returns-2 c = search picks
+returns-2 c = search picks depth 2
 
 pub greet-again-spec : {M : Type 1} → statement M
 greet-again-spec =

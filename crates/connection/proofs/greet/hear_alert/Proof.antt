@@ -28,7 +28,7 @@ refuse-requires-2 c κs = search needs
 
 returns : tie.Need-returns
 unfolding heardAlert
-returns c = rw (sym (c .before .before .before .before .before .before .before .read .ensures) ∙ c .before .before .before .before .before .a .given .1) (search picks)
+returns c = rw (sym (c .before .before .before .before .before .before .before .read .ensures) ∙ c .before .before .before .before .before .a .given .1) (search picks depth 2)
 
 enum-told-2 : tie.Need-enum-told-2
 enum-told-2 c = search needs
@@ -51,19 +51,19 @@ returns-2 c = rw (sym (c .before .before .before .read .ensures) ∙ c .before .
 
 returns-3 : tie.Need-returns-3
 unfolding heardAlert
-returns-3 c = rw (sym (c .before .before .before .before .before .before .before .before .read .ensures) ∙ c .before .before .before .before .before .before .a .given .1) (rw (c .enum-told2 .given .1) (search picks))
+returns-3 c = rw (sym (c .before .before .before .before .before .before .before .before .read .ensures) ∙ c .before .before .before .before .before .before .a .given .1) (rw (c .enum-told2 .given .1) (search picks depth 2))
 
 returns-4 : tie.Need-returns-4
 unfolding heardAlert
 returns-4 c = let d = c .before .before .before .before .before .before .before .a .given .0 .0 .description in
     let e : _≡_ {A = Judged} (record { answer = Critical d; handshake = c .with-state .result }) (judged (Critical d) (withState (c .before .before .before .before .before .before .before .before .before .before .before .args .h) S.Closed)) = λ i. record { answer = Critical d; handshake = c .with-state .ensures i } in
-    rw (sym (c .before .before .before .before .before .before .before .before .before .read .ensures) ∙ c .before .before .before .before .before .before .before .a .given .1) (rw (c .before .enum-told3 .given .1) (search picks))
+    rw (sym (c .before .before .before .before .before .before .before .before .before .read .ensures) ∙ c .before .before .before .before .before .before .before .a .given .1) (rw (c .before .enum-told3 .given .1) (search picks depth 2))
 
 returns-5 : tie.Need-returns-5
 unfolding heardAlert
 returns-5 c = let d = c .before .before .before .before .before .before .before .a .given .0 .0 .description in
     let e : _≡_ {A = Judged} (record { answer = Fatal d; handshake = c .with-state2 .result }) (judged (Fatal d) (withState (c .before .before .before .before .before .before .before .before .before .before .before .args .h) S.Closed)) = λ i. record { answer = Fatal d; handshake = c .with-state2 .ensures i } in
-    rw (sym (c .before .before .before .before .before .before .before .before .before .read .ensures) ∙ c .before .before .before .before .before .before .before .a .given .1) (rw (c .before .enum-told4 .given .1) (search picks))
+    rw (sym (c .before .before .before .before .before .before .before .before .before .read .ensures) ∙ c .before .before .before .before .before .before .before .a .given .1) (rw (c .before .enum-told4 .given .1) (search picks depth 2))
 
 pub hear-alert-spec : {M : Type 1} → statement M
 hear-alert-spec =

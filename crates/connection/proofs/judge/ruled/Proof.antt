@@ -31,7 +31,7 @@ refuse-requires-4 c κs = search needs
 
 returns : tie.Need-returns
 unfolding ruledBy
-returns c = rw (c .before .before .enum-told4 .given .1) (search picks)
+returns c = rw (c .before .before .enum-told4 .given .1) (search picks depth 2)
 
 greet-requires : tie.Need-greet-requires
 greet-requires c κs = search needs
@@ -44,7 +44,7 @@ refuse-requires-5 c κs = search needs
 
 returns-2 : tie.Need-returns-2
 unfolding ruledBy
-returns-2 c = rw (c .before .before .enum-told5 .given .1) (search picks)
+returns-2 c = rw (c .before .before .enum-told5 .given .1) (search picks depth 2)
 
 greet-again-requires : tie.Need-greet-again-requires
 greet-again-requires c κs = search needs
@@ -81,11 +81,11 @@ returns-5 c = rw (c .before .enum-told3 .given .1) (c .refuse3 .ensures)
 
 returns-6 : tie.Need-returns-6
 unfolding ruledBy
-returns-6 c = rw (c .before .before .enum-told4 .given .1) (search picks)
+returns-6 c = rw (c .before .before .enum-told4 .given .1) (search picks depth 2)
 
 returns-7 : tie.Need-returns-7
 unfolding ruledBy
-returns-7 c = rw (c .before .before .enum-told5 .given .1) (search picks)
+returns-7 c = rw (c .before .before .enum-told5 .given .1) (search picks depth 2)
 
 returns-8 : tie.Need-returns-8
 unfolding ruledBy

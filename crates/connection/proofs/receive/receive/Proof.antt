@@ -16,14 +16,14 @@ whole-requires c κs = search needs
 
 returns : tie.Need-returns
 unfolding receivedOf outputOf
-returns c = let same : c .before .before .before .before .before .args .out .now ≡ c .before .before .before .before .before .args .out .now = refl in (search picks, search picks)
+returns c = let same : c .before .before .before .before .before .args .out .now ≡ c .before .before .before .before .before .args .out .now = refl in (search picks depth 2, search picks depth 2)
 
 whole-requires-2 : tie.Need-whole-requires-2
 whole-requires-2 c κs = search needs
 
 returns-2 : tie.Need-returns-2
 unfolding receivedOf outputOf
-returns-2 c = let same : c .before .before .before .before .before .before .args .out .now ≡ c .before .before .before .before .before .before .args .out .now = refl in (search picks, search picks)
+returns-2 c = let same : c .before .before .before .before .before .before .args .out .now ≡ c .before .before .before .before .before .before .args .out .now = refl in (search picks depth 2, search picks depth 2)
 
 slice-aggregate-put : tie.Need-slice-aggregate-put
 slice-aggregate-put c = search needs
@@ -53,7 +53,7 @@ returns-3 : tie.Need-returns-3
 unfolding receivedOf outputOf
 returns-3 c = let args = c .before .before .before .before .before .before .before .before .before .before .before .before .before .args in
     let same = laid-nothing (args .out .now) in
-    rw (walk-refused (args .datagram .now) (c .before .before .before .before .walked .result) _ _ (c .before .before .before .before .walked .ensures) (c .before .before .outcome .given .1)) (search picks, search picks)
+    rw (walk-refused (args .datagram .now) (c .before .before .before .before .walked .result) _ _ (c .before .before .before .before .walked .ensures) (c .before .before .outcome .given .1)) (search picks depth 2, search picks depth 2)
 
 same-length : tie.Need-same-length
 same-length c = search needs
@@ -68,7 +68,7 @@ returns-4 c = let args = c .before .before .before .before .before .before .befo
     let ours = filled-whole 16 (args .random .now) (c .before .before .before .before .before .before .before .before .put .last .0) (c .before .before .before .before .before .before .before .before .before .before .before .if1 .left) (c .before .before .before .before .before .before .before .before .put .ensures) in
     let all = c .before .before .each .ensures .0 ∙ ap (λ x. runOf h x d rs) ours in
     let bytes = c .before .before .each .ensures .1 ∙ ap (λ x. laidOver (args .out .now) 0 (firstReply h x d rs)) ours in
-    rw (walk-sound d w (c .before .before .before .before .before .before .walked .ensures) (c .before .before .before .before .enum-told .given .1)) (search picks, search picks)
+    rw (walk-sound d w (c .before .before .before .before .before .before .walked .ensures) (c .before .before .before .before .enum-told .given .1)) (search picks depth 2, search picks depth 2)
 
 pub receive-spec : {M : Type 1} → statement M
 receive-spec =

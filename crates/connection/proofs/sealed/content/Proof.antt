@@ -14,7 +14,7 @@ refuse-requires c κs = search needs
 
 returns : tie.Need-returns
 unfolding contentBy
-returns c = rw (c .before .before .enum-told .given .1) (search picks)
+returns c = rw (c .before .before .enum-told .given .1) (search picks depth 2)
 
 enum-told-2 : tie.Need-enum-told-2
 enum-told-2 c = search needs
@@ -60,7 +60,7 @@ refuse-requires-6 c κs = search needs
 
 returns-2 : tie.Need-returns-2
 unfolding contentBy
-returns-2 c = rw (c .before .enum-told .given .1) (search picks)
+returns-2 c = rw (c .before .enum-told .given .1) (search picks depth 2)
 
 returns-3 : tie.Need-returns-3
 unfolding contentBy

@@ -8,7 +8,7 @@ use Rattle.connection.proofs.send.alert_refusal.Tie as tie
 
 returns : tie.Need-returns
 unfolding alertRefused
-returns c = search picks
+returns c = search picks depth 2
 
 enum-known-may : tie.Need-enum-known-may
 enum-known-may c = search needs
@@ -24,11 +24,11 @@ numbered-requires c κs = search needs
 
 returns-2 : tie.Need-returns-2
 unfolding alertRefused
-returns-2 c = rw (c .before .may .given .1) (search picks)
+returns-2 c = rw (c .before .may .given .1) (search picks depth 2)
 
 returns-3 : tie.Need-returns-3
 unfolding alertRefused
-returns-3 c = rw (c .before .enum-told .given .1) (search picks)
+returns-3 c = rw (c .before .enum-told .given .1) (search picks depth 2)
 
 pub alert-refusal-spec : {M : Type 1} → statement M
 alert-refusal-spec =

@@ -8,11 +8,11 @@ use Rattle.connection.proofs.send.data_refusal.Tie as tie
 
 returns : tie.Need-returns
 unfolding dataRefused
-returns c = search picks
+returns c = search picks depth 2
 
 returns-2 : tie.Need-returns-2
 unfolding dataRefused
-returns-2 c = search picks
+returns-2 c = search picks depth 2
 
 may-data-requires : tie.Need-may-data-requires
 may-data-requires c κs = search needs
@@ -34,11 +34,11 @@ numbered-requires c κs = search needs
 
 returns-3 : tie.Need-returns-3
 unfolding dataRefused
-returns-3 c = rw (sym (c .before .before .before .may-data .ensures) ∙ c .before .refusal .given .1) (search picks)
+returns-3 c = rw (sym (c .before .before .before .may-data .ensures) ∙ c .before .refusal .given .1) (search picks depth 2)
 
 returns-4 : tie.Need-returns-4
 unfolding dataRefused
-returns-4 c = rw (sym (c .before .before .before .may-data .ensures) ∙ c .before .enum-told .given .1) (search picks)
+returns-4 c = rw (sym (c .before .before .before .may-data .ensures) ∙ c .before .enum-told .given .1) (search picks depth 2)
 
 pub data-refusal-spec : {M : Type 1} → statement M
 data-refusal-spec =

@@ -39,7 +39,7 @@ enum-told-7 : tie.Need-enum-told-7
 enum-told-7 c = search needs
 
 returns-5 : tie.Need-returns-5
-returns-5 c = rw (c .before .enum-told7 .given .1, c .before .before .before .if1 .left) (search picks)
+returns-5 c = rw (c .before .enum-told7 .given .1, c .before .before .before .if1 .left) (search picks depth 2)
 
 enum-told-8 : tie.Need-enum-told-8
 enum-told-8 c = search needs
@@ -51,7 +51,7 @@ returns-7 : tie.Need-returns-7
 returns-7 c = search needs
 
 returns-8 : tie.Need-returns-8
-returns-8 c = rw (c .before .enum-told7 .given .1, c .before .before .before .if1 .left) (search picks)
+returns-8 c = rw (c .before .enum-told7 .given .1, c .before .before .before .if1 .left) (search picks depth 2)
 
 returns-9 : tie.Need-returns-9
 returns-9 c = search needs
