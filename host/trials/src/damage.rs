@@ -100,7 +100,10 @@ fn taken(bytes: &[u8], report: &[u8]) -> Option<&'static str> {
     if (given.refusal, given.written, given.count) != (0, 0, 1) || lent.out != [0xa5; 128] {
         return Some("a report is not answered, or the output is touched");
     }
-    let unchanged = [&lent.state[..435], &lent.state[445..]] == [&bytes[..435], &bytes[445..]];
+    // The window: highest number and marks, and behind all else its width; one that it cannot have becomes the nearest that it can.
+    let width = [bytes[457], bytes[457].clamp(32, 64)].contains(&lent.state[457]);
+    let unchanged =
+        width && [&lent.state[..435], &lent.state[445..457]] == [&bytes[..435], &bytes[445..457]];
     match (unchanged, lent.answers[0]) {
         (false, _) => Some("a report changes more than the window"),
         (true, 11) if lent.state != bytes => Some("a refused report changes the window"),

@@ -3,7 +3,6 @@
 //! nothing, that only the counted bytes of the output were written, and that the connection loads from what was saved.
 
 use gateway::{Answer, Connection, Refusal, Sense, Tally};
-use peer::wire;
 
 /// What lies in the output before a call.
 const BLANK: u8 = 0xa5;
