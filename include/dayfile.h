@@ -26,7 +26,7 @@ extern "C" {
 #define DAYFILE_REPORT_MOST 1400   /* bytes of a report */
 #define DAYFILE_HEAD 5             /* bytes of a report before its own */
 
-/* What write and read answer is one number of two parts; where the call is refused the second is 0. */
+/* What write, read and mend answer is one number of two parts; where the call is refused the second is 0. */
 #define DAYFILE_REFUSAL(result) ((unsigned)((result) >> 32))         /* 0: done; else a refusal number */
 #define DAYFILE_TOLD(result) ((size_t)((result) & 0xffffffff))       /* as each call says */
 

@@ -8,7 +8,7 @@ use Rattle.record.specs.declared.window.Window.{Window}
 use Rattle.record.specs.declared.window.Acceptance.{Acceptance}
 use Rattle.record.specs.declared.window.Acceptance.the-variants.{New, TooOld, Repeated}
 
--- 01, Refusal numbers: 10, "number too old"; 11, "number repeated"; 0 where the number is new
+-- 01, Refusal numbers: 10, "too old"; 11, "repeated"; 0 where the number is new
 abbrev pub acceptanceNumber : Acceptance → ℕ
 acceptanceNumber (New window arrived) = 0
 acceptanceNumber TooOld = 10

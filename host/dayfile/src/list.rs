@@ -102,7 +102,7 @@ fn number(rest: &mut &str) -> Result<u64, String> {
 
 fn bytes(digits: &str) -> Result<Vec<u8>, String> {
     let wrong = || "bytes that are not pairs of hexadecimal digits".to_string();
-    if !digits.len().is_multiple_of(2) || !digits.is_ascii() {
+    if !digits.len().is_multiple_of(2) || !digits.bytes().all(|digit| digit.is_ascii_hexdigit()) {
         return Err(wrong());
     }
     (0..digits.len())
@@ -128,6 +128,9 @@ mod tests {
     fn what_is_wrong_is_said_with_its_line() {
         let text = format!("{LINE}\n{}\n", LINE.replace("\"length\":2", "\"length\":3"));
         assert_eq!(reports(&text, "x").unwrap_err(), "line 2: length 3, but 2 bytes");
+        for digits in ["+1", "4869 ", "486", "zz69"] {
+            assert!(reports(&LINE.replace("4869", digits), "x").is_err(), "{digits}");
+        }
         let text = LINE.replace("17", "65536");
         assert_eq!(reports(&text, "x").unwrap_err(), "line 1: number 65536 is over 65,535");
     }

@@ -2,7 +2,7 @@
 
 mod list;
 
-use dayfile::{Report, MOST_BYTES, MOST_IN_REPORT, MOST_REPORTS};
+use dayfile::{Refusal, Report, MOST_BYTES, MOST_IN_REPORT, MOST_REPORTS};
 use std::fs::{self, OpenOptions};
 use std::io::{self, Write};
 use std::process::ExitCode;
@@ -15,7 +15,9 @@ dayfile mend FILE OUT                            the whole reports from the fron
 
 /// Exit statuses: 0 done (mend: unchanged), 1 refused or wrong, 2 used wrongly, 3 mended and changed.
 fn main() -> ExitCode {
-    let arguments: Vec<String> = std::env::args().skip(1).collect();
+    let arguments: Option<Vec<String>> =
+        std::env::args_os().skip(1).map(|word| word.into_string().ok()).collect();
+    let arguments = arguments.unwrap_or_default();
     let words: Vec<&str> = arguments.iter().map(String::as_str).collect();
     let done = match words[..] {
         ["write", "--list", day, "--ship", ship, out] => write(day, ship, out),
@@ -50,7 +52,7 @@ fn write(day: &str, ship: &str, out: &str) -> Result<ExitCode, String> {
     check(&list).map_err(|wrong| format!("{ship}: {wrong}"))?;
     let file = dayfile::write(&list).map_err(|refusal| format!("{ship}: {refusal}"))?;
     put(out, &file)?;
-    println!("{out}: {} reports of {ship}, {} bytes", list.len(), file.len());
+    say(&format!("{out}: {} reports of {ship}, {} bytes\n", list.len(), file.len()))?;
     Ok(ExitCode::SUCCESS)
 }
 
@@ -81,13 +83,31 @@ fn check(list: &[Report]) -> Result<(), String> {
 
 fn read(path: &str, json: bool) -> Result<ExitCode, String> {
     let file = fs::read(path).map_err(|error| format!("{path}: {error}"))?;
-    let list = dayfile::read(&file).map_err(|refusal| format!("{path}: {refusal}"))?;
-    let mut text = String::new();
-    for report in &list {
-        text += &line(report, json);
-    }
-    io::stdout().write_all(text.as_bytes()).map_err(|error| format!("standard output: {error}"))?;
+    let list = dayfile::read(&file)
+        .map_err(|refusal| format!("{path}: {refusal}{}", place(refusal, &file)))?;
+    let text: String = list.iter().map(|report| line(report, json)).collect();
+    say(&text)?;
     Ok(ExitCode::SUCCESS)
+}
+
+/// Where bytes that are the file of no list stop being one.
+fn place(refusal: Refusal, file: &[u8]) -> String {
+    if refusal != Refusal::NoFile {
+        return String::new();
+    }
+    let (mut kept, mut at) = (0, 0);
+    while let Some((_, bytes)) = dayfile::report(file, at) {
+        kept += 1;
+        at += 5 + bytes.len();
+    }
+    format!("; {kept} whole reports end at byte {at}, and their trailer does not stand there (dayfile mend keeps them)")
+}
+
+/// Text on standard output.
+fn say(text: &str) -> Result<(), String> {
+    let mut output = io::stdout();
+    let done = output.write_all(text.as_bytes()).and_then(|()| output.flush());
+    done.map_err(|error| format!("standard output: {error}"))
 }
 
 /// The mended file stands in `out`, which was not there before, so the input is never written over.
@@ -96,7 +116,8 @@ fn mend(path: &str, out: &str) -> Result<ExitCode, String> {
     let mended = dayfile::mend(&file).map_err(|refusal| format!("{path}: {refusal}"))?;
     put(out, &mended.file)?;
     let changed = if mended.changed { "changed" } else { "unchanged" };
-    println!("{out}: kept {} reports, {} bytes stood after them, {changed}", mended.kept, mended.after);
+    let (kept, after) = (mended.kept, mended.after);
+    say(&format!("{out}: kept {kept} reports, {after} bytes stood after them, {changed}\n"))?;
     Ok(if mended.changed { ExitCode::from(3) } else { ExitCode::SUCCESS })
 }
 
@@ -111,7 +132,7 @@ fn line(report: &Report, json: bool) -> String {
     }
 }
 
-/// Writes a file that was not there before: it is whole or it is not there.
+/// Writes a file that was not there before; where writing fails nothing is left.
 fn put(path: &str, bytes: &[u8]) -> Result<(), String> {
     let wrong = |error: io::Error| format!("{path}: {error}");
     let mut file = OpenOptions::new().write(true).create_new(true).open(path).map_err(wrong)?;

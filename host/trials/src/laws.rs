@@ -31,7 +31,7 @@ pub fn run(rounds: u64, seed: u64) -> Result<String, String> {
         join(&mut rng, &mut seen).map_err(told)?;
         swap(&mut rng, &mut seen).map_err(told)?;
     }
-    if seen.apart == 0 || seen.swapped == 0 || seen.one_order == 0 {
+    if seen.joined == 0 || seen.apart == 0 || seen.swapped == 0 || seen.one_order == 0 {
         return Err(format!("trials: laws: seed {seed}: {rounds} rounds did not meet every case"));
     }
     Ok(format!(
