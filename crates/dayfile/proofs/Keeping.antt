@@ -112,7 +112,7 @@ changed-exactly b room f said e =
     unsaid false q = falsehood (let z : true ≡ false = q in cc)
 
 pub longest : (b : List ℕ) → AreBytes b → Longest b
-longest b below = record { there = run-front b below; all = λ m rest s e. ap runOf e ∙ run-append m rest s }
+longest b below = record { whole = run-sound b below; there = run-front b below; all = λ m rest s e. ap runOf e ∙ run-append m rest s }
 
 pub in-place : InPlace
 unfolding fileOf
@@ -188,7 +188,10 @@ cut-keeps-from (r ∷ l) all at k (more some small numbered s) =
 
 pub cut-keeps : CutKeeps
 unfolding fileOf
-cut-keeps l cut w = cut-keeps-from l l 0 cut (w .sound) ∙ ap (λ n. endingBy 0 n l) (zero-add cut)
+cut-keeps l cut w =
+    let kept : runOf (take cut (fileOf l)) ≡ endingBy 0 cut l
+    = cut-keeps-from l l 0 cut (w .sound) ∙ ap (λ n. endingBy 0 n l) (zero-add cut) in
+    (kept, λ room f said e. is-done (take cut (fileOf l)) room f said e .file ∙ ap fileOf kept)
 
 -- what is kept is no longer than what was written
 ends-few : (at cut : ℕ) (l : List Report) → (length (endingBy at cut l) ≤ length l) × (length (bodyOf (endingBy at cut l)) ≤ length (bodyOf l))
@@ -213,7 +216,7 @@ cut-never-24 l cut room w e = told (mend-case b room)
     b = take cut (fileOf l)
 
     kept : runOf b ≡ endingBy 0 cut l
-    kept = cut-keeps l cut w
+    kept = cut-keeps l cut w .0
 
     few : length (runOf b) ≤ length l
     few = omega (arith, ap length kept, ends-few 0 cut l .0)

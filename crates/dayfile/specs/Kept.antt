@@ -31,9 +31,10 @@ abbrev pub ChangedExactly : Type 0
 ChangedExactly = (b : List ℕ) (room : ℕ) (f : List ℕ) (said : Mended) → mendOf b room ≡ mended f said
     → Exactly (said .changed ≡ false) (f ≡ b)
 
--- "keeps the longest run of whole reports from the front": whole reports that stand at the front are kept, and what is
--- kept stands there
+-- "keeps the longest run of whole reports from the front": what is kept is whole reports, they stand at the front, and all
+-- that stand there are kept
 pub record Longest (b : List ℕ) : Type 0 where
+  pub whole : Sound (runOf b)
   pub there : bodyOf (runOf b) ++ drop (length (bodyOf (runOf b))) b ≡ b
   pub all : (m : List Report) (rest : List ℕ) → Sound m → b ≡ bodyOf m ++ rest → runOf b ≡ m ++ runOf rest
 
@@ -52,7 +53,9 @@ endingBy at cut (r ∷ l) =
 
 -- "For any cut of a file that P9 wrote, the kept reports are exactly those that stand whole before the cut."
 abbrev pub CutKeeps : Type 0
-CutKeeps = (l : List Report) (cut : ℕ) → Writable l → runOf (take cut (fileOf l)) ≡ endingBy 0 cut l
+CutKeeps = (l : List Report) (cut : ℕ) → Writable l
+    → (runOf (take cut (fileOf l)) ≡ endingBy 0 cut l)
+    × ((room : ℕ) (f : List ℕ) (said : Mended) → mendOf (take cut (fileOf l)) room ≡ mended f said → f ≡ fileOf (endingBy 0 cut l))
 
 -- and such a file is never refused 24
 abbrev pub CutNever24 : Type 0

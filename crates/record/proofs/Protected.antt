@@ -18,7 +18,7 @@ use Rattle.record.specs.Keys.{secretFor}
 use Rattle.record.specs.Code.{codeBy, fragmentBy, protectedBy}
 use Rattle.record.specs.Window.{Held, acceptOf}
 use Rattle.record.specs.History.{accepted, highestOf, windowOf, arrivedOf, judgedOf}
-use Rattle.record.specs.Written.{byteFor, headerSize}
+use Rattle.record.specs.Written.{byteFor, headerSize, recordOf, headerOf}
 use Rattle.record.specs.Reader.{readOf}
 use Rattle.record.specs.Protection.{withWindow, genuineUnder, contentSize, opening, openedTo, openedBy, recordUnder, nextRecord, countedOn, writing, wroteBy}
 use Rattle.record.specs.declared.header.Content.{Content}
@@ -234,7 +234,12 @@ module _ (p q : Protection) (same : q .keys ≡ p .keys) (few : p .protected ≤
   abbrev pub sentFragment : List ℕ
   sentFragment = fragmentBy (hmac (secretFor (p .keys) sense (p .protected))) (sizeOf (p .keys .mac)) (p .protected) (byteFor false true content) body
 
-  -- .. and its fragment is judged by the window of the other end, with the body as its content
+  -- .. its fragment stands behind the header ..
+  pub written-fragment : drop (headerSize false) (nextRecord p sense content body) ≡ sentFragment
+  unfolding recordUnder protectedBy recordOf headerOf
+  written-fragment = refl
+
+  -- .. and is judged by the window of the other end, with the body as its content
   pub written-opens : openedBy q sense (p .protected) (byteFor false true content) sentFragment
       ≡ openedTo q (length body) (acceptOf (q .window) (p .protected))
   written-opens =
