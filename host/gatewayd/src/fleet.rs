@@ -90,6 +90,11 @@ impl Fleet {
         fleet
     }
 
+    /// How often a datagram was tried on a connection in search of its ship.
+    pub fn trials(&self) -> u64 {
+        self.trials.made
+    }
+
     /// Takes a datagram. The random must be fresh.
     pub fn take(&mut self, way: Way, datagram: &[u8], random: &[u8; 16], now: Instant) -> Taken {
         let arrival = Arrival { way, datagram, random, now };
@@ -208,6 +213,9 @@ impl Fleet {
     /// What comes of a datagram in the connection that takes it.
     fn settle(&mut self, target: Target, trial: Trial, arrival: &Arrival) -> Taken {
         let index = target.ship();
+        if self.is_anybodys_end(target, &trial) {
+            return noted(Some(index), Note::AlertPassedOver);
+        }
         let mut taken = Taken { ship: Some(index), ..Taken::default() };
         tell(arrival, &trial, &mut taken);
         let ship = &mut self.ships[index];
@@ -235,6 +243,15 @@ impl Fleet {
         }
         self.set_route(index);
         taken
+    }
+
+    /// An alert in the clear that would end a handshake whose hello several have said. Each of them
+    /// has the reply, and so what such an alert must carry (10.2); and one of them may be the ship.
+    fn is_anybodys_end(&self, target: Target, trial: &Trial) -> bool {
+        let Target::Started(index, place) = target else { return false };
+        let shared = self.ships[index].started[place].senders.len() > 1;
+        let ended = trial.connection.state() == State::Closed;
+        shared && ended && trial.worth == Worth::Nothing
     }
 
     /// Puts a connection where it belongs after a datagram. A handshake that opens takes the place

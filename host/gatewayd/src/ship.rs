@@ -2,6 +2,7 @@
 
 use crate::budget::Budget;
 use crate::sessions::Session;
+use crate::way;
 use gateway::{Connection, State, Tally};
 use peer::sha1::sha1;
 use std::net::{IpAddr, SocketAddr};
@@ -39,13 +40,13 @@ pub struct Handshake {
     pub serial: u64,
     /// The message; said again, it gets the same reply.
     pub hello: Vec<u8>,
-    /// Who said it: the first, and the last few of the others.
+    /// Who said it: the first, and the last few of the others, of as many hosts as there is room for.
     pub senders: Vec<SocketAddr>,
     pub connection: Connection,
     pub at: Instant,
 }
 
-const SENDERS: usize = 4;
+const SENDERS: usize = 8;
 const HELLOS_FROM_ITS_HOST: u32 = 10;
 
 impl Ship {
@@ -83,14 +84,21 @@ impl Ship {
 }
 
 impl Handshake {
-    /// The first sender stays, so that no stranger who says the same hello can push it out.
+    /// The first sender stays, so that no stranger who says the same hello can push it out; and of
+    /// the others one from a host that is there more than once goes first.
     pub fn add_sender(&mut self, sender: SocketAddr) -> Option<SocketAddr> {
         if self.senders.contains(&sender) {
             return None;
         }
-        let pushed_out = (self.senders.len() == SENDERS).then(|| self.senders.remove(1));
         self.senders.push(sender);
-        pushed_out
+        if self.senders.len() <= SENDERS {
+            return None;
+        }
+        let twice = |one: &SocketAddr| {
+            self.senders.iter().filter(|other| way::host(**other) == way::host(*one)).count() > 1
+        };
+        let place = self.senders[1..SENDERS].iter().position(twice).unwrap_or(0);
+        Some(self.senders.remove(1 + place))
     }
 }
 

@@ -253,7 +253,7 @@ fn an_overheard_hello_said_by_many() {
         assert!(!world.take(other, &hello, 0).changed);
     }
     assert!(world.fleet.ships[0].started[0].senders.contains(&address(1)));
-    assert!(world.fleet.ships[0].started[0].senders.len() <= 4);
+    assert!(world.fleet.ships[0].started[0].senders.len() <= 8);
     assert!(world.take(1, &unit.unit.flight().unwrap(), 0).changed);
     assert_eq!(world.state(0), State::Open);
 }
@@ -626,4 +626,142 @@ fn a_barred_session_stays_out() {
     std::fs::remove_file(place.state().join("journal")).unwrap();
     assert_eq!(barred(&open(secret)), [true, false]);
     assert_eq!(barred(&open(|_| [9; 20])), [true, false]);
+}
+
+/// Who has overheard a hello gets its reply, and with it what a clear alert must carry (10.2). That
+/// ends no handshake of the ship: not behind the hello, and not from where he said it.
+#[test]
+fn an_alert_behind_an_overheard_hello() {
+    for (first, together) in [(1, false), (1, true), (2, false), (2, true)] {
+        let mut world = World::new(1);
+        let mut unit = ship(0);
+        let hello = unit.hello(1);
+        world.take(first, &hello, 0);
+        let reply = world.take(1, &hello, 0).send.remove(0).1;
+        unit.unit.hear_reply(&reply).unwrap();
+        let overheard = world.take(2, &hello, 0).send.remove(0).1;
+        let last = &overheard[overheard.len() - 28..];
+        for level in [2, 3] {
+            let alert = [&[0x42, 0, 2, level, 0][..], &peer::alert::checksum(last)].concat();
+            let with_length = unit.unit.clear(Content::Handshake, true, 0, unit.unit.last_hello());
+            let datagram = if together { [with_length, alert].concat() } else { alert };
+            world.take(2, &datagram, 0);
+        }
+        assert!(world.take(1, &unit.unit.flight().unwrap(), 0).changed, "{first} {together}");
+        assert_eq!((world.state(0), world.route(0)), (State::Open, Some(address(1))));
+    }
+}
+
+/// A fleet behind one relay in step: all ships have the same numbers, and each reports every ten
+/// seconds. None is lost, also while others ask for all the trials that there are.
+#[test]
+fn a_fleet_in_step_behind_one_address() {
+    for flood in [false, true] {
+        let ships = 300;
+        let mut world = World::new(ships);
+        let mut units: Vec<Ship> = (0..ships).map(ship).collect();
+        for (index, unit) in units.iter_mut().enumerate() {
+            let at = Duration::from_secs(index as u64);
+            let reply = world.take_at(address(1), &unit.hello(1), at).send.remove(0).1;
+            unit.unit.hear_reply(&reply).unwrap();
+            assert!(world.take_at(address(1), &unit.unit.flight().unwrap(), at).changed);
+        }
+        let mut garbage = units[0].data(1);
+        garbage[5] ^= 1;
+        let mut listed = 0;
+        for number in 1..4_u16 {
+            for unit in &units {
+                let second = 10.0 * f64::from(number) + unit.index as f64 / 30.0;
+                let at = Duration::from_secs_f64(1000.0 + second);
+                for n in 0..if flood { 160_u32 } else { 0 } {
+                    let from = (n.wrapping_mul(2_654_435_769)).to_be_bytes();
+                    world.take_at(SocketAddr::from((from, 4000)), &garbage, at);
+                }
+                let taken = world.take_at(address(1), &unit.data(number), at);
+                listed += taken.reports.len();
+            }
+        }
+        assert_eq!(listed, 3 * ships, "{flood}");
+    }
+}
+
+/// Behind a relay with many ships one more can shake hands, whatever is asked for elsewhere.
+#[test]
+fn a_handshake_behind_a_relay_under_fire() {
+    let mut world = World::new(21);
+    for index in 0..20 {
+        let mut unit = ship(index);
+        world.open(&mut unit, 1);
+    }
+    let mut garbage = ship(0).hello(9);
+    garbage[0] = 0x64;
+    let flood = |world: &mut World| {
+        for n in 0..60_000_u32 {
+            let from = (n.wrapping_mul(2_654_435_769)).to_be_bytes();
+            world.take_at(SocketAddr::from((from, 4000)), &garbage, SECOND);
+        }
+    };
+    let mut unit = ship(20);
+    world.greet(&mut unit, 1, 1, 1);
+    flood(&mut world);
+    assert!(world.take(1, &unit.unit.flight().unwrap(), 1).changed);
+    assert_eq!(world.state(20), State::Open);
+}
+
+/// A stranger on a few hosts who has overheard the ship's hello and says it first has no power over
+/// the handshake that the ship shares with him.
+#[test]
+fn an_overheard_hello_said_before_the_ship() {
+    for home in [false, true] {
+        let mut world = World::new(1);
+        let mut unit = ship(0);
+        if home {
+            world.open(&mut unit, 1);
+            world.take(1, &unit.alert(2, 0, 1), 0);
+        }
+        let mut unit = ship(0);
+        let hello = unit.hello(90);
+        world.take(2, &hello, 1);
+        let reply = world.take(1, &hello, 1).send.remove(0).1;
+        unit.unit.hear_reply(&reply).unwrap();
+        for from in 3..9 {
+            world.take(from, &hello, 1);
+        }
+        for random in 100..200 {
+            for from in 2..9 {
+                world.take(from, &ship(0).hello(random), 1);
+            }
+        }
+        assert!(world.take(1, &unit.unit.flight().unwrap(), 1).changed, "{home}");
+        assert_eq!((world.state(0), world.route(0)), (State::Open, Some(address(1))));
+    }
+}
+
+/// What is in the clear is tried on one connection at most, however many were begun by its sender.
+#[test]
+fn clear_records_cost_one_trial() {
+    let mut world = World::new(100);
+    for index in 0..100 {
+        for random in 0..8 {
+            world.take(
+                1,
+                &ship(index).hello(random + 1),
+                8 * index as u64 / 100 + u64::from(random),
+            );
+        }
+    }
+    let begun: usize = world.fleet.ships.iter().map(|ship| ship.started.len()).sum();
+    assert!(begun >= 700, "{begun}");
+    let before = world.fleet.trials();
+    for clear in [&unit_clear(Content::Data), &unit_clear(Content::ChangeCipherSpec), &vec![0; 40]]
+    {
+        for _ in 0..100 {
+            world.take(1, clear, 20);
+        }
+    }
+    assert!(world.fleet.trials() <= before + 300);
+}
+
+fn unit_clear(content: Content) -> Vec<u8> {
+    ship(0).unit.clear(content, false, 1, &[1; 20])
 }
