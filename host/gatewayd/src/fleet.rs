@@ -145,7 +145,12 @@ impl Fleet {
         self.handshakes.said_again(&mut self.ships, index, place, sender);
         let ship = &self.ships[index];
         match arrival.tried_on(ship, Target::Started(index, place)) {
-            Ok(trial) => self.settle(Target::Started(index, place), trial, arrival),
+            Ok(trial) => {
+                let answered = trial.has_reply().then_some(Note::Answered);
+                let mut taken = self.settle(Target::Started(index, place), trial, arrival);
+                taken.notes.extend(answered.filter(|_| !taken.send.is_empty()));
+                taken
+            }
             Err(refused) => noted(Some(index), refused_whole(refused)),
         }
     }
@@ -223,7 +228,11 @@ impl Fleet {
         let mut moved = false;
         if let Worth::New(number) = trial.worth {
             moved = ship.route != Some(arrival.way.sender);
-            ship.route = Some(arrival.way.sender);
+            if moved {
+                let until_now = ship.recent.clone();
+                ship.move_route(arrival.way.sender);
+                self.routes.set_recent(index, &until_now, &ship.recent);
+            }
             ship.ours = arrival.way.ours;
             ship.heard = arrival.now;
             ship.newest = if trial.opens() { number } else { number.max(ship.newest) };

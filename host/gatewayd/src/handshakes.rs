@@ -83,7 +83,8 @@ impl Handshakes {
 
     /// Somebody else said the hello of a handshake.
     pub fn said_again(&mut self, ships: &mut [Ship], ship: usize, place: usize, by: SocketAddr) {
-        let pushed_out = ships[ship].started[place].add_sender(by);
+        let home = ships[ship].route.map(way::host);
+        let pushed_out = ships[ship].started[place].add_sender(by, home);
         self.note_sender(by, ship);
         if let Some(sender) = pushed_out {
             self.forget_sender(sender, &ships[ship], ship);

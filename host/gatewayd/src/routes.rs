@@ -12,6 +12,8 @@ pub struct Routes {
     at: HashMap<SocketAddr, Numbers>,
     on: HashMap<IpAddr, Numbers>,
     all: Numbers,
+    /// The ships that were at an address before, which are as many as each of them remembers.
+    recent: HashMap<SocketAddr, Vec<usize>>,
     /// How often a ship was entered or renumbered.
     turns: u64,
 }
@@ -83,6 +85,26 @@ impl Routes {
         self.on.entry(way::host(route.sender)).or_default().0.insert(entry);
         self.all.0.insert(entry);
         self.ships.insert(ship, route);
+    }
+
+    /// Where a ship was before, and where it was until now.
+    pub fn set_recent(&mut self, ship: usize, until_now: &[SocketAddr], recent: &[SocketAddr]) {
+        for gone in until_now.iter().filter(|sender| !recent.contains(sender)) {
+            if let Some(ships) = self.recent.get_mut(gone) {
+                ships.retain(|other| *other != ship);
+                if ships.is_empty() {
+                    self.recent.remove(gone);
+                }
+            }
+        }
+        for new in recent.iter().filter(|sender| !until_now.contains(sender)) {
+            self.recent.entry(*new).or_default().push(ship);
+        }
+    }
+
+    /// The ships that were at this address before, those that left it last first.
+    pub fn before(&self, sender: SocketAddr) -> impl Iterator<Item = usize> + '_ {
+        self.recent.get(&sender).into_iter().flatten().rev().copied()
     }
 
     /// The ships with this route.

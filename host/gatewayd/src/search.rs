@@ -62,7 +62,7 @@ pub struct Trials {
 /// What a connection has to do with the sender of a datagram.
 #[derive(Clone, Copy, PartialEq, Eq)]
 enum Nearness {
-    /// Its ship has its route there.
+    /// Its ship has its route there, or had it there before.
     Here,
     /// Its hello was said from there, by whomever.
     Begun,
@@ -180,8 +180,9 @@ impl Known<'_> {
     }
 
     /// The connections on which a datagram may be tried, the likeliest first: ships with their route
-    /// here; handshakes of this sender, before them if there is a Finished in it; ships on the same
-    /// host; all handshakes if there is a Finished in it; and all ships.
+    /// here, and those that had it here before; handshakes of this sender, before them if there is a
+    /// Finished in it; ships on the same host; all handshakes if there is a Finished in it; and all
+    /// ships.
     fn candidates(&self, arrival: &Arrival) -> impl Iterator<Item = (Target, Nearness)> + '_ {
         let (ships, routes, handshakes) = (self.ships, self.routes, self.handshakes);
         let sender = arrival.way.sender;
@@ -201,9 +202,13 @@ impl Known<'_> {
         let begun = begun.map(|target| (target, Nearness::Begun));
         let begun_before = begun.clone().take_while(move |_| finished);
         let begun_behind = begun.take_while(move |_| !finished);
-        let elsewhere = move |index: &usize| ships[*index].route != Some(sender);
+        let was_here = move |index: &usize| ships[*index].recent.contains(&sender);
+        let before = routes.before(sender).filter(move |index| ships[*index].is_open());
+        let elsewhere =
+            move |index: &usize| ships[*index].route != Some(sender) && !was_here(index);
         let neighbours = routes.on(host).nearest(near).filter(elsewhere).map(Target::Settled);
-        let others = move |index: &usize| !handshakes::is_home(&ships[*index], host);
+        let others =
+            move |index: &usize| !handshakes::is_home(&ships[*index], host) && !was_here(index);
         let others = routes.all().nearest(near).filter(others).map(Target::Settled);
         let started = handshakes.all().filter_map(move |(index, serial)| {
             let place = handshakes::place_of(&ships[index], serial)?;
@@ -214,7 +219,7 @@ impl Known<'_> {
             .chain(started.take_while(move |_| finished))
             .chain(others)
             .take_while(move |_| number.is_some());
-        let here = here.map(|target| (target, Nearness::Here));
+        let here = here.chain(before.map(Target::Settled)).map(|target| (target, Nearness::Here));
         let moved = moved.map(|target| (target, Nearness::Elsewhere));
         begun_before.chain(here).chain(begun_behind).chain(moved)
     }

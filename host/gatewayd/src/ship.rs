@@ -21,6 +21,8 @@ pub struct Ship {
     pub tally: Tally,
     /// The sender of the last genuine new record.
     pub route: Option<SocketAddr>,
+    /// Where such records came from before, the last first.
+    pub recent: Vec<SocketAddr>,
     /// Which of our addresses that record came to.
     pub ours: Option<IpAddr>,
     /// The highest number of the open connection.
@@ -47,6 +49,7 @@ pub struct Handshake {
 }
 
 const SENDERS: usize = 8;
+const RECENT: usize = 8;
 const HELLOS_FROM_ITS_HOST: u32 = 10;
 
 impl Ship {
@@ -61,6 +64,7 @@ impl Ship {
             started: Vec::new(),
             tally: Tally::default(),
             route: None,
+            recent: Vec::new(),
             ours: None,
             newest: 0,
             barred: false,
@@ -71,6 +75,14 @@ impl Ship {
 
     pub fn is_open(&self) -> bool {
         !self.barred && self.connection.state() == State::Open
+    }
+
+    /// Moves the route. Where it was stays known for a while: who relays a record before the ship's
+    /// own copy arrives has the route, and the ship is still where it was.
+    pub fn move_route(&mut self, to: SocketAddr) {
+        self.recent.splice(..0, self.route.replace(to));
+        self.recent.retain(|before| *before != to);
+        self.recent.truncate(RECENT);
     }
 
     /// The connection on which a new handshake starts: the one that is there, if it is Idle, or
@@ -84,9 +96,9 @@ impl Ship {
 }
 
 impl Handshake {
-    /// The first sender stays, so that no stranger who says the same hello can push it out; and of
-    /// the others one from a host that is there more than once goes first.
-    pub fn add_sender(&mut self, sender: SocketAddr) -> Option<SocketAddr> {
+    /// The first sender stays, so that no stranger who says the same hello can push it out, and so
+    /// does one from the ship's own host. Of the others one whose host is there twice goes first.
+    pub fn add_sender(&mut self, sender: SocketAddr, home: Option<IpAddr>) -> Option<SocketAddr> {
         if self.senders.contains(&sender) {
             return None;
         }
@@ -94,11 +106,12 @@ impl Handshake {
         if self.senders.len() <= SENDERS {
             return None;
         }
-        let twice = |one: &SocketAddr| {
-            self.senders.iter().filter(|other| way::host(**other) == way::host(*one)).count() > 1
-        };
-        let place = self.senders[1..SENDERS].iter().position(twice).unwrap_or(0);
-        Some(self.senders.remove(1 + place))
+        let count = |host| self.senders.iter().filter(|one| way::host(**one) == host).count();
+        let host = |place: &usize| way::host(self.senders[*place]);
+        let others = || (1..SENDERS).filter(|place| Some(host(place)) != home);
+        let twice = others().find(|place| count(host(place)) > 1);
+        let place = twice.or_else(|| others().next()).unwrap_or(1);
+        Some(self.senders.remove(place))
     }
 }
 

@@ -446,6 +446,7 @@ fn trials_are_budgeted() {
         assert_eq!(world.take_at(from, &garbage, at).notes, [Note::Stranger]);
     }
     println!("100,000 datagrams that ask for trials: {:?}", start.elapsed());
+    assert!(world.fleet.trials() < 33_000, "{}", world.fleet.trials());
     let late = units[0].data(2);
     assert_eq!(world.take_at(address(200), &late, at).notes, [Note::Stranger]);
     for unit in &units[1..] {
@@ -712,7 +713,8 @@ fn a_handshake_behind_a_relay_under_fire() {
 /// the handshake that the ship shares with him.
 #[test]
 fn an_overheard_hello_said_before_the_ship() {
-    for home in [false, true] {
+    // Where the ship comes back to the host of its route, a stranger on any number of them.
+    for (home, hosts) in [(false, 2..9), (true, 2..9), (true, 2..99)] {
         let mut world = World::new(1);
         let mut unit = ship(0);
         if home {
@@ -724,17 +726,44 @@ fn an_overheard_hello_said_before_the_ship() {
         world.take(2, &hello, 1);
         let reply = world.take(1, &hello, 1).send.remove(0).1;
         unit.unit.hear_reply(&reply).unwrap();
-        for from in 3..9 {
+        for from in hosts.clone() {
             world.take(from, &hello, 1);
         }
         for random in 100..200 {
-            for from in 2..9 {
+            for from in hosts.clone() {
                 world.take(from, &ship(0).hello(random), 1);
             }
         }
-        assert!(world.take(1, &unit.unit.flight().unwrap(), 1).changed, "{home}");
+        assert!(world.take(1, &unit.unit.flight().unwrap(), 1).changed, "{home} {hosts:?}");
         assert_eq!((world.state(0), world.route(0)), (State::Open, Some(address(1))));
     }
+}
+
+/// Who relays a ship's record before its own copy arrives has the route until the next one, and a
+/// flood that uses up all trials does not make it longer. Seven of them in turn do not, either.
+#[test]
+fn a_relayed_record_and_a_flood() {
+    let mut world = World::new(40);
+    let mut units: Vec<Ship> = (0..40).map(ship).collect();
+    for (index, unit) in units.iter_mut().enumerate() {
+        world.open(unit, 1 + index as u8);
+    }
+    for number in 1..8 {
+        let data = units[0].data(number);
+        assert_eq!(world.take(100 + number as u8, &data, 1).reports.len(), 1);
+        assert_eq!(refusals(&world.take(1, &data, 1)), [11]);
+    }
+    let mut garbage = units[0].data(9);
+    garbage[5] ^= 1;
+    for n in 0..20_000_u32 {
+        let from = (n.wrapping_mul(2_654_435_769)).to_be_bytes();
+        world.take_at(SocketAddr::from((from, 4000)), &garbage, SECOND);
+    }
+    // A ship that moves now is not found; this one has not moved.
+    assert_eq!(world.take(200, &units[1].data(9), 1).notes, [Note::Stranger]);
+    assert_eq!(world.take(1, &units[0].data(9), 1).reports.len(), 1);
+    assert_eq!(world.route(0), Some(address(1)));
+    assert_eq!(world.take(2, &units[1].data(10), 1).reports.len(), 1);
 }
 
 /// What is in the clear is tried on one connection at most, however many were begun by its sender.
