@@ -705,37 +705,53 @@ fn a_handshake_behind_a_relay_under_fire() {
     let mut unit = ship(20);
     world.greet(&mut unit, 1, 1, 1);
     flood(&mut world);
+    // Also from the relay itself. That has its bound, too.
+    let before = world.fleet.trials();
+    for _ in 0..5_000 {
+        world.take(1, &garbage, 1);
+    }
+    let made = world.fleet.trials() - before;
+    assert!(made <= 5_000 * (4 + 4) + 16_000, "{made}");
     assert!(world.take(1, &unit.unit.flight().unwrap(), 1).changed);
     assert_eq!(world.state(20), State::Open);
 }
 
-/// A stranger on a few hosts who has overheard the ship's hello and says it first has no power over
-/// the handshake that the ship shares with him.
+/// A stranger who has overheard the ship's hello and says it first has no power over the handshake
+/// that the ship shares with him: not on fewer than eight hosts, and, where the ship comes back to the
+/// host of its route, not on any number of them.
 #[test]
 fn an_overheard_hello_said_before_the_ship() {
-    // Where the ship comes back to the host of its route, a stranger on any number of them.
-    for (home, hosts) in [(false, 2..9), (true, 2..9), (true, 2..99)] {
-        let mut world = World::new(1);
-        let mut unit = ship(0);
-        if home {
-            world.open(&mut unit, 1);
-            world.take(1, &unit.alert(2, 0, 1), 0);
-        }
-        let mut unit = ship(0);
-        let hello = unit.hello(90);
-        world.take(2, &hello, 1);
-        let reply = world.take(1, &hello, 1).send.remove(0).1;
-        unit.unit.hear_reply(&reply).unwrap();
-        for from in hosts.clone() {
-            world.take(from, &hello, 1);
-        }
-        for random in 100..200 {
-            for from in hosts.clone() {
-                world.take(from, &ship(0).hello(random), 1);
+    for (home, last, ports) in [(false, 8, 1), (false, 8, 20), (true, 8, 20), (true, 98, 1)] {
+        for replayed in [false, true] {
+            let mut world = World::new(1);
+            let mut unit = ship(0);
+            if home {
+                world.open(&mut unit, 1);
+                world.take(1, &unit.alert(2, 0, 1), 0);
             }
+            let mut unit = ship(0);
+            let hello = unit.hello(90);
+            world.take(2, &hello, 1);
+            let reply = world.take(1, &hello, 1).send.remove(0).1;
+            unit.unit.hear_reply(&reply).unwrap();
+            for from in (2..=last).filter(|_| replayed) {
+                for port in 0..ports {
+                    let from = SocketAddr::new(address(from).ip(), 4000 + port);
+                    world.take_at(from, &hello, SECOND);
+                }
+            }
+            // One host after the other, and all in turn.
+            let others = u32::from(last) - 1;
+            for n in 0..40 * others {
+                let hello = ship(0).hello(100 + (n % 100) as u8);
+                for other in [n / 40, n % others] {
+                    world.take(2 + other as u8, &hello, 1);
+                }
+            }
+            let taken = world.take(1, &unit.unit.flight().unwrap(), 1);
+            assert!(taken.changed, "{home} {last} {ports} {replayed}");
+            assert_eq!((world.state(0), world.route(0)), (State::Open, Some(address(1))));
         }
-        assert!(world.take(1, &unit.unit.flight().unwrap(), 1).changed, "{home} {hosts:?}");
-        assert_eq!((world.state(0), world.route(0)), (State::Open, Some(address(1))));
     }
 }
 
