@@ -335,6 +335,47 @@ fn room_for_the_handshakes_of_all_ships() {
     assert!(started(&world) <= 4096 && started(&world) >= 3900, "{}", started(&world));
 }
 
+/// Hellos answered at one moment: 100 for a host, 4,000 for all, and beside them 10 for each ship from
+/// the host of its route.
+#[test]
+fn hellos_are_budgeted() {
+    let mut world = World::new(4500);
+    let mut unit = ship(0);
+    world.open(&mut unit, 1);
+    world.take(1, &unit.alert(2, 0, 1), 0);
+    let is_answered = |taken: Taken| !taken.send.is_empty();
+    let hello = |index: usize| ship(index).hello(7);
+    let one = (1..300).filter(|index| is_answered(world.take(2, &hello(*index), 10))).count();
+    assert_eq!(one, 100);
+    let from = |index: usize| SocketAddr::from((((10 << 24) + index as u32).to_be_bytes(), 4000));
+    let all = (1..4500).filter(|index| {
+        is_answered(world.take_at(from(*index), &hello(*index), Duration::from_secs(10)))
+    });
+    assert_eq!(all.count(), 3900);
+    assert!(!is_answered(world.take(3, &hello(0), 10)));
+    let again = (0..30).filter(|_| is_answered(world.take(1, &hello(0), 10)));
+    assert_eq!(again.count(), 10);
+}
+
+/// All places are taken, and none has had its time: only who comes back to his own host gets one.
+#[test]
+fn a_place_for_a_ship_at_its_own_host() {
+    let mut world = World::new(4200);
+    let mut unit = ship(0);
+    world.open(&mut unit, 1);
+    world.take(1, &unit.alert(2, 0, 1), 0);
+    for index in 1..4200 {
+        let from = SocketAddr::from((((10 << 24) + index as u32).to_be_bytes(), 4000));
+        let at = Duration::from_secs(10 + index as u64 / 2000);
+        world.take_at(from, &ship(index).hello(1), at);
+    }
+    let mut again = ship(0);
+    assert_eq!(world.take(2, &again.hello(2), 13).notes, [Note::HelloPassedOver]);
+    world.greet(&mut again, 3, 1, 13);
+    assert!(world.take(1, &again.unit.flight().unwrap(), 13).changed);
+    assert_eq!(world.state(0), State::Open);
+}
+
 /// Four forged hellos that name other ships, from the ship's own address: nothing happens to it.
 #[test]
 fn forged_hellos_at_a_ships_address() {
@@ -671,8 +712,10 @@ fn a_fleet_in_step_behind_one_address() {
         garbage[5] ^= 1;
         let mut listed = 0;
         for number in 1..4_u16 {
-            for unit in &units {
-                let second = 10.0 * f64::from(number) + unit.index as f64 / 30.0;
+            // In turn, and then the other way round.
+            for turn in 0..ships {
+                let unit = &units[if number % 2 == 0 { turn } else { ships - 1 - turn }];
+                let second = 10.0 * f64::from(number) + turn as f64 / 30.0;
                 let at = Duration::from_secs_f64(1000.0 + second);
                 for n in 0..if flood { 160_u32 } else { 0 } {
                     let from = (n.wrapping_mul(2_654_435_769)).to_be_bytes();
