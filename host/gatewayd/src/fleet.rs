@@ -90,11 +90,6 @@ impl Fleet {
         fleet
     }
 
-    /// How often a datagram was tried on a connection in search of its ship.
-    pub fn trials(&self) -> u64 {
-        self.trials.made
-    }
-
     /// Takes a datagram. The random must be fresh.
     pub fn take(&mut self, way: Way, datagram: &[u8], random: &[u8; 16], now: Instant) -> Taken {
         let arrival = Arrival { way, datagram, random, now };
@@ -102,6 +97,11 @@ impl Fleet {
             Some(hello) => self.take_hello(&hello, &arrival),
             None => self.take_records(&arrival),
         }
+    }
+
+    /// How often a datagram was tried on a connection in search of its ship.
+    pub fn trials(&self) -> u64 {
+        self.trials.made
     }
 }
 
