@@ -783,6 +783,7 @@ fn an_overheard_hello_said_before_the_ship() {
                     world.take_at(from, &hello, SECOND);
                 }
             }
+            assert!(world.fleet.ships[0].started[0].senders.contains(&address(1)));
             // One host after the other, and all in turn.
             let others = u32::from(last) - 1;
             for n in 0..40 * others {
