@@ -98,6 +98,11 @@ impl Fleet {
             None => self.take_records(&arrival),
         }
     }
+
+    /// How often a datagram was tried on a connection in search of its ship.
+    pub fn trials(&self) -> u64 {
+        self.trials.made
+    }
 }
 
 /// Hellos. Each is for the ship that it names and is answered to its sender; no route moves.
@@ -140,7 +145,12 @@ impl Fleet {
         self.handshakes.said_again(&mut self.ships, index, place, sender);
         let ship = &self.ships[index];
         match arrival.tried_on(ship, Target::Started(index, place)) {
-            Ok(trial) => self.settle(Target::Started(index, place), trial, arrival),
+            Ok(trial) => {
+                let answered = trial.has_reply().then_some(Note::Answered);
+                let mut taken = self.settle(Target::Started(index, place), trial, arrival);
+                taken.notes.extend(answered.filter(|_| !taken.send.is_empty()));
+                taken
+            }
             Err(refused) => noted(Some(index), refused_whole(refused)),
         }
     }
@@ -208,6 +218,9 @@ impl Fleet {
     /// What comes of a datagram in the connection that takes it.
     fn settle(&mut self, target: Target, trial: Trial, arrival: &Arrival) -> Taken {
         let index = target.ship();
+        if self.is_anybodys_end(target, &trial) {
+            return noted(Some(index), Note::AlertPassedOver);
+        }
         let mut taken = Taken { ship: Some(index), ..Taken::default() };
         tell(arrival, &trial, &mut taken);
         let ship = &mut self.ships[index];
@@ -215,7 +228,11 @@ impl Fleet {
         let mut moved = false;
         if let Worth::New(number) = trial.worth {
             moved = ship.route != Some(arrival.way.sender);
-            ship.route = Some(arrival.way.sender);
+            if moved {
+                let until_now = ship.recent.clone();
+                ship.move_route(arrival.way.sender);
+                self.routes.set_recent(index, &until_now, &ship.recent);
+            }
             ship.ours = arrival.way.ours;
             ship.heard = arrival.now;
             ship.newest = if trial.opens() { number } else { number.max(ship.newest) };
@@ -235,6 +252,15 @@ impl Fleet {
         }
         self.set_route(index);
         taken
+    }
+
+    /// An alert in the clear that would end a handshake whose hello several have said. Each of them
+    /// has the reply, and so what such an alert must carry (10.2); and one of them may be the ship.
+    fn is_anybodys_end(&self, target: Target, trial: &Trial) -> bool {
+        let Target::Started(index, place) = target else { return false };
+        let shared = self.ships[index].started[place].senders.len() > 1;
+        let ended = trial.connection.state() == State::Closed;
+        shared && ended && trial.worth == Worth::Nothing
     }
 
     /// Puts a connection where it belongs after a datagram. A handshake that opens takes the place

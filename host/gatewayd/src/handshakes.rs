@@ -83,7 +83,8 @@ impl Handshakes {
 
     /// Somebody else said the hello of a handshake.
     pub fn said_again(&mut self, ships: &mut [Ship], ship: usize, place: usize, by: SocketAddr) {
-        let pushed_out = ships[ship].started[place].add_sender(by);
+        let home = ships[ship].route.map(way::host);
+        let pushed_out = ships[ship].started[place].add_sender(by, home);
         self.note_sender(by, ship);
         if let Some(sender) = pushed_out {
             self.forget_sender(sender, &ships[ship], ship);
@@ -164,20 +165,22 @@ fn is_held_no_more(handshake: &Handshake, now: Instant) -> bool {
 
 /// Which handshake of a ship gives way to a newcomer: the oldest, if it has had its time; for one
 /// from the ship's own host the oldest from elsewhere, until half of the room is its own; else the
-/// oldest from the host with most of them, if that has two more than the newcomer's.
+/// oldest from the host with most of them, if that has two more than the newcomer's. One whose hello
+/// several hosts have said is of the one of them that has fewest, which may be the ship's.
 fn gives_way(ship: &Ship, sender: SocketAddr, now: Instant) -> Option<usize> {
     let host = way::host(sender);
-    let hosts: Vec<IpAddr> = ship.started.iter().map(|one| way::host(one.senders[0])).collect();
-    let count = |of: IpAddr| hosts.iter().filter(|other| **other == of).count();
+    let is_of = |one: &Handshake, host: IpAddr| one.senders.iter().any(|by| way::host(*by) == host);
+    let count = |of: IpAddr| ship.started.iter().filter(|one| is_of(one, of)).count();
+    let fewest = |one: &Handshake| one.senders.iter().map(|by| count(way::host(*by))).min();
     if is_held_no_more(&ship.started[0], now) {
         return Some(0);
     }
     if is_home(ship, host) && count(host) < OF_A_SHIP / 2 {
-        return hosts.iter().position(|other| *other != host);
+        return ship.started.iter().position(|one| !is_of(one, host));
     }
-    let most = hosts.iter().map(|other| count(*other)).max()?;
+    let most = ship.started.iter().filter_map(fewest).max()?;
     if count(host) + 1 < most {
-        return hosts.iter().position(|other| count(*other) == most);
+        return ship.started.iter().position(|one| fewest(one) == Some(most));
     }
     None
 }

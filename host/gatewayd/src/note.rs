@@ -34,6 +34,8 @@ pub enum Note {
     BarredByAlert {
         description: u8,
     },
+    /// An alert in the clear, for a handshake whose hello others said, too.
+    AlertPassedOver,
     /// The warning 57 went out.
     Warned,
     /// A handshake beside an open connection has taken its place.
@@ -66,6 +68,7 @@ impl Note {
             Note::NotSent(_) => (11, 0),
             Note::Answered => (12, 0),
             Note::Hinted => (13, 0),
+            Note::AlertPassedOver => (14, 0),
         }
     }
 }
@@ -87,6 +90,9 @@ impl fmt::Display for Note {
             Note::ClosedByWrongFinished => write!(f, "closed by a wrong Finished; started again"),
             Note::BarredByAlert { description } => {
                 write!(f, "session barred by a fatal alert, description {description}")
+            }
+            Note::AlertPassedOver => {
+                write!(f, "dropped: an alert in the clear, and others said the same hello")
             }
             Note::Warned => write!(f, "Finished repeated: warning 57 sent"),
             Note::Replaced => write!(f, "the open connection was replaced by a new one"),

@@ -2,6 +2,7 @@
 //! new record; here they are found by it, those with the nearest number first.
 
 use crate::way;
+use std::cmp::Reverse;
 use std::collections::{BTreeSet, HashMap};
 use std::net::{IpAddr, SocketAddr};
 
@@ -11,28 +12,42 @@ pub struct Routes {
     at: HashMap<SocketAddr, Numbers>,
     on: HashMap<IpAddr, Numbers>,
     all: Numbers,
+    /// The ships that were at an address before, which are as many as each of them remembers.
+    recent: HashMap<SocketAddr, Vec<usize>>,
+    /// How often a ship was entered or renumbered.
+    turns: u64,
 }
 
 #[derive(Clone, Copy, PartialEq, Eq)]
 struct Route {
     sender: SocketAddr,
     newest: u16,
+    /// When it was last heard, counted in turns of all ships.
+    turn: u64,
 }
 
 /// Ships by the highest number that each has sent. A record's number is in the clear, and is mostly
-/// one more than that of the record before, so of many ships the right one is among the first. It
-/// is no more than a hint: the code decides.
+/// one more than that of the record before, so of many ships the right one is among the first: in a
+/// fleet that counts in step, the one that has been silent for longest. It is no more than a hint:
+/// the code decides.
 #[derive(Default)]
-pub struct Numbers(BTreeSet<(u16, usize)>);
+pub struct Numbers(BTreeSet<Entry>);
+
+/// Number, turn, ship. Read downwards, those with the same number come in the order of their turns.
+type Entry = (u16, Reverse<u64>, usize);
 
 impl Routes {
     /// The route of a ship, and the highest number that it has sent; none if it is not open.
     pub fn set(&mut self, ship: usize, route: Option<(SocketAddr, u16)>) {
-        let route = route.map(|(sender, newest)| Route { sender, newest });
+        self.turns += 1;
+        let turn = self.turns;
+        let route = route.map(|(sender, newest)| Route { sender, newest, turn });
         let before = self.ships.get(&ship).copied();
         match (before, route) {
-            (before, route) if before == route => {}
             (Some(before), Some(route)) if before.sender == route.sender => {
+                if before.newest == route.newest {
+                    return;
+                }
                 self.renumber(ship, before, route);
             }
             _ => {
@@ -44,7 +59,7 @@ impl Routes {
 
     /// The common case: the next number at the same address.
     fn renumber(&mut self, ship: usize, before: Route, route: Route) {
-        let (old, new) = ((before.newest, ship), (route.newest, ship));
+        let (old, new) = (before.entry(ship), route.entry(ship));
         let at = self.at.get_mut(&route.sender);
         let on = self.on.get_mut(&way::host(route.sender));
         for set in [at, on, Some(&mut self.all)].into_iter().flatten() {
@@ -55,20 +70,41 @@ impl Routes {
     }
 
     fn leave(&mut self, ship: usize, route: Option<Route>) {
-        let Some(Route { sender, newest }) = route else { return };
-        remove(&mut self.at, sender, (newest, ship));
-        remove(&mut self.on, way::host(sender), (newest, ship));
-        self.all.0.remove(&(newest, ship));
+        let Some(route) = route else { return };
+        let entry = route.entry(ship);
+        remove(&mut self.at, route.sender, entry);
+        remove(&mut self.on, way::host(route.sender), entry);
+        self.all.0.remove(&entry);
         self.ships.remove(&ship);
     }
 
     fn enter(&mut self, ship: usize, route: Option<Route>) {
         let Some(route) = route else { return };
-        let entry = (route.newest, ship);
+        let entry = route.entry(ship);
         self.at.entry(route.sender).or_default().0.insert(entry);
         self.on.entry(way::host(route.sender)).or_default().0.insert(entry);
         self.all.0.insert(entry);
         self.ships.insert(ship, route);
+    }
+
+    /// Where a ship was before, and where it was until now.
+    pub fn set_recent(&mut self, ship: usize, until_now: &[SocketAddr], recent: &[SocketAddr]) {
+        for gone in until_now.iter().filter(|sender| !recent.contains(sender)) {
+            if let Some(ships) = self.recent.get_mut(gone) {
+                ships.retain(|other| *other != ship);
+                if ships.is_empty() {
+                    self.recent.remove(gone);
+                }
+            }
+        }
+        for new in recent.iter().filter(|sender| !until_now.contains(sender)) {
+            self.recent.entry(*new).or_default().push(ship);
+        }
+    }
+
+    /// The ships that were at this address before, those that left it last first.
+    pub fn before(&self, sender: SocketAddr) -> impl Iterator<Item = usize> + '_ {
+        self.recent.get(&sender).into_iter().flatten().rev().copied()
     }
 
     /// The ships with this route.
@@ -86,13 +122,15 @@ impl Routes {
     }
 }
 
+impl Route {
+    fn entry(&self, ship: usize) -> Entry {
+        (self.newest, Reverse(self.turn), ship)
+    }
+}
+
 static NONE: Numbers = Numbers(BTreeSet::new());
 
-fn remove<Key: std::hash::Hash + Eq>(
-    sets: &mut HashMap<Key, Numbers>,
-    key: Key,
-    entry: (u16, usize),
-) {
+fn remove<Key: std::hash::Hash + Eq>(sets: &mut HashMap<Key, Numbers>, key: Key, entry: Entry) {
     if let Some(set) = sets.get_mut(&key) {
         set.0.remove(&entry);
         if set.0.is_empty() {
@@ -104,20 +142,24 @@ fn remove<Key: std::hash::Hash + Eq>(
 impl Numbers {
     /// The ship, if it is the only one.
     pub fn only(&self) -> Option<usize> {
-        self.0.first().filter(|_| self.0.len() == 1).map(|(_, ship)| *ship)
+        self.0.first().filter(|_| self.0.len() == 1).map(|(.., ship)| *ship)
     }
 
-    /// The ships for a record with this number, the likeliest first.
+    /// The ships for a record with this number, the likeliest first: those that have sent the number
+    /// before it. (For one that has sent this very number, the record would be a repeated one.)
     pub fn nearest(&self, number: u16) -> impl Iterator<Item = usize> + '_ {
-        let mut below = self.0.range(..=(number, usize::MAX)).rev().peekable();
-        let mut above = self.0.range((number, usize::MAX)..).peekable();
+        let first = (number, Reverse(u64::MAX), 0);
+        let mut below = self.0.range(..first).rev().peekable();
+        let mut above = self.0.range(first..).peekable();
         std::iter::from_fn(move || {
             let next = match (below.peek(), above.peek()) {
-                (Some((low, _)), Some((high, _))) if high - number < number - low => above.next(),
+                (Some((low, ..)), Some((high, ..))) if high - number < number - low - 1 => {
+                    above.next()
+                }
                 (Some(_), _) => below.next(),
                 (None, _) => above.next(),
             };
-            next.map(|(_, ship)| *ship)
+            next.map(|(.., ship)| *ship)
         })
     }
 }
@@ -134,7 +176,8 @@ mod tests {
             routes.set(ship, Some((sender, newest)));
         }
         let order = |number| routes.at(sender).nearest(number).collect::<Vec<_>>();
-        assert_eq!(order(101), [1, 5, 3, 0, 4, 2]);
+        assert_eq!(order(101), [1, 3, 5, 0, 4, 2]);
+        assert_eq!(order(100), [3, 1, 5, 0, 4, 2]);
         assert_eq!(order(0), [4, 0, 3, 1, 5, 2]);
         assert_eq!(order(65535), [2, 5, 1, 3, 0, 4]);
     }
@@ -149,9 +192,16 @@ mod tests {
         routes.set(8, Some((sender(2), 4)));
         assert_eq!(routes.at(sender(1)).only(), None);
         assert_eq!(routes.at(sender(2)).only(), None);
-        assert_eq!(routes.on(way::host(sender(9))).nearest(5).collect::<Vec<_>>(), [8, 7]);
-        routes.set(8, None);
-        routes.set(7, None);
+        assert_eq!(routes.on(way::host(sender(9))).nearest(5).collect::<Vec<_>>(), [7, 8]);
+        // Of those with the same number, the one that has been silent for longest.
+        for (ship, newest) in [(7, 5), (8, 5), (7, 6), (9, 4), (8, 6)] {
+            routes.set(ship, Some((sender(2), newest)));
+        }
+        assert_eq!(routes.at(sender(2)).nearest(7).collect::<Vec<_>>(), [7, 8, 9]);
+        assert_eq!(routes.at(sender(2)).nearest(6).collect::<Vec<_>>(), [8, 7, 9]);
+        for ship in 7..10 {
+            routes.set(ship, None);
+        }
         assert!(routes.at.is_empty() && routes.on.is_empty() && routes.all.0.is_empty());
     }
 }

@@ -12,10 +12,15 @@ use gateway::Refused;
 use std::net::SocketAddr;
 use std::time::Instant;
 
-/// A datagram is tried on so many ships at its sender's address, whatever else is going on.
+/// A datagram is tried on so many ships at its sender's address, and on so many handshakes that were
+/// begun there, whatever else is going on.
 const TRIED_AT_ONCE: usize = 4;
-/// Beyond them trials are budgeted, by the codes that are compared in them. The first few trials of
-/// each datagram have a budget of their own, so that datagrams which fit nobody cannot keep a ship
+/// Beyond them trials are budgeted, by the codes that are compared in them. Those on ships with
+/// their route at this very address have a budget of their own: nobody can ask for them from
+/// elsewhere, so a fleet behind one relay is not held up by what others send.
+const HERE_EACH_SECOND: u32 = 32_000;
+const HERE_OF_A_SHARE: u32 = 16_000;
+/// The first few of all others have one, too, so that datagrams which fit nobody cannot keep a ship
 /// that has moved from being tried at all.
 const NEAR: usize = 4;
 const NEAR_EACH_SECOND: u32 = 16_000;
@@ -47,8 +52,21 @@ pub struct Known<'a> {
 
 /// The budget of trials.
 pub struct Trials {
+    here: Shares,
     near: Shares,
     far: Shares,
+    /// How many there were so far.
+    pub made: u64,
+}
+
+/// What a connection has to do with the sender of a datagram.
+#[derive(Clone, Copy, PartialEq, Eq)]
+enum Nearness {
+    /// Its ship has its route there, or had it there before.
+    Here,
+    /// Its hello was said from there, by whomever.
+    Begun,
+    Elsewhere,
 }
 
 pub enum Found<'d> {
@@ -66,11 +84,21 @@ pub fn find<'d>(known: &Known, trials: &mut Trials, arrival: &Arrival<'d>) -> Fo
     let mut refused = Found::Nobodys;
     let protected =
         datagram::records(arrival.datagram).filter(|record| datagram::is_protected(record));
-    let mut spent = Spent { codes: protected.count() as u32, at_once: 0, near: 0 };
-    for (target, is_here) in known.candidates(arrival) {
-        if !trials.may(is_here, &mut spent, arrival) {
+    let mut spent = Spent { codes: protected.count() as u32, here: 0, begun: 0, near: 0 };
+    // What is in the clear shows nothing about its sender: only who has to count it need see it.
+    if spent.codes == 0 {
+        let Some(target) = owner else { return Found::Nobodys };
+        trials.made += 1;
+        return match arrival.tried_on(&known.ships[target.ship()], target) {
+            Ok(trial) => Found::Refused(target, trial),
+            Err(whole) => Found::RefusedWhole(Some(target.ship()), whole),
+        };
+    }
+    for (target, nearness) in known.candidates(arrival) {
+        if !trials.may(nearness, &mut spent, arrival) {
             break;
         }
+        trials.made += 1;
         match arrival.tried_on(&known.ships[target.ship()], target) {
             Err(whole) => return Found::RefusedWhole(owner.map(Target::ship), whole),
             Ok(trial) if trial.worth != Worth::Nothing => return Found::Genuine(target, trial),
@@ -81,28 +109,36 @@ pub fn find<'d>(known: &Known, trials: &mut Trials, arrival: &Arrival<'d>) -> Fo
     refused
 }
 
-/// How many trials a datagram has had, and how many codes are compared in each.
+/// How many trials of each kind a datagram has had, and how many codes are compared in each.
 struct Spent {
     codes: u32,
-    at_once: usize,
+    here: usize,
+    begun: usize,
     near: usize,
 }
 
 impl Default for Trials {
     fn default() -> Trials {
         Trials {
+            here: Shares::new(HERE_EACH_SECOND, HERE_OF_A_SHARE),
             near: Shares::new(NEAR_EACH_SECOND, NEAR_OF_A_SHARE),
             far: Shares::new(FAR_EACH_SECOND, FAR_OF_A_SHARE),
+            made: 0,
         }
     }
 }
 
 impl Trials {
-    fn may(&mut self, is_here: bool, spent: &mut Spent, arrival: &Arrival) -> bool {
+    fn may(&mut self, nearness: Nearness, spent: &mut Spent, arrival: &Arrival) -> bool {
         let host = way::host(arrival.way.sender);
-        if is_here && spent.at_once < TRIED_AT_ONCE {
-            spent.at_once += 1;
+        if nearness == Nearness::Here && spent.here < TRIED_AT_ONCE {
+            spent.here += 1;
             true
+        } else if nearness == Nearness::Begun && spent.begun < TRIED_AT_ONCE {
+            spent.begun += 1;
+            true
+        } else if nearness == Nearness::Here {
+            self.here.spend(host, spent.codes, arrival.now)
         } else if spent.near < NEAR {
             spent.near += 1;
             self.near.spend(host, spent.codes, arrival.now)
@@ -143,11 +179,11 @@ impl Known<'_> {
         started.or_else(|| self.routes.at(sender).only().map(Target::Settled))
     }
 
-    /// The connections on which a datagram may be tried, the likeliest first, each with whether its
-    /// sender is where that ship, or the hello of that handshake, was last heard: ships with their
-    /// route here; handshakes of this sender; and, for a datagram with a protected record, ships on
-    /// the same host, all handshakes if there is a Finished in it, and all ships.
-    fn candidates(&self, arrival: &Arrival) -> impl Iterator<Item = (Target, bool)> + '_ {
+    /// The connections on which a datagram may be tried, the likeliest first: ships with their route
+    /// here, and those that had it here before; handshakes of this sender, before them if there is a
+    /// Finished in it; ships on the same host; all handshakes if there is a Finished in it; and all
+    /// ships.
+    fn candidates(&self, arrival: &Arrival) -> impl Iterator<Item = (Target, Nearness)> + '_ {
         let (ships, routes, handshakes) = (self.ships, self.routes, self.handshakes);
         let sender = arrival.way.sender;
         let host = way::host(sender);
@@ -163,9 +199,16 @@ impl Known<'_> {
             let theirs = move |place: &usize| started[*place].senders.contains(&sender);
             (0..started.len()).filter(theirs).map(|place| Target::Started(*index, place))
         });
-        let elsewhere = move |index: &usize| ships[*index].route != Some(sender);
+        let begun = begun.map(|target| (target, Nearness::Begun));
+        let begun_before = begun.clone().take_while(move |_| finished);
+        let begun_behind = begun.take_while(move |_| !finished);
+        let was_here = move |index: &usize| ships[*index].recent.contains(&sender);
+        let before = routes.before(sender).filter(move |index| ships[*index].is_open());
+        let elsewhere =
+            move |index: &usize| ships[*index].route != Some(sender) && !was_here(index);
         let neighbours = routes.on(host).nearest(near).filter(elsewhere).map(Target::Settled);
-        let others = move |index: &usize| !handshakes::is_home(&ships[*index], host);
+        let others =
+            move |index: &usize| !handshakes::is_home(&ships[*index], host) && !was_here(index);
         let others = routes.all().nearest(near).filter(others).map(Target::Settled);
         let started = handshakes.all().filter_map(move |(index, serial)| {
             let place = handshakes::place_of(&ships[index], serial)?;
@@ -176,6 +219,8 @@ impl Known<'_> {
             .chain(started.take_while(move |_| finished))
             .chain(others)
             .take_while(move |_| number.is_some());
-        here.chain(begun).map(|target| (target, true)).chain(moved.map(|target| (target, false)))
+        let here = here.chain(before.map(Target::Settled)).map(|target| (target, Nearness::Here));
+        let moved = moved.map(|target| (target, Nearness::Elsewhere));
+        begun_before.chain(here).chain(begun_behind).chain(moved)
     }
 }

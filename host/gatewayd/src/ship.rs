@@ -2,6 +2,7 @@
 
 use crate::budget::Budget;
 use crate::sessions::Session;
+use crate::way;
 use gateway::{Connection, State, Tally};
 use peer::sha1::sha1;
 use std::net::{IpAddr, SocketAddr};
@@ -20,6 +21,8 @@ pub struct Ship {
     pub tally: Tally,
     /// The sender of the last genuine new record.
     pub route: Option<SocketAddr>,
+    /// Where such records came from before, the last first.
+    pub recent: Vec<SocketAddr>,
     /// Which of our addresses that record came to.
     pub ours: Option<IpAddr>,
     /// The highest number of the open connection.
@@ -39,13 +42,14 @@ pub struct Handshake {
     pub serial: u64,
     /// The message; said again, it gets the same reply.
     pub hello: Vec<u8>,
-    /// Who said it: the first, and the last few of the others.
+    /// Who said it: the first, and the last few of the others, of as many hosts as there is room for.
     pub senders: Vec<SocketAddr>,
     pub connection: Connection,
     pub at: Instant,
 }
 
-const SENDERS: usize = 4;
+const SENDERS: usize = 8;
+const RECENT: usize = 8;
 const HELLOS_FROM_ITS_HOST: u32 = 10;
 
 impl Ship {
@@ -60,6 +64,7 @@ impl Ship {
             started: Vec::new(),
             tally: Tally::default(),
             route: None,
+            recent: Vec::new(),
             ours: None,
             newest: 0,
             barred: false,
@@ -70,6 +75,14 @@ impl Ship {
 
     pub fn is_open(&self) -> bool {
         !self.barred && self.connection.state() == State::Open
+    }
+
+    /// Moves the route. Where it was stays known for a while: who relays a record before the ship's
+    /// own copy arrives has the route, and the ship is still where it was.
+    pub fn move_route(&mut self, to: SocketAddr) {
+        self.recent.splice(..0, self.route.replace(to));
+        self.recent.retain(|before| *before != to);
+        self.recent.truncate(RECENT);
     }
 
     /// The connection on which a new handshake starts: the one that is there, if it is Idle, or
@@ -83,14 +96,22 @@ impl Ship {
 }
 
 impl Handshake {
-    /// The first sender stays, so that no stranger who says the same hello can push it out.
-    pub fn add_sender(&mut self, sender: SocketAddr) -> Option<SocketAddr> {
+    /// The first sender stays, so that no stranger who says the same hello can push it out, and so
+    /// does one from the ship's own host. Of the others one whose host is there twice goes first.
+    pub fn add_sender(&mut self, sender: SocketAddr, home: Option<IpAddr>) -> Option<SocketAddr> {
         if self.senders.contains(&sender) {
             return None;
         }
-        let pushed_out = (self.senders.len() == SENDERS).then(|| self.senders.remove(1));
         self.senders.push(sender);
-        pushed_out
+        if self.senders.len() <= SENDERS {
+            return None;
+        }
+        let count = |host| self.senders.iter().filter(|one| way::host(**one) == host).count();
+        let host = |place: &usize| way::host(self.senders[*place]);
+        let others = || (1..SENDERS).filter(|place| Some(host(place)) != home);
+        let twice = others().find(|place| count(host(place)) > 1);
+        let place = twice.or_else(|| others().next()).unwrap_or(1);
+        Some(self.senders.remove(place))
     }
 }
 

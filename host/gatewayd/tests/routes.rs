@@ -4,7 +4,7 @@
 mod common;
 
 use common::{signal, text, wait_for, Gatewayd, Place, Ship};
-use std::net::UdpSocket;
+use std::net::{SocketAddr, UdpSocket};
 use std::time::{Duration, Instant};
 
 const ANY: &str = "127.0.0.1:0";
@@ -20,11 +20,16 @@ struct Scene {
 
 impl Scene {
     fn new(name: &str) -> Scene {
+        Scene::listening(name, ANY)
+    }
+
+    fn listening(name: &str, listen: &str) -> Scene {
         let place = Place::new(name);
         place.plant(8);
-        let gatewayd = Gatewayd::start(&place, ANY, &[]);
-        let ship = Ship::new(0, gatewayd.address);
-        let other = Ship::new(1, gatewayd.address);
+        let gatewayd = Gatewayd::start(&place, listen, &[]);
+        let to = SocketAddr::from(([127, 0, 0, 1], gatewayd.address.port()));
+        let ship = Ship::new(0, to);
+        let other = Ship::new(1, to);
         Scene { place, gatewayd, ship, other }
     }
 
@@ -166,7 +171,8 @@ fn hellos_during_a_slow_handshake() {
 /// Routes that were saved hold for each way of listening.
 #[test]
 fn another_way_of_listening() {
-    let mut scene = Scene::new("listening");
+    // A port that nobody has at any address.
+    let mut scene = Scene::listening("listening", "0.0.0.0:0");
     scene.ship.open(1);
     scene.other.open(1);
     scene.report(1..=REPORTS);

@@ -253,7 +253,7 @@ fn an_overheard_hello_said_by_many() {
         assert!(!world.take(other, &hello, 0).changed);
     }
     assert!(world.fleet.ships[0].started[0].senders.contains(&address(1)));
-    assert!(world.fleet.ships[0].started[0].senders.len() <= 4);
+    assert!(world.fleet.ships[0].started[0].senders.len() <= 8);
     assert!(world.take(1, &unit.unit.flight().unwrap(), 0).changed);
     assert_eq!(world.state(0), State::Open);
 }
@@ -333,6 +333,47 @@ fn room_for_the_handshakes_of_all_ships() {
         world.take_at(from, &ship(index).hello(2), Duration::from_secs(8 + index as u64 / 1000));
     }
     assert!(started(&world) <= 4096 && started(&world) >= 3900, "{}", started(&world));
+}
+
+/// Hellos answered at one moment: 100 for a host, 4,000 for all, and beside them 10 for each ship from
+/// the host of its route.
+#[test]
+fn hellos_are_budgeted() {
+    let mut world = World::new(4500);
+    let mut unit = ship(0);
+    world.open(&mut unit, 1);
+    world.take(1, &unit.alert(2, 0, 1), 0);
+    let is_answered = |taken: Taken| !taken.send.is_empty();
+    let hello = |index: usize| ship(index).hello(7);
+    let one = (1..300).filter(|index| is_answered(world.take(2, &hello(*index), 10))).count();
+    assert_eq!(one, 100);
+    let from = |index: usize| SocketAddr::from((((10 << 24) + index as u32).to_be_bytes(), 4000));
+    let all = (1..4500).filter(|index| {
+        is_answered(world.take_at(from(*index), &hello(*index), Duration::from_secs(10)))
+    });
+    assert_eq!(all.count(), 3900);
+    assert!(!is_answered(world.take(3, &hello(0), 10)));
+    let again = (0..30).filter(|_| is_answered(world.take(1, &hello(0), 10)));
+    assert_eq!(again.count(), 10);
+}
+
+/// All places are taken, and none has had its time: only who comes back to his own host gets one.
+#[test]
+fn a_place_for_a_ship_at_its_own_host() {
+    let mut world = World::new(4200);
+    let mut unit = ship(0);
+    world.open(&mut unit, 1);
+    world.take(1, &unit.alert(2, 0, 1), 0);
+    for index in 1..4200 {
+        let from = SocketAddr::from((((10 << 24) + index as u32).to_be_bytes(), 4000));
+        let at = Duration::from_secs(10 + index as u64 / 2000);
+        world.take_at(from, &ship(index).hello(1), at);
+    }
+    let mut again = ship(0);
+    assert_eq!(world.take(2, &again.hello(2), 13).notes, [Note::HelloPassedOver]);
+    world.greet(&mut again, 3, 1, 13);
+    assert!(world.take(1, &again.unit.flight().unwrap(), 13).changed);
+    assert_eq!(world.state(0), State::Open);
 }
 
 /// Four forged hellos that name other ships, from the ship's own address: nothing happens to it.
@@ -446,6 +487,7 @@ fn trials_are_budgeted() {
         assert_eq!(world.take_at(from, &garbage, at).notes, [Note::Stranger]);
     }
     println!("100,000 datagrams that ask for trials: {:?}", start.elapsed());
+    assert!(world.fleet.trials() < 33_000, "{}", world.fleet.trials());
     let late = units[0].data(2);
     assert_eq!(world.take_at(address(200), &late, at).notes, [Note::Stranger]);
     for unit in &units[1..] {
@@ -626,4 +668,189 @@ fn a_barred_session_stays_out() {
     std::fs::remove_file(place.state().join("journal")).unwrap();
     assert_eq!(barred(&open(secret)), [true, false]);
     assert_eq!(barred(&open(|_| [9; 20])), [true, false]);
+}
+
+/// Who has overheard a hello gets its reply, and with it what a clear alert must carry (10.2). That
+/// ends no handshake of the ship: not behind the hello, and not from where he said it.
+#[test]
+fn an_alert_behind_an_overheard_hello() {
+    for (first, together) in [(1, false), (1, true), (2, false), (2, true)] {
+        let mut world = World::new(1);
+        let mut unit = ship(0);
+        let hello = unit.hello(1);
+        world.take(first, &hello, 0);
+        let reply = world.take(1, &hello, 0).send.remove(0).1;
+        unit.unit.hear_reply(&reply).unwrap();
+        let overheard = world.take(2, &hello, 0).send.remove(0).1;
+        let last = &overheard[overheard.len() - 28..];
+        for level in [2, 3] {
+            let alert = [&[0x42, 0, 2, level, 0][..], &peer::alert::checksum(last)].concat();
+            let with_length = unit.unit.clear(Content::Handshake, true, 0, unit.unit.last_hello());
+            let datagram = if together { [with_length, alert].concat() } else { alert };
+            world.take(2, &datagram, 0);
+        }
+        assert!(world.take(1, &unit.unit.flight().unwrap(), 0).changed, "{first} {together}");
+        assert_eq!((world.state(0), world.route(0)), (State::Open, Some(address(1))));
+    }
+}
+
+/// A fleet behind one relay in step: all ships have the same numbers, and each reports every ten
+/// seconds. None is lost, also while others ask for all the trials that there are.
+#[test]
+fn a_fleet_in_step_behind_one_address() {
+    for flood in [false, true] {
+        let ships = 300;
+        let mut world = World::new(ships);
+        let mut units: Vec<Ship> = (0..ships).map(ship).collect();
+        for (index, unit) in units.iter_mut().enumerate() {
+            let at = Duration::from_secs(index as u64);
+            let reply = world.take_at(address(1), &unit.hello(1), at).send.remove(0).1;
+            unit.unit.hear_reply(&reply).unwrap();
+            assert!(world.take_at(address(1), &unit.unit.flight().unwrap(), at).changed);
+        }
+        let mut garbage = units[0].data(1);
+        garbage[5] ^= 1;
+        let mut listed = 0;
+        for number in 1..4_u16 {
+            // In turn, and then the other way round.
+            for turn in 0..ships {
+                let unit = &units[if number % 2 == 0 { turn } else { ships - 1 - turn }];
+                let second = 10.0 * f64::from(number) + turn as f64 / 30.0;
+                let at = Duration::from_secs_f64(1000.0 + second);
+                for n in 0..if flood { 160_u32 } else { 0 } {
+                    let from = (n.wrapping_mul(2_654_435_769)).to_be_bytes();
+                    world.take_at(SocketAddr::from((from, 4000)), &garbage, at);
+                }
+                let taken = world.take_at(address(1), &unit.data(number), at);
+                listed += taken.reports.len();
+            }
+        }
+        assert_eq!(listed, 3 * ships, "{flood}");
+    }
+}
+
+/// Behind a relay with many ships one more can shake hands, whatever is asked for elsewhere.
+#[test]
+fn a_handshake_behind_a_relay_under_fire() {
+    let mut world = World::new(21);
+    for index in 0..20 {
+        let mut unit = ship(index);
+        world.open(&mut unit, 1);
+    }
+    let mut garbage = ship(0).hello(9);
+    garbage[0] = 0x64;
+    let flood = |world: &mut World| {
+        for n in 0..60_000_u32 {
+            let from = (n.wrapping_mul(2_654_435_769)).to_be_bytes();
+            world.take_at(SocketAddr::from((from, 4000)), &garbage, SECOND);
+        }
+    };
+    let mut unit = ship(20);
+    world.greet(&mut unit, 1, 1, 1);
+    flood(&mut world);
+    // Also from the relay itself. That has its bound, too.
+    let before = world.fleet.trials();
+    for _ in 0..5_000 {
+        world.take(1, &garbage, 1);
+    }
+    let made = world.fleet.trials() - before;
+    assert!(made <= 5_000 * (4 + 4) + 16_000, "{made}");
+    assert!(world.take(1, &unit.unit.flight().unwrap(), 1).changed);
+    assert_eq!(world.state(20), State::Open);
+}
+
+/// A stranger who has overheard the ship's hello and says it first has no power over the handshake
+/// that the ship shares with him: not on fewer than eight hosts, and, where the ship comes back to the
+/// host of its route, not on any number of them.
+#[test]
+fn an_overheard_hello_said_before_the_ship() {
+    for (home, last, ports) in [(false, 8, 1), (false, 8, 20), (true, 8, 20), (true, 98, 1)] {
+        for replayed in [false, true] {
+            let mut world = World::new(1);
+            let mut unit = ship(0);
+            if home {
+                world.open(&mut unit, 1);
+                world.take(1, &unit.alert(2, 0, 1), 0);
+            }
+            let mut unit = ship(0);
+            let hello = unit.hello(90);
+            world.take(2, &hello, 1);
+            let reply = world.take(1, &hello, 1).send.remove(0).1;
+            unit.unit.hear_reply(&reply).unwrap();
+            for from in (2..=last).filter(|_| replayed) {
+                for port in 0..ports {
+                    let from = SocketAddr::new(address(from).ip(), 4000 + port);
+                    world.take_at(from, &hello, SECOND);
+                }
+            }
+            assert!(world.fleet.ships[0].started[0].senders.contains(&address(1)));
+            // One host after the other, and all in turn.
+            let others = u32::from(last) - 1;
+            for n in 0..40 * others {
+                let hello = ship(0).hello(100 + (n % 100) as u8);
+                for other in [n / 40, n % others] {
+                    world.take(2 + other as u8, &hello, 1);
+                }
+            }
+            let taken = world.take(1, &unit.unit.flight().unwrap(), 1);
+            assert!(taken.changed, "{home} {last} {ports} {replayed}");
+            assert_eq!((world.state(0), world.route(0)), (State::Open, Some(address(1))));
+        }
+    }
+}
+
+/// Who relays a ship's record before its own copy arrives has the route until the next one, and a
+/// flood that uses up all trials does not make it longer. Seven of them in turn do not, either.
+#[test]
+fn a_relayed_record_and_a_flood() {
+    let mut world = World::new(40);
+    let mut units: Vec<Ship> = (0..40).map(ship).collect();
+    for (index, unit) in units.iter_mut().enumerate() {
+        world.open(unit, 1 + index as u8);
+    }
+    for number in 1..8 {
+        let data = units[0].data(number);
+        assert_eq!(world.take(100 + number as u8, &data, 1).reports.len(), 1);
+        assert_eq!(refusals(&world.take(1, &data, 1)), [11]);
+    }
+    let mut garbage = units[0].data(9);
+    garbage[5] ^= 1;
+    for n in 0..20_000_u32 {
+        let from = (n.wrapping_mul(2_654_435_769)).to_be_bytes();
+        world.take_at(SocketAddr::from((from, 4000)), &garbage, SECOND);
+    }
+    // A ship that moves now is not found; this one has not moved.
+    assert_eq!(world.take(200, &units[1].data(9), 1).notes, [Note::Stranger]);
+    assert_eq!(world.take(1, &units[0].data(9), 1).reports.len(), 1);
+    assert_eq!(world.route(0), Some(address(1)));
+    assert_eq!(world.take(2, &units[1].data(10), 1).reports.len(), 1);
+}
+
+/// What is in the clear is tried on one connection at most, however many were begun by its sender.
+#[test]
+fn clear_records_cost_one_trial() {
+    let mut world = World::new(100);
+    for index in 0..100 {
+        for random in 0..8 {
+            world.take(
+                1,
+                &ship(index).hello(random + 1),
+                8 * index as u64 / 100 + u64::from(random),
+            );
+        }
+    }
+    let begun: usize = world.fleet.ships.iter().map(|ship| ship.started.len()).sum();
+    assert!(begun >= 700, "{begun}");
+    let before = world.fleet.trials();
+    for clear in [&unit_clear(Content::Data), &unit_clear(Content::ChangeCipherSpec), &vec![0; 40]]
+    {
+        for _ in 0..100 {
+            world.take(1, clear, 20);
+        }
+    }
+    assert!(world.fleet.trials() <= before + 300);
+}
+
+fn unit_clear(content: Content) -> Vec<u8> {
+    ship(0).unit.clear(content, false, 1, &[1; 20])
 }
