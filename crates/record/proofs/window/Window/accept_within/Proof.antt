@@ -56,7 +56,7 @@ returns-3 c =
     (le-leb (a .number + a .width) (a .self .highest) (omega arith)))
 
 shr-if4 : tie.Need-shr-if4
-shr-if4 c = search needs
+shr-if4 c = omega arith
 
 returns-4 : tie.Need-returns-4
 returns-4 c =
