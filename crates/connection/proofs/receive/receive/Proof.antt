@@ -62,8 +62,7 @@ unfolding receivedOf outputOf
 returns-3 c = let args = c .before .before .before .before .before .before .before .before .before .before .before .before .before .args in
     let random = args .random .now in
     let out = args .out .now in
-    rw (walk-refused (args .datagram .now) (c .before .before .before .before .walked .result) _ _ (c .before .before .before .before .walked .ensures) (c .before .before .outcome .given .1))
-    (
+    rw (walk-refused (args .datagram .now) (c .before .before .before .before .walked .result) _ _ (c .before .before .before .before .walked .ensures) (c .before .before .outcome .given .1)) (
       if-eq _ (length random) 16 (omega arith) (if-ge _ (length out) 128 (omega arith) (c .whole3 .ensures)),
       if-eq _ (length random) 16 (omega arith) (if-ge _ (length out) 128 (omega arith) (laid-nothing out)),
     )
@@ -83,8 +82,7 @@ returns-4 c = let args = c .before .before .before .before .before .before .befo
     let ours = filled-whole 16 (args .random .now) (c .before .before .before .before .before .before .before .before .put .last .0) (c .before .before .before .before .before .before .before .before .before .before .before .if1 .left) (c .before .before .before .before .before .before .before .before .put .ensures) in
     let all = c .before .before .each .ensures .0 ∙ ap (λ x. runOf h x d rs) ours in
     let bytes = c .before .before .each .ensures .1 ∙ ap (λ x. laidOver out 0 (firstReply h x d rs)) ours in
-    rw (walk-sound d w (c .before .before .before .before .before .before .walked .ensures) (c .before .before .before .before .enum-told .given .1))
-    (
+    rw (walk-sound d w (c .before .before .before .before .before .before .walked .ensures) (c .before .before .before .before .enum-told .given .1)) (
       if-eq _ (length random) 16 (omega arith) (if-ge _ (length out) 128 (omega arith) all),
       if-eq _ (length random) 16 (omega arith) (if-ge _ (length out) 128 (omega arith) bytes),
     )
