@@ -31,6 +31,12 @@ pub record FrontIs (s : List ℕ) (number size : ℕ) : Type 0 where
 pub sized-yes : (n : ℕ) → 1 ≤ n → n ≤ 1400 → isSized n ≡ true
 sized-yes n h k = rw (le-ltb n 1 h, le-ltb 1400 n k)
 
+pub sized-short : (n : ℕ) → n < 1 → isSized n ≡ false
+sized-short n h = rw (lt-ltb n 1 h)
+
+pub sized-long : (n : ℕ) → 1 ≤ n → 1400 < n → isSized n ≡ false
+sized-long n h k = rw (le-ltb n 1 h, lt-ltb 1400 n k)
+
 pub sized-is : (n : ℕ) → isSized n ≡ true → (1 ≤ n) × (n ≤ 1400)
 sized-is n e = told (ltb n 1) (ltb 1400 n) refl refl e
   where

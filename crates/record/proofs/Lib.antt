@@ -3,6 +3,7 @@ pub mod TypeByte
 pub mod Standing
 pub mod Walking
 pub mod Marks
+pub mod Answers
 pub mod Histories
 pub mod Blocks
 pub mod Fronts

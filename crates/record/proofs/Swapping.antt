@@ -9,39 +9,17 @@ use native.Mathlib.Omega.{arith}
 use lib.Bits.{or-lt}
 use lib.Dec.{lit≤, eqb, leb, ltb}
 use lib.Pow.{pow-add, pow-lt, pow-pos}
-use borrow.Author.Tests.{eq-eqb, ne-eqb, lt-ltb, le-ltb, eqb-true, leb-false, ltb-true, ltb-false}
+use borrow.Author.Tests.{eq-eqb, eqb-true, leb-false, ltb-true, ltb-false}
 use Rattle.record.specs.Window.{Held, heldWidth, acceptBy, acceptWithin, acceptOf, arrivedAt}
 use Rattle.record.specs.Bench.{Swapped, EitherOrder, OneOrder}
 use Rattle.record.specs.declared.window.Window.{Window}
 use Rattle.record.specs.declared.window.Acceptance.the-variants.{New, TooOld, Repeated}
 use Rattle.record.proofs.Histories.{decide, held-is, held-some}
 use Rattle.record.proofs.Marks.{lowest-set, mark-added}
+use Rattle.record.proofs.Answers.{fresh-when, newer-when, old-when, repeated-when, older-when}
 
 eqb-false : (a b : ℕ) → eqb a b ≡ false → a ≡ b → ⊥
 eqb-false a b e f = let z : _≡_ {A = ℕ} 0 1 = cc (sym (eq-eqb a b f) ∙ e) in absurd (omega arith)
-
--- ---- the answers, each exactly when
-
-module _ (w n m s : ℕ) where
-  fresh-when : m ≡ 0 → acceptBy w n m s ≡ arrivedAt w s 1
-  unfolding acceptBy
-  fresh-when e = rw (eq-eqb m 0 e)
-
-  newer-when : (m ≡ 0 → ⊥) → n < s → acceptBy w n m s ≡ arrivedAt w s (m * 2 ^ (s - n) % 2 ^ w + 1)
-  unfolding acceptBy
-  newer-when z l = rw (ne-eqb m 0 z, lt-ltb n s l)
-
-  old-when : (m ≡ 0 → ⊥) → s ≤ n → leb (s + w) n ≡ true → acceptBy w n m s ≡ TooOld
-  unfolding acceptBy
-  old-when z l e = rw (ne-eqb m 0 z, le-ltb n s l, e)
-
-  repeated-when : (m ≡ 0 → ⊥) → s ≤ n → leb (s + w) n ≡ false → eqb (m / 2 ^ (n - s) % 2) 1 ≡ true → acceptBy w n m s ≡ Repeated
-  unfolding acceptBy
-  repeated-when z l e f = rw (ne-eqb m 0 z, le-ltb n s l, e, f)
-
-  older-when : (m ≡ 0 → ⊥) → s ≤ n → leb (s + w) n ≡ false → eqb (m / 2 ^ (n - s) % 2) 1 ≡ false → acceptBy w n m s ≡ arrivedAt w n (m + 2 ^ (n - s))
-  unfolding acceptBy
-  older-when z l e f = rw (ne-eqb m 0 z, le-ltb n s l, e, f)
 
 -- ---- one number
 

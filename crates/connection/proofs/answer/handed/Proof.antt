@@ -4,7 +4,8 @@ use native.Mathlib.Omega.{arith}
 use mathlib.Core.Path.{_≡_, refl, ap}
 use lib.ListN.{length, take, drop}
 use Prim.Native.Nat.{_+_, _-_}
-use Rattle.digest.proofs.Picks.{picks}
+use borrow.Author.Tests.{le-leb, lt-leb}
+use Rattle.digest.proofs.Picks.{pick-yes, pick-no}
 use Rattle.connection.proofs.answer.handed.Statement.{statement}
 use Rattle.connection.proofs.answer.handed.Tie as tie
 
@@ -15,7 +16,10 @@ slice-aggregate-result : tie.Need-slice-aggregate-result
 slice-aggregate-result c = search needs
 
 returns : tie.Need-returns
-returns c = rw (c .before .before .before .answer .given .1) (search picks depth 2)
+returns c =
+    let d = c .before .before .before .before .before .args .datagram .now in
+    let at = c .before .before .before .answer .given .0 .1 .0 in
+    rw (c .before .before .before .answer .given .1) (pick-no _ _ _ _ _ (lt-leb at (length d) (omega arith)) refl)
 
 sub-if2 : tie.Need-sub-if2
 sub-if2 c = search needs
@@ -24,7 +28,12 @@ slice-aggregate-result-2 : tie.Need-slice-aggregate-result-2
 slice-aggregate-result-2 c = search needs
 
 returns-2 : tie.Need-returns-2
-returns-2 c = rw (c .before .before .before .before .answer .given .1) (search picks depth 2)
+returns-2 c =
+    let d = c .before .before .before .before .before .before .args .datagram .now in
+    let at = c .before .before .before .before .answer .given .0 .1 .0 in
+    let size = c .before .before .before .before .answer .given .0 .1 .1 .0 in
+    rw (c .before .before .before .before .answer .given .1)
+    (pick-yes _ _ _ _ _ (le-leb at (length d) (omega arith)) (pick-no _ _ _ _ _ (lt-leb size (length d - at) (omega arith)) refl))
 
 add-result : tie.Need-add-result
 add-result c = search needs
@@ -105,11 +114,14 @@ slice-aggregate-result-13 : tie.Need-slice-aggregate-result-13
 slice-aggregate-result-13 c = search needs
 
 returns-3 : tie.Need-returns-3
-returns-3 c = rw (c .before .before .before .before .answer .given .1)
-    (let at = c .before .before .before .before .answer .given .0 .1 .0 in
+returns-3 c =
+    let d = c .before .before .before .before .before .before .args .datagram .now in
+    let at = c .before .before .before .before .answer .given .0 .1 .0 in
     let size = c .before .before .before .before .answer .given .0 .1 .1 .0 in
     let back : at + size - at ≡ size = omega arith in
-    let part = ap (λ n. take n (drop at (c .before .before .before .before .before .before .args .datagram .now))) back in search picks depth 2)
+    rw (c .before .before .before .before .answer .given .1)
+    (pick-yes _ _ _ _ _ (le-leb at (length d) (omega arith))
+    (pick-yes _ _ _ _ _ (le-leb size (length d - at) (omega arith)) (ap (λ n. take n (drop at d)) back)))
 
 returns-4 : tie.Need-returns-4
 returns-4 c = search needs

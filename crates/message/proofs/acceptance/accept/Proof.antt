@@ -1,5 +1,6 @@
 -- `message::acceptance::accept` meets its contract: each return is a case of `acceptedOf`. Assumes nothing.
-use Rattle.digest.proofs.Picks.{picks}
+use native.Mathlib.Omega.{arith}
+use Rattle.digest.proofs.Picks.{if-eq, if-ne}
 use mathlib.Core.Path.{_≡_, refl, sym, _∙_, ap}
 use borrow.Author.Tests.{not-true, not-false, eq-eqb, ne-eqb}
 use Rattle.message.specs.Acceptance.{acceptedOf}
@@ -9,14 +10,14 @@ use Rattle.message.proofs.acceptance.accept.Tie as tie
 
 returns : tie.Need-returns
 unfolding acceptedOf
-returns c = search picks depth 2
+returns c = if-ne _ (c .before .before .before .before .before .args .version) 1 (λ z. omega arith) refl
 
 same-code-requires : tie.Need-same-code-requires
 same-code-requires c κs = search needs
 
 returns-2 : tie.Need-returns-2
 unfolding acceptedOf
-returns-2 c = rw (sym (c .before .same-code .ensures), not-true (c .before .same-code .result) (c .if2 .taken)) (search picks depth 2)
+returns-2 c = rw (sym (c .before .same-code .ensures), not-true (c .before .same-code .result) (c .if2 .taken)) (if-eq _ (c .before .before .before .before .before .before .before .args .version) 1 (omega arith) refl)
 
 first-fit-requires : tie.Need-first-fit-requires
 first-fit-requires c κs = search needs
@@ -34,7 +35,7 @@ returns-3 : tie.Need-returns-3
 unfolding acceptedOf
 returns-3 c =
     rw (sym (c .before .before .before .before .before .same-code .ensures), not-false (c .before .before .before .before .before .same-code .result) (c .before .before .before .before .if2 .left), sym (c .before .before .before .first-fit .ensures), sym (c .before .before .listed .ensures), c .enum-told .given .1)
-    (search picks depth 2)
+    (if-eq _ (c .before .before .before .before .before .before .before .before .before .before .before .args .version) 1 (omega arith) refl)
 
 has-null-requires : tie.Need-has-null-requires
 has-null-requires c κs = search needs
@@ -51,7 +52,7 @@ returns-4 c =
       sym (c .before .has-null .ensures),
       not-true (c .before .has-null .result) (c .if3 .taken),
     )
-    (search picks depth 2)
+    (if-eq _ (c .before .before .before .before .before .before .before .before .before .before .before .before .before .before .args .version) 1 (omega arith) refl)
 
 returns-5 : tie.Need-returns-5
 unfolding acceptedOf
@@ -65,7 +66,7 @@ returns-5 c =
       sym (c .before .before .has-null .ensures),
       not-false (c .before .before .has-null .result) (c .before .if3 .left),
     )
-    (search picks depth 2)
+    (if-eq _ (c .before .before .before .before .before .before .before .before .before .before .before .before .before .before .before .args .version) 1 (omega arith) (if-ne _ (c .before .before .before .before .before .before .before .before .before .before .before .before .before .before .before .args .numbering) 2 (λ z. omega arith) refl))
 
 returns-6 : tie.Need-returns-6
 unfolding acceptedOf
@@ -79,7 +80,7 @@ returns-6 c =
       sym (c .before .before .has-null .ensures),
       not-false (c .before .before .has-null .result) (c .before .if3 .left),
     )
-    (search picks depth 2)
+    (if-eq _ (c .before .before .before .before .before .before .before .before .before .before .before .before .before .before .before .args .version) 1 (omega arith) (if-eq _ (c .before .before .before .before .before .before .before .before .before .before .before .before .before .before .before .args .numbering) 2 (omega arith) refl))
 
 pub accept-spec : {M : Type 1} → statement M
 accept-spec =

@@ -1,5 +1,8 @@
 -- `message::finished::judge` meets its contract: each return is a case of `judgedOf`. Assumes nothing.
-use Rattle.digest.proofs.Picks.{picks}
+use denote.Ref.{now}
+use native.Mathlib.Omega.{arith}
+use lib.ListN.{length}
+use Rattle.digest.proofs.Picks.{if-eq, if-ne}
 use mathlib.Core.Path.{_≡_, refl, sym, _∙_, ap}
 use borrow.Author.Tests.{not-true, not-false}
 use Rattle.message.specs.Finished.{judgedOf}
@@ -9,14 +12,14 @@ use Rattle.message.proofs.finished.judge.Tie as tie
 
 returns : tie.Need-returns
 unfolding judgedOf
-returns c = search picks depth 2
+returns c = if-ne _ (length (now (c .before .before .before .args .m))) 15 (λ z. omega arith) refl
 
 fills-with-requires : tie.Need-fills-with-requires
 fills-with-requires c κs = search needs
 
 returns-2 : tie.Need-returns-2
 unfolding judgedOf
-returns-2 c = rw (sym (c .before .fills-with .ensures), not-true (c .before .fills-with .result) (c .if2 .taken)) (search picks depth 2)
+returns-2 c = rw (sym (c .before .fills-with .ensures), not-true (c .before .fills-with .result) (c .if2 .taken)) (if-eq _ (length (now (c .before .before .before .before .before .args .m))) 15 (omega arith) refl)
 
 part-requires : tie.Need-part-requires
 part-requires c κs = search needs
@@ -34,7 +37,7 @@ returns-3 c =
       sym (c .before .same-code .ensures),
       c .if3 .taken,
     )
-    (search picks depth 2)
+    (if-eq _ (length (now (c .before .before .before .before .before .before .before .before .args .m))) 15 (omega arith) refl)
 
 returns-4 : tie.Need-returns-4
 unfolding judgedOf
@@ -46,7 +49,7 @@ returns-4 c =
       sym (c .before .same-code .ensures),
       c .if3 .left,
     )
-    (search picks depth 2)
+    (if-eq _ (length (now (c .before .before .before .before .before .before .before .before .args .m))) 15 (omega arith) refl)
 
 pub judge-spec : {M : Type 1} → statement M
 judge-spec =

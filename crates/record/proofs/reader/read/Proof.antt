@@ -1,14 +1,17 @@
 -- `read`: the type byte is split, and `read_as` reads on.
-use mathlib.Core.Path.{sym}
+use denote.Ref.{now}
+use mathlib.Core.Path.{refl, sym}
+use native.Mathlib.Omega.{arith}
+use lib.ListN.{length}
 use Rattle.record.specs.Reader.{readOf}
-use Rattle.digest.proofs.Picks.{picks}
+use Rattle.digest.proofs.Picks.{if-eq, if-ne}
 use borrow.Author.Needs.{needs}
 use Rattle.record.proofs.reader.read.Statement.{statement}
 use Rattle.record.proofs.reader.read.Tie as tie
 
 returns : tie.Need-returns
 unfolding readOf
-returns c = search picks depth 2
+returns c = if-eq _ (length (now (c .before .before .args .part))) 0 (omega arith) refl
 
 shared-slice-read-byte : tie.Need-shared-slice-read-byte
 shared-slice-read-byte c = search needs
@@ -21,7 +24,7 @@ read-as-requires c κs = search needs
 
 returns-2 : tie.Need-returns-2
 unfolding readOf
-returns-2 c = rw (sym (c .before .split .ensures)) (search picks depth 2)
+returns-2 c = rw (sym (c .before .split .ensures)) (if-ne _ (length (now (c .before .before .before .before .before .args .part))) 0 (λ z. omega arith) (c .read-as .ensures))
 
 pub read-spec : {M : Type 1} → statement M
 read-spec =
