@@ -1,10 +1,14 @@
--- `save::put_connection`: the seven groups of fields fill the bytes.
-use mathlib.Core.Path.{refl, ap, _∙_}
+-- `save::put_connection`: the eight groups of fields fill the bytes.
+use mathlib.Core.Path.{refl, sym, ap, _∙_}
+use mathlib.Core.List.{[], _∷_}
+use lib.ListN.{length}
+use Rattle.digest.specs.Bytes.{laidOver}
+use Rattle.lent.specs.Fields.{joined}
 use native.Mathlib.Omega.{arith}
-use Rattle.lent.proofs.Laying.{laid-none, laid-block, laid-whole}
+use Rattle.lent.proofs.Laying.{laid-none, laid-block, laid-whole, joined-one}
 use Rattle.lent.proofs.Back.{saved-loads}
 use Rattle.connection.specs.Handshake.{planted}
-use Rattle.lent.specs.Saved.{savedHandshake, loaded, Ranged, headFields, sessionFields, agreedFields, keptFields, windowFields, sendingFields, widthFields}
+use Rattle.lent.specs.Saved.{savedHandshake, loaded, Ranged, headFields, sessionFields, agreedFields, keptFields, windowFields, sendingFields, widthFields, sumFields}
 use borrow.Author.Needs.{needs}
 use Rattle.lent.proofs.save.put_connection.Statement.{statement}
 use Rattle.lent.proofs.save.put_connection.Tie as tie
@@ -30,6 +34,9 @@ put-sending-requires c κs = search needs
 put-width-requires : tie.Need-put-width-requires
 put-width-requires c κs = search needs
 
+put-sums-requires : tie.Need-put-sums-requires
+put-sums-requires c κs = search needs
+
 same-length : tie.Need-same-length
 same-length c = search needs
 
@@ -43,9 +50,11 @@ returns c =
     let three = laid-block 33 46 (agreedFields (h .protection .keys) (h .expected)) (c .before .before .before .before .before .before .before .before .before .before .before .before .before .before .before .before .before .before .put-agreed .last .0) two refl (c .before .before .before .before .before .before .before .before .before .before .before .before .before .before .before .before .before .before .put-agreed .ensures .1 .0) (omega (arith, c .before .before .before .before .before .before .before .before .before .before .before .before .before .before .before .before .before .before .before .before .before .before .before .before .before .before .before .before .before .before .before .before .before .before .before .before .pre)) (c .before .before .before .before .before .before .before .before .before .before .before .before .before .before .before .before .before .before .put-agreed .ensures .0) in
     let four = laid-block 79 356 (keptFields (h .kept)) (c .before .before .before .before .before .before .before .before .before .before .before .before .before .before .put-kept .last .0) three refl (c .before .before .before .before .before .before .before .before .before .before .before .before .before .before .put-kept .ensures .1 .0) (omega (arith, c .before .before .before .before .before .before .before .before .before .before .before .before .before .before .before .before .before .before .before .before .before .before .before .before .before .before .before .before .before .before .before .before .before .before .before .before .pre)) (c .before .before .before .before .before .before .before .before .before .before .before .before .before .before .put-kept .ensures .0) in
     let five = laid-block 435 10 (windowFields (h .protection .window)) (c .before .before .before .before .before .before .before .before .before .before .put-window .last .0) four refl (c .before .before .before .before .before .before .before .before .before .before .put-window .ensures .1 .0) (omega (arith, c .before .before .before .before .before .before .before .before .before .before .before .before .before .before .before .before .before .before .before .before .before .before .before .before .before .before .before .before .before .before .before .before .before .before .before .before .pre)) (c .before .before .before .before .before .before .before .before .before .before .put-window .ensures .0) in
-    let six = laid-block 445 12 (sendingFields (h .protection) (h .last)) (c .before .before .before .before .before .before .put-sending .last .0) five refl (c .before .before .before .before .before .before .put-sending .ensures .1 .0) (omega (arith, c .before .before .before .before .before .before .before .before .before .before .before .before .before .before .before .before .before .before .before .before .before .before .before .before .before .before .before .before .before .before .before .before .before .before .before .before .pre)) (c .before .before .before .before .before .before .put-sending .ensures .0) in
+    let six = laid-block 445 12 (sendingFields (h .protection) (h .sent .count)) (c .before .before .before .before .before .before .put-sending .last .0) five refl (c .before .before .before .before .before .before .put-sending .ensures .1 .0) (omega (arith, c .before .before .before .before .before .before .before .before .before .before .before .before .before .before .before .before .before .before .before .before .before .before .before .before .before .before .before .before .before .before .before .before .before .before .before .before .pre)) (c .before .before .before .before .before .before .put-sending .ensures .0) in
     let seven = laid-block 457 1 (widthFields (h .protection .window)) (c .before .before .put-width .last .0) six refl (c .before .before .put-width .ensures .1) (omega (arith, c .before .before .before .before .before .before .before .before .before .before .before .before .before .before .before .before .before .before .before .before .before .before .before .before .before .before .before .before .before .before .before .before .before .before .before .before .pre)) (c .before .before .put-width .ensures .0) in
-    let all = laid-whole seven (c .before .before .before .before .before .before .before .before .before .before .before .before .before .before .before .before .before .before .before .before .before .before .before .before .before .before .before .before .before .before .before .before .before .before .before .before .pre) in
+    let last = joined (sumFields (h .sent .checksums)) in
+    let eight = laid-block 458 32 (last ∷ []) (c .put-sums .last .0) seven refl (ap length (joined-one last) ∙ c .put-sums .ensures .1 .0) (omega (arith, c .pre)) (c .put-sums .ensures .0 ∙ ap (laidOver (c .put-width .last .0) 458) (sym (joined-one last))) in
+    let all = laid-whole eight (c .before .before .before .before .before .before .before .before .before .before .before .before .before .before .before .before .before .before .before .before .before .before .before .before .before .before .before .before .before .before .before .before .before .before .before .before .pre) in
     let ranged : Ranged (record { handshake = h })
     = record {
       id = c .before .before .before .before .before .before .before .before .before .before .before .before .before .before .before .before .before .before .before .before .before .before .before .put-session .ensures .1 .1 .0;
@@ -61,7 +70,9 @@ returns c =
       marks = c .before .before .before .before .before .before .before .before .before .before .put-window .ensures .1 .1 .1;
       protected = c .before .before .before .before .before .before .put-sending .ensures .1 .1 .0;
       clear = c .before .before .before .before .before .before .put-sending .ensures .1 .1 .1 .0;
-      last = c .before .before .before .before .before .before .put-sending .ensures .1 .1 .1 .1;
+      count = c .put-sending .ensures .1 .1 .1 .1;
+      sums = c .put-sums .ensures .1 .1 .0;
+      sum = c .put-sums .ensures .1 .1 .1;
     } in
     (all, ap loaded all ∙ saved-loads (record { handshake = h }) ranged)
 
@@ -76,5 +87,6 @@ put-connection-spec =
     put-window-requires
     put-sending-requires
     put-width-requires
+    put-sums-requires
     same-length
     returns)
