@@ -19,13 +19,8 @@ pub fn put_status(console: Console, text: &mut [u8], at: usize) -> usize {
     let end = put_name(console.connected, state, text, at);
     let end = put_window(window, text, end);
     let sent = h.sent;
-    let end = put_sending(
-        protection.protected,
-        protection.clear,
-        sent.checksums,
-        text,
-        end,
-    );
+    let sums = sent.checksums;
+    let end = put_sending(protection.protected, protection.clear, sums, text, end);
     put_tally(tally, text, end)
 }
 

@@ -46,12 +46,13 @@ unmatched sum (suc n) [] e i h k = absurd (not-suc-le-zero k)
 unmatched sum (suc n) (b ∷ l) e zero h k =
     λ z. let yes : eqb sum (sumOf b) ≡ true = eq-eqb sum (sumOf b) z in
     let no : true ≡ false = sym (ap (λ t. pick t true (oneOf sum (map sumOf (take n l)))) yes) ∙ e in
-    absurd cc
+    let z : _≡_ {A = ℕ} 0 1 = cc in
+    absurd (omega arith)
 unmatched sum (suc n) (b ∷ l) e (suc i) h k =
     unmatched sum n l (rest (eqb sum (sumOf b)) (oneOf sum (map sumOf (take n l))) e) i (le-of-suc-le-suc h) (le-of-suc-le-suc k)
   where
     rest : (t x : Bool) → pick t true x ≡ false → x ≡ false
-    rest true x f = absurd cc
+    rest true x f = cc
     rest false x f = f
 
 pub matches-none : (sum n : ℕ) (l : List (List ℕ)) → ((i : ℕ) → i < n → i < length l → sum ≢ sumOf (getD l i []))

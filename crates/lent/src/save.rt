@@ -48,7 +48,8 @@ pub(crate) fn put_connection(d: &mut [u8], c: Connection)
     let sent = h.sent;
     put_sending(d, protection, sent.count);
     put_width(d, window);
-    put_sums(d, sent.checksums);
+    let sums = sent.checksums;
+    put_sums(d, sums);
 }
 
 fn put_head(d: &mut [u8], state: State)

@@ -181,7 +181,7 @@ module _ (h : Handshake) (numbers random : List ℕ) (window : HoldsNumbers h nu
         go (R.WellFormed a) w =
             decide (wasSent h (a .checksum))
             (λ e. rw e (clear-level (Why content) h (a .level) (a .description)))
-            (λ e. rw e (s, c, n, w .0, ap (wasSent h) (w .1) ∙ e))
+            (λ e. rw e (s, c, n, w .0, ap (wasSent h) (sym (w .1)) ∙ e))
 
     -- the content of a genuine new record, in the handshake g with its mark
     content-a : (content : Content) (g : Handshake) (c : List ℕ) → g .expected ≡ h .expected
@@ -401,7 +401,7 @@ module _ (h : Handshake) (numbers random : List ℕ) (window : HoldsNumbers h nu
           let (a, e, m) = is-alert f i in
           ap (λ j. j .answer) (by-rule T.Hear (alert-rule byte number f at (h .state) content p one first s c n))
           ∙ ap (λ x. heardBy h x .answer) e
-          ∙ rw (ap (wasSent h) (sym m) ∙ k) refl
+          ∙ rw (ap (wasSent h) m ∙ k) refl
       because X.WrongFinished (c, w, n, i, d) =
           ap (λ j. j .answer) (fresh-b c w)
           ∙ ap (λ x. contentBy marked (sealedKind x) number place c .answer) (number-three content n)
