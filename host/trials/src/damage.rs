@@ -102,10 +102,9 @@ fn taken(bytes: &[u8], report: &[u8]) -> Option<&'static str> {
     }
     // The window: highest number and marks, and apart from them its width; one that it cannot have becomes the nearest that it can.
     let width = [bytes[457], bytes[457].clamp(32, 64)].contains(&lent.state[457]);
-    let unchanged =
-        width
-            && [&lent.state[..435], &lent.state[445..457], &lent.state[458..]]
-                == [&bytes[..435], &bytes[445..457], &bytes[458..]];
+    let unchanged = width
+        && [&lent.state[..435], &lent.state[445..457], &lent.state[458..]]
+            == [&bytes[..435], &bytes[445..457], &bytes[458..]];
     match (unchanged, lent.answers[0]) {
         (false, _) => Some("a report changes more than the window"),
         (true, 11) if lent.state != bytes => Some("a refused report changes the window"),
