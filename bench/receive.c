@@ -137,13 +137,13 @@ static void shore_open(struct shore *s, int made_by, unsigned refresh) {
     if (s->secret_key.context == NULL) s->secret_key.context = HMAC_CTX_new(), s->record_key.context = HMAC_CTX_new();
 }
 
-/* ---- Ours: the same connection, in its 458 bytes (the places are in crates/lent/specs/Saved.antt). */
+/* ---- Ours: the same connection, in its 490 bytes (the places are in crates/lent/specs/Saved.antt). */
 
 static uint8_t state[GATEWAY_STATE_SIZE], tally[GATEWAY_TALLY_SIZE], answers[GATEWAY_ANSWERS_SIZE], out[128], fresh_random[16];
 
 static void ours_open(unsigned refresh) {
     memset(state, 0, sizeof state);
-    memcpy(state, "WTG\1", 4);
+    memcpy(state, "WTG\3", 4);
     state[4] = GATEWAY_OPEN;
     memset(state + 13, 0x31, 20), memset(state + 33, 0x80, 16), memset(state + 49, 0x10, 16);
     state[65] = 2;

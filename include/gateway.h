@@ -23,7 +23,7 @@ extern "C" {
 #endif
 
 /* The sizes of what is lent, in bytes. */
-#define GATEWAY_STATE_SIZE 458   /* a connection; the places are listed in crates/lent/specs/Saved.antt */
+#define GATEWAY_STATE_SIZE 490   /* a connection; the places are listed in crates/lent/specs/Saved.antt */
 #define GATEWAY_TALLY_SIZE 16    /* a tally: handed out, forged, too old, repeated; four bytes each, high byte first */
 #define GATEWAY_ANSWERS_SIZE 192 /* the answers of a receive: eight of 24 bytes each */
 #define GATEWAY_ANSWER_SIZE 24
@@ -105,7 +105,7 @@ struct gateway_answer {
     size_t start, size;
 };
 
-/* A fresh connection of a planted session: an identifier of 8 bytes, a master secret of 20, and 458 bytes for the connection,
+/* A fresh connection of a planted session: an identifier of 8 bytes, a master secret of 20, and 490 bytes for the connection,
    whatever they hold.
    Done: they hold a connection in Idle. Refused: 16, where one of the three has another length. */
 uint64_t gateway_fresh(const uint8_t *id, size_t id_size, const uint8_t *secret, size_t secret_size,

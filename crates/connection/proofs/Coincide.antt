@@ -37,6 +37,10 @@ use Rattle.connection.proofs.handshake.Handshake.with_state as handshak
 use Rattle.connection.proofs.handshake.Handshake.with_protection as handshake-handshake-with-protection
 use Rattle.connection.proofs.handshake.Handshake.with_sent as handshake-handshake-with-sent
 use Rattle.connection.proofs.handshake.Handshake.reopened as handshake-handshake-reopened
+use Rattle.connection.proofs.sent.SentRecords.fresh as sent-sentrecords-fresh
+use Rattle.connection.proofs.sent.SentRecords.with_record as sent-sentrecords-with-record
+use Rattle.connection.proofs.sent.SentRecords.with_reply as sent-sentrecords-with-reply
+use Rattle.connection.proofs.sent.SentRecords.matches as sent-sentrecords-matches
 use Rattle.connection.proofs.handshake.Handshake.barred as handshake-handshake-barred
 use Rattle.connection.proofs.handshake.blank as handshake-blank
 use Rattle.connection.proofs.handshake.made as handshake-made
@@ -140,3 +144,15 @@ answer-refused-one κs a x y s u e f = (e ∙ sym f, refl)
 
 pub answer-level-one : OneOutcome answer-level.ended answer-level.Reads.Learnt
 answer-level-one κs a x y s u e f = (e ∙ sym f, refl)
+
+pub sent-sentrecords-fresh-one : OneOutcome sent-sentrecords-fresh.ended sent-sentrecords-fresh.Reads.Learnt
+sent-sentrecords-fresh-one κs a x y s u e f = (e ∙ sym f, refl)
+
+pub sent-sentrecords-with-record-one : OneOutcome sent-sentrecords-with-record.ended sent-sentrecords-with-record.Reads.Learnt
+sent-sentrecords-with-record-one κs a x y s u e f = (e ∙ sym f, refl)
+
+pub sent-sentrecords-with-reply-one : OneOutcome sent-sentrecords-with-reply.ended sent-sentrecords-with-reply.Reads.Learnt
+sent-sentrecords-with-reply-one κs a x y s u e f = (e ∙ sym f, refl)
+
+pub sent-sentrecords-matches-one : OneOutcome sent-sentrecords-matches.ended sent-sentrecords-matches.Reads.Learnt
+sent-sentrecords-matches-one κs a x y s u e f = (e ∙ sym f, refl)

@@ -1,4 +1,5 @@
 -- Laws that belong to no one function.
+pub mod Recorded
 pub mod Unsealing
 pub mod Running
 pub mod Filling

@@ -6,7 +6,6 @@ use Prim.Native.Nat.{ℕ, _+_, _-_, _≤_}
 use native.Mathlib.Omega.{arith}
 use lib.ListN.{length, take, drop, replicate, length-append, length-replicate}
 use lib.Seq.{take-at, length-take-le}
-use Rattle.digest.specs.Bytes.{wordAt}
 use Rattle.digest.specs.Sha1.{sha1}
 use Rattle.digest.specs.Hmac.{hmac, keyOf, codeUnder}
 use Rattle.digest.specs.Expansion.{prf, expansion, terms, chain}
@@ -18,7 +17,6 @@ use Rattle.record.specs.Keys.{macSecret}
 use Rattle.record.specs.declared.header.Content.the-variants as C
 use Rattle.record.specs.Written.{recordOf, writtenOf, countOf}
 use Rattle.record.specs.Code.{protectedBy}
-use Rattle.record.specs.Checksum.{checksumOf}
 use Rattle.record.proofs.Fronts.{record-length}
 use Rattle.record.proofs.Sealed.{size-most, protected-key}
 use Rattle.message.specs.Change.{changeBytes}
@@ -27,12 +25,14 @@ use Rattle.message.specs.Finished.{serverVerify, clientVerify, serverLabel, fin
 use Rattle.message.specs.declared.acceptance.Plan.{Plan}
 use Rattle.message.proofs.Replies.{length-server}
 use Rattle.connection.specs.Handshake.{planted}
+use Rattle.connection.specs.Sent.{sumOf, withReply}
 use Rattle.connection.specs.Reply.{clientRandom, ourHello, ourFinished, expectedOf, helloRecord, changeRecord, finishedRecord, flightOf, flightWith, joinedOf, replyTo, lastOf, padTo, answeredWith}
 use Rattle.connection.proofs.Sending.{protected-size}
 use Rattle.connection.proofs.Filling.{written-front, written-whole, counted-front, padded-last}
 use Rattle.connection.specs.declared.state.State.the-variants.{Replied}
 use Rattle.connection.specs.declared.reply.Flight.{Flight}
 use Rattle.connection.specs.declared.handshake.Session.{Session}
+use Rattle.connection.specs.declared.sent.SentRecords.{SentRecords}
 use Rattle.connection.specs.declared.handshake.Handshake.{Handshake}
 
 pub hello-size : (hello : List ℕ) → length hello ≡ 35 → length (helloRecord hello) ≡ 40
@@ -120,7 +120,7 @@ flown-by secret server client mac hello ours one first second third size key lh 
       second-size = ap length f₂ ∙ change-size;
       third-size = ap length f₃ ∙ length-append r₃ (replicate (38 - length r₃) 0) ∙ ap (λ x. length r₃ + x) (length-replicate {A = ℕ} (38 - length r₃) 0) ∙ whole (length r₃) few;
       size-fits = omega arith;
-      joined-is = λ i. record { reply = all i; last = wordAt (checksumOf (front i)) 0 };
+      joined-is = λ i. record { reply = all i; hello = sumOf (f₁ i); change = sumOf (f₂ i); finished = sumOf (front i) };
     }
   where
     whole : (n : ℕ) → n ≤ 38 → n + (38 - n) ≡ 38
@@ -128,18 +128,19 @@ flown-by secret server client mac hello ours one first second third size key lh 
 
 -- the parts of a new reply, put together
 module _ (h : Handshake) (random m : List ℕ) (plan : Plan) where
-  pub answered-by : (client hello verify ours expected kept : List ℕ) (sent : Flight) (size : ℕ)
+  pub answered-by : (client hello verify ours expected kept : List ℕ) (flight : Flight) (size : ℕ) (sent : SentRecords)
       → client ≡ clientRandom m → hello ≡ serverHelloOf random (h .id) plan
       → verify ≡ serverVerify (h .protection .keys .secret) m hello → ours ≡ finishedOf verify
       → expected ≡ clientVerify (h .protection .keys .secret) m hello ours
-      → sent ≡ flightWith (h .protection .keys .secret) random client (plan .mac) hello ours
+      → flight ≡ flightWith (h .protection .keys .secret) random client (plan .mac) hello ours
       → kept ≡ padTo 256 m → size ≡ length (replyTo (planted h) random m plan)
+      → sent ≡ withReply (h .sent) (flight .hello) (flight .change) (flight .finished)
       → _≡_ {A = Handshake} (record {
         state = Replied;
         id = h .id;
         expected = expected;
-        kept = record { hello = kept; heard = length m; reply = sent .reply; size = size };
-        last = sent .last;
+        kept = record { hello = kept; heard = length m; reply = flight .reply; size = size };
+        sent = sent;
         protection = record {
           keys = record { secret = h .protection .keys .secret; server = random; client = client; mac = plan .mac; refresh = plan .refresh };
           window = h .protection .window;
@@ -148,18 +149,19 @@ module _ (h : Handshake) (random m : List ℕ) (plan : Plan) where
         };
       }) (answeredWith h random m plan)
   unfolding answeredWith replyTo lastOf expectedOf ourFinished ourHello
-  answered-by client hello verify ours expected kept sent size ec eh ev eo ee es ek ez =
+  answered-by client hello verify ours expected kept flight size sent ec eh ev eo ee es ek ez et =
       let secret = h .protection .keys .secret in
       let ours-is : ours ≡ ourFinished (planted h) random m plan = eo ∙ ap finishedOf (ev ∙ ap (serverVerify secret m) eh) in
       let expected-is : expected ≡ expectedOf (planted h) random m plan = ee ∙ ap₂ (clientVerify secret m) eh ours-is in
-      let sent-is : sent ≡ flightWith secret random (clientRandom m) (plan .mac) (ourHello (planted h) random plan) (ourFinished (planted h) random m plan)
+      let flight-is : flight ≡ flightWith secret random (clientRandom m) (plan .mac) (ourHello (planted h) random plan) (ourFinished (planted h) random m plan)
       = es ∙ (λ i. flightWith secret random (ec i) (plan .mac) (eh i) (ours-is i)) in
+      let sent-is = et ∙ (λ i. withReply (h .sent) (flight-is i .hello) (flight-is i .change) (flight-is i .finished)) in
       λ i. record {
         state = Replied;
         id = h .id;
         expected = expected-is i;
-        kept = record { hello = ek i; heard = length m; reply = sent-is i .reply; size = ez i };
-        last = sent-is i .last;
+        kept = record { hello = ek i; heard = length m; reply = flight-is i .reply; size = ez i };
+        sent = sent-is i;
         protection = record {
           keys = record { secret = h .protection .keys .secret; server = random; client = ec i; mac = plan .mac; refresh = plan .refresh };
           window = h .protection .window;

@@ -3,7 +3,6 @@ use mathlib.Core.Bool.{Bool}
 use mathlib.Core.List.{List}
 use Prim.Native.Nat.{ℕ}
 use lib.ListN.{length, take}
-use lib.Dec.{eqb}
 use Rattle.digest.specs.Pick.{pick}
 use Rattle.digest.specs.Mac.{sameBytes}
 use Rattle.record.specs.Window.{emptied}
@@ -18,7 +17,7 @@ use Rattle.message.specs.declared.alert.Level.the-variants as L
 use Rattle.message.specs.declared.alert.Description.{Description}
 use Rattle.message.specs.declared.alert.Reading.{Reading}
 use Rattle.message.specs.declared.alert.Reading.the-variants as R
-use Rattle.connection.specs.Handshake.{planted, withState, withWindow}
+use Rattle.connection.specs.Handshake.{planted, withState, withWindow, wasSent}
 use Rattle.connection.specs.Answer.{judged, refusing}
 use Rattle.connection.specs.Reply.{replyTo, answeredWith}
 use Rattle.connection.specs.declared.state.State.the-variants as S
@@ -60,11 +59,11 @@ byLevel h L.Warning description = judged (Warning description) h
 byLevel h L.Critical description = judged (Critical description) (withState h S.Closed)
 byLevel h L.Fatal description = judged (Fatal description) (withState h S.Closed)
 
--- "A clear alert must carry the checksum of the last record that we sent": 12, then 14
+-- 12, then 14: a clear alert "is now good if it matches any of the last eight records that we sent since the last start" (02)
 abbrev pub heardBy : Handshake → Reading → Judged
 heardBy h R.Malformed = refusing Malformed h
 heardBy h (R.WellFormed a) =
-    pick (eqb (a .checksum) (h .last)) (byLevel h (a .level) (a .description)) (refusing Checksum h)
+    pick (wasSent h (a .checksum)) (byLevel h (a .level) (a .description)) (refusing Checksum h)
 
 unfoldable pub heardAlert : Handshake → List ℕ → Judged
 heardAlert h fragment = heardBy h (alertOf fragment)

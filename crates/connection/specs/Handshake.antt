@@ -1,4 +1,5 @@
 -- One handshake and its changes (01, "Handshake" and "Alerts"; 002 10.2.2).
+use mathlib.Core.Bool.{Bool}
 use mathlib.Core.List.{List}
 use Prim.Native.Nat.{ℕ}
 use lib.ListN.{take, replicate}
@@ -9,6 +10,7 @@ use Rattle.record.specs.Protection as P
 use Rattle.record.specs.declared.keys.Keys.{Keys}
 use Rattle.record.specs.declared.window.Window.{Window}
 use Rattle.record.specs.declared.protection.Protection.{Protection}
+use Rattle.connection.specs.Sent.{noRecords, withRecord, matchesOf}
 use Rattle.connection.specs.declared.state.State.{State}
 use Rattle.connection.specs.declared.state.State.the-variants.{Idle, Barred}
 use Rattle.connection.specs.declared.handshake.Session.{Session}
@@ -41,7 +43,7 @@ newHandshake session state =
       id = session .id;
       expected = nothingExpected;
       kept = nothingKept;
-      last = 0;
+      sent = noRecords;
       protection = newProtection (session .secret);
     }
 
@@ -56,34 +58,44 @@ planted h = record { id = h .id; secret = h .protection .keys .secret }
 -- one change each
 abbrev pub withState : Handshake → State → Handshake
 withState h state =
-    record { state = state; id = h .id; expected = h .expected; kept = h .kept; last = h .last; protection = h .protection }
+    record { state = state; id = h .id; expected = h .expected; kept = h .kept; sent = h .sent; protection = h .protection }
 
 abbrev pub withProtection : Handshake → Protection → Handshake
 withProtection h protection =
-    record { state = h .state; id = h .id; expected = h .expected; kept = h .kept; last = h .last; protection = protection }
+    record { state = h .state; id = h .id; expected = h .expected; kept = h .kept; sent = h .sent; protection = protection }
 
 abbrev pub withWindow : Handshake → Window → Handshake
 withWindow h window = withProtection h (P.withWindow (h .protection) window)
 
 abbrev pub withSent : Handshake → Protection → ℕ → Handshake
-withSent h protection last =
-    record { state = h .state; id = h .id; expected = h .expected; kept = h .kept; last = last; protection = protection }
-
--- "Start again leads from Closed to Idle and forgets the window and the kept hello." The sending numbers and the last
--- record stay until the next reply.
-abbrev pub reopened : Handshake → Handshake
-reopened h =
+withSent h protection sum =
     record {
-      state = Idle;
+      state = h .state;
+      id = h .id;
+      expected = h .expected;
+      kept = h .kept;
+      sent = withRecord (h .sent) sum;
+      protection = protection;
+    }
+
+-- "Start again leads from Closed to Idle and forgets the window and the kept hello." It forgets the records sent (02: "since
+-- the last start"); the sending numbers stay until the next reply.
+abbrev pub forgetting : Handshake → Handshake
+forgetting h =
+    record {
+      state = h .state;
       id = h .id;
       expected = h .expected;
       kept = nothingKept;
-      last = h .last;
+      sent = noRecords;
       protection = P.withWindow (h .protection) (emptied (h .protection .window));
     }
 
+abbrev pub reopened : Handshake → Handshake
+reopened h = withState (forgetting h) Idle
+
 -- Barred: "required to forget any session identifiers, keys, and secrets" (002 10.2.2). The window, the sending numbers
--- and the last record stay, and so do the MAC kind and the refresh, which are no secrets.
+-- and the records sent stay, and so do the MAC kind and the refresh, which are no secrets.
 abbrev pub unkeyed : Protection → Protection
 unkeyed p =
     record {
@@ -100,7 +112,7 @@ barred h =
       id = replicate 8 0;
       expected = nothingExpected;
       kept = nothingKept;
-      last = h .last;
+      sent = h .sent;
       protection = unkeyed (h .protection);
     }
 
@@ -110,3 +122,7 @@ keptHello h = take (h .kept .heard) (h .kept .hello)
 
 abbrev pub keptReply : Handshake → List ℕ
 keptReply h = take (h .kept .size) (h .kept .reply)
+
+-- whether a record with this checksum is one of those that we sent, as far as they are kept
+abbrev pub wasSent : Handshake → ℕ → Bool
+wasSent h sum = matchesOf (h .sent) sum

@@ -1,6 +1,7 @@
 -- The definitions of layer 4, the connection.
 pub mod Refusal
 pub mod State
+pub mod Sent
 pub mod Handshake
 pub mod Answer
 pub mod Reply

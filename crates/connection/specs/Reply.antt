@@ -3,7 +3,6 @@ use mathlib.Core.List.{List, [], _∷_, _++_}
 use mathlib.Core.Bool.{true, false}
 use Prim.Native.Nat.{ℕ, _-_}
 use lib.ListN.{length, take, drop, replicate}
-use Rattle.digest.specs.Bytes.{wordAt}
 use Rattle.digest.specs.Hmac.{hmac}
 use Rattle.digest.specs.Mac.{sizeOf, serverExpansion}
 use Rattle.digest.specs.declared.mac.Mac.{Mac}
@@ -11,13 +10,13 @@ use Rattle.record.specs.Keys.{macSecret}
 use Rattle.record.specs.declared.keys.Keys.{Keys}
 use Rattle.record.specs.Written.{recordOf}
 use Rattle.record.specs.Code.{protectedBy}
-use Rattle.record.specs.Checksum.{checksumOf}
 use Rattle.record.specs.declared.header.Content.the-variants.{ChangeCipherSpec, Handshake as HandshakeContent}
 use Rattle.message.specs.Server.{serverHelloOf}
 use Rattle.message.specs.Change.{changeBytes}
 use Rattle.message.specs.Finished.{serverVerify, clientVerify, finishedOf}
 use Rattle.message.specs.declared.acceptance.Plan.{Plan}
 use Rattle.connection.specs.Handshake.{planted}
+use Rattle.connection.specs.Sent.{sumOf, withReply}
 use Rattle.connection.specs.declared.state.State.the-variants.{Replied}
 use Rattle.connection.specs.declared.reply.Flight.{Flight}
 use Rattle.connection.specs.declared.handshake.Session.{Session}
@@ -69,17 +68,24 @@ lastOf session random m plan =
 abbrev pub padTo : ℕ → List ℕ → List ℕ
 padTo n s = s ++ replicate (n - length s) 0
 
--- the reply at the front of its place, and the checksum of its last record
+-- the reply at the front of its place, and the checksums of its three records
 abbrev pub flightWith : List ℕ → List ℕ → List ℕ → Mac → List ℕ → List ℕ → Flight
 flightWith secret server client mac hello ours =
     record {
       reply = padTo 84 (flightOf secret server client mac hello ours);
-      last = wordAt (checksumOf (finishedRecord secret server client mac ours)) 0;
+      hello = sumOf (helloRecord hello);
+      change = sumOf changeRecord;
+      finished = sumOf (finishedRecord secret server client mac ours);
     }
 
 abbrev pub joinedOf : List ℕ → List ℕ → List ℕ → ℕ → Flight
 joinedOf first second third size =
-    record { reply = first ++ (second ++ third); last = wordAt (checksumOf (take size third)) 0 }
+    record {
+      reply = first ++ (second ++ third);
+      hello = sumOf first;
+      change = sumOf second;
+      finished = sumOf (take size third);
+    }
 
 -- what the keys are made of after a new reply
 abbrev pub agreedKeys : Session → List ℕ → List ℕ → Plan → Keys
@@ -88,7 +94,7 @@ agreedKeys session random m plan =
 
 -- The handshake after a new reply: Replied, the randoms, MAC kind, refresh and expected Finished of these hellos, the
 -- hello and the reply kept. "After each new reply our data and protected alerts count on from 1, clear alerts from 2."
--- The last record that we sent is the protected Finished. A new reply leaves the window alone.
+-- Its three records are added to those that we sent. A new reply leaves the window alone.
 unfoldable pub answeredWith : Handshake → List ℕ → List ℕ → Plan → Handshake
 answeredWith h random m plan =
     let reply = replyTo (planted h) random m plan in
@@ -97,7 +103,8 @@ answeredWith h random m plan =
       id = h .id;
       expected = expectedOf (planted h) random m plan;
       kept = record { hello = padTo 256 m; heard = length m; reply = padTo 84 reply; size = length reply };
-      last = wordAt (checksumOf (lastOf (planted h) random m plan)) 0;
+      sent = withReply (h .sent) (sumOf (helloRecord (ourHello (planted h) random plan))) (sumOf changeRecord)
+          (sumOf (lastOf (planted h) random m plan));
       protection = record {
         keys = agreedKeys (planted h) random m plan;
         window = h .protection .window;

@@ -23,6 +23,7 @@ use Rattle.message.specs.declared.alert.Graded.the-variants as G
 use Rattle.message.specs.declared.alert.Sorted.{Sorted}
 use Rattle.message.specs.declared.alert.Sorted.the-variants as D
 use Rattle.connection.specs.Handshake.{withSent}
+use Rattle.connection.specs.Sent.{sumOf}
 use Rattle.connection.specs.declared.state.State.{State}
 use Rattle.connection.specs.declared.state.State.the-variants as S
 use Rattle.connection.specs.declared.refusal.Refusal.{Refusal}
@@ -103,14 +104,14 @@ nextClear h body = recordOf false false C.Alert (h .protection .clear) body
 abbrev pub clearOn : Protection → Protection
 clearOn p = record { keys = p .keys; window = p .window; protected = p .protected; clear = p .clear + 1 }
 
--- Sending "changes only our number and our last sent record".
+-- Sending "changes only our number and our last sent record": it is added to those that we sent.
 abbrev pub afterProtected : Handshake → List ℕ → Handshake
 afterProtected h bytes =
-    withSent h (countedOn (h .protection)) (wordAt (checksumOf bytes) 0)
+    withSent h (countedOn (h .protection)) (sumOf bytes)
 
 abbrev pub afterClear : Handshake → List ℕ → Handshake
 afterClear h bytes =
-    withSent h (clearOn (h .protection)) (wordAt (checksumOf bytes) 0)
+    withSent h (clearOn (h .protection)) (sumOf bytes)
 
 -- a send that is refused, or its outcome; and what the output then holds
 abbrev pub sentTo : Connection → Sent → Outcome → Sent

@@ -91,14 +91,15 @@ pub(crate) fn change(h: Handshake, fragment: &[u8]) -> Judged
     }
 }
 
-// A clear alert: it must carry the checksum of the last record that we sent. Its level decides.
+// A clear alert: it must match one of the records that we sent. Its level decides.
 pub(crate) fn hear_alert(h: Handshake, fragment: &[u8]) -> Judged
     ensures { λ r. ⌜ r ≡ heardAlert h (now (fragment .entry)) ⌝ }
 {
     match alert::read(fragment) {
         alert::Reading::Malformed => refuse(h, Refusal::Malformed),
         alert::Reading::WellFormed(a) => {
-            if a.checksum != h.last {
+            let sent = h.sent;
+            if !sent.matches(a.checksum) {
                 return refuse(h, Refusal::Checksum);
             }
             let level = a.level;

@@ -1,8 +1,9 @@
-// One handshake: its session, the Finished that it expects, the hello and the reply that are kept, the last record that
-// we sent, and its protection. A connection has one. Every value of these structs is safe to pass in: no length or number in
+// One handshake: its session, the Finished that it expects, the hello and the reply that are kept, the records that we
+// sent, and its protection. A connection has one. Every value of these structs is safe to pass in: no length or number in
 // them is trusted.
 ghost use mathlib.Core.Path.{_≡_};
 ghost use Rattle.connection.specs.Handshake.{withState, withProtection, withSent, barred, reopened, blankHandshake, newHandshake, noSession, nothingKept, unkeyed, newProtection};
+use crate::sent::SentRecords;
 use crate::state::State;
 use digest::Mac;
 use record::keys::Keys;
@@ -30,8 +31,8 @@ pub struct Handshake {
     // the contents that the unit's Finished must have
     pub expected: [u8; 12],
     pub kept: Kept,
-    // the checksum of the last record that we sent
-    pub last: u32,
+    // the records that we sent since the last start
+    pub sent: SentRecords,
     pub protection: Protection,
 }
 
@@ -43,14 +44,14 @@ impl Handshake {
         let id = self.id;
         let expected = self.expected;
         let kept = self.kept;
-        let last = self.last;
+        let sent = self.sent;
         let protection = self.protection;
         Handshake {
             state,
             id,
             expected,
             kept,
-            last,
+            sent,
             protection,
         }
     }
@@ -65,22 +66,22 @@ impl Handshake {
     }
 
     // The handshake after a record was sent.
-    pub fn with_sent(self, protection: Protection, last: u32) -> Handshake
-        ensures { λ r. ⌜ r ≡ withSent self protection last ⌝ }
+    pub fn with_sent(self, protection: Protection, checksum: u32) -> Handshake
+        ensures { λ r. ⌜ r ≡ withSent self protection checksum ⌝ }
     {
+        let sent = self.sent;
         let mut h = self;
         h.protection = protection;
-        h.last = last;
+        h.sent = sent.with_record(checksum);
         h
     }
 
-    // Start again: Idle, with no window and no kept hello.
+    // Start again: Idle, with no window, no kept hello and no records sent.
     pub fn reopened(self) -> Handshake
         ensures { λ r. ⌜ r ≡ reopened self ⌝ }
     {
         let id = self.id;
         let expected = self.expected;
-        let last = self.last;
         let protection = self.protection;
         let window = protection.window;
         Handshake {
@@ -88,7 +89,7 @@ impl Handshake {
             id,
             expected,
             kept: nothing_kept(),
-            last,
+            sent: SentRecords::fresh(),
             protection: protection.with_window(window.emptied()),
         }
     }
@@ -98,14 +99,14 @@ impl Handshake {
     pub fn barred(self) -> Handshake
         ensures { λ r. ⌜ r ≡ barred self ⌝ }
     {
-        let last = self.last;
+        let sent = self.sent;
         let protection = self.protection;
         Handshake {
             state: State::Barred,
             id: [0; 8],
             expected: [0; 12],
             kept: nothing_kept(),
-            last,
+            sent,
             protection: unkeyed(protection),
         }
     }
@@ -129,7 +130,7 @@ pub fn made(session: Session, state: State) -> Handshake
         id,
         expected: [0; 12],
         kept: nothing_kept(),
-        last: 0,
+        sent: SentRecords::fresh(),
         protection: new_protection(secret),
     }
 }

@@ -10,5 +10,6 @@ pub mod refusal;
 pub mod reply;
 pub mod sealed;
 pub mod send;
+pub mod sent;
 pub mod state;
 pub mod tally;

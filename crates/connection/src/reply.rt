@@ -20,10 +20,12 @@ use record::keys::derived;
 use record::protection::Protection;
 use record::written::write_clear;
 
-// The bytes of a reply, and the checksum of its last record.
+// The bytes of a reply, and the checksums of its three records.
 pub struct Flight {
     pub reply: [u8; 84],
-    pub last: u32,
+    pub hello: u32,
+    pub change: u32,
+    pub finished: u32,
 }
 
 // The handshake after a new reply to the hello m: `random` is ours. The window stays as it was.
@@ -40,8 +42,9 @@ pub(crate) fn answered(h: Handshake, random: [u8; 16], m: &[u8], plan: Plan) -> 
     let hello = server_hello(random, id, plan);
     let ours = finished::message(finished::server_verify(&secret, m, &hello));
     let expected = finished::client_verify(&secret, m, &hello, &ours);
-    let sent = flown(secret, random, client, mac, hello, ours);
-    let reply = sent.reply;
+    let flight = flown(secret, random, client, mac, hello, ours);
+    let reply = flight.reply;
+    let sent = h.sent;
     let window = protection.window;
     Handshake {
         state: State::Replied,
@@ -53,7 +56,7 @@ pub(crate) fn answered(h: Handshake, random: [u8; 16], m: &[u8], plan: Plan) -> 
             reply,
             size: 64 + mac.size(),
         },
-        last: sent.last,
+        sent: sent.with_reply(flight.hello, flight.change, flight.finished),
         protection: Protection {
             keys: Keys {
                 secret,
@@ -98,7 +101,7 @@ fn server_hello(random: [u8; 16], id: [u8; 8], plan: Plan) -> [u8; 35]
     d
 }
 
-// The three records one behind the other, zeros behind them, and the checksum of the last.
+// The three records one behind the other, zeros behind them, and their checksums.
 fn flown(
     secret: [u8; 20],
     server: [u8; 16],
@@ -122,15 +125,22 @@ fn flown(
     joined(first, second, third, size)
 }
 
-// The records joined, and the checksum of the last one, which has `size` bytes.
+// The records joined, and their checksums; the last one has `size` bytes.
 fn joined(first: [u8; 40], second: [u8; 6], third: [u8; 38], size: usize) -> Flight
     requires { ⌜ (length first ≡ 40) × ((length second ≡ 6) × ((length third ≡ 38) × (size ≤ 38))) ⌝ }
     ensures { λ r. ⌜ r ≡ joinedOf first second third size ⌝ }
 {
-    let last = checksum(&third[..size]);
+    let hello = checksum(&first);
+    let change = checksum(&second);
+    let finished = checksum(&third[..size]);
     let mut reply = [0u8; 84];
     digest::put(&mut reply, 0, &first);
     digest::put(&mut reply, 40, &second);
     digest::put(&mut reply, 46, &third);
-    Flight { reply, last }
+    Flight {
+        reply,
+        hello,
+        change,
+        finished,
+    }
 }

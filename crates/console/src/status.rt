@@ -18,7 +18,9 @@ pub fn put_status(console: Console, text: &mut [u8], at: usize) -> usize {
     let tally = console.tally;
     let end = put_name(console.connected, state, text, at);
     let end = put_window(window, text, end);
-    let end = put_sending(protection.protected, protection.clear, h.last, text, end);
+    let sent = h.sent;
+    let sums = sent.checksums;
+    let end = put_sending(protection.protected, protection.clear, sums, text, end);
     put_tally(tally, text, end)
 }
 
@@ -56,12 +58,13 @@ fn put_highest(highest: u16, marks: u32, text: &mut [u8], at: usize) -> usize {
     put_number(text, at, highest as u64)
 }
 
-// The next protected and clear numbers, `-,-` before the first reply, which takes number 0 of each; and the last checksum.
-fn put_sending(protected: u32, clear: u32, last: u32, text: &mut [u8], at: usize) -> usize {
+// The next protected and clear numbers, `-,-` before the first reply, which takes number 0 of each; and the
+// newest checksum of the records sent, zeros where there is none.
+fn put_sending(protected: u32, clear: u32, sums: [u32; 8], text: &mut [u8], at: usize) -> usize {
     let end = put(text, at, b" sent=");
     let end = put_numbers(protected, clear, text, end);
     let end = put(text, end, b" checksum=");
-    put_word(text, end, last)
+    put_word(text, end, sums[0])
 }
 
 fn put_numbers(protected: u32, clear: u32, text: &mut [u8], at: usize) -> usize {

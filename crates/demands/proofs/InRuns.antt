@@ -9,9 +9,7 @@ use native.Mathlib.Omega.{arith}
 use lib.ListN.{length}
 use lib.Dec.{lit<, leb}
 use borrow.Author.Tests.{le-leb, lt-leb, leb-true, leb-false}
-use Rattle.digest.specs.Bytes.{wordAt}
 use Rattle.digest.specs.Pick.{pick}
-use Rattle.record.specs.Checksum.{checksumOf}
 use Rattle.record.specs.Window.{acceptOf, tooOld, windowWidth}
 use Rattle.record.specs.History.{windowOf, accepted, highestOf, judgedOf as judgedIn}
 use Rattle.record.specs.declared.header.Content.the-variants as C
@@ -33,6 +31,7 @@ use Rattle.connection.specs.declared.refusal.Refusal.the-variants as X
 use Rattle.connection.specs.declared.answer.Answer.{Answer}
 use Rattle.connection.specs.declared.answer.Answer.the-variants as W
 use Rattle.connection.specs.declared.answer.Judged.{Judged}
+use Rattle.connection.specs.Handshake.{wasSent}
 use Rattle.connection.specs.declared.handshake.Handshake.{Handshake}
 use Rattle.connection.specs.declared.handshake.Session.{Session}
 use Rattle.demands.specs.Runs.{stepOf, freshWith}
@@ -41,7 +40,9 @@ use Rattle.demands.specs.Genuine.{Genuine, Sealed, RecordOf, keysOf}
 use Rattle.demands.specs.Table.{Row, ended, Guarded, Hears}
 use Rattle.demands.specs.Table.{row-ended, row-hello-while-open, row-not-allowed, row-not-first, row-reply, row-hello-malformed, row-unacceptable, row-resent, row-change, row-change-malformed, row-clear-malformed, row-checksum, row-clear-warning, row-clear-critical, row-clear-fatal, row-forged, row-old, row-repeated, row-malformed, row-data, row-warning, row-critical, row-barred, row-open, row-again, row-wrong-finished}
 use Rattle.demands.specs.Events.{Event, AllSound, Happened, connectionOf, after, history}
-use Rattle.demands.specs.Past.{keysIn, expectedIn, acceptedIn, lastWritten, barredIn}
+use Rattle.demands.specs.Past.{keysIn, expectedIn, acceptedIn, sentSince, MatchesNone, barredIn}
+use Rattle.connection.specs.Sent.{recordsKept, oneOf}
+use Rattle.demands.proofs.SentRecords.{unmatched, matches-none}
 use Rattle.demands.specs.LeftOut.{LeftOut, SameWithout, LeavesOut}
 use Rattle.demands.specs.InRuns.{TooOldFor, RepeatedIn, ProtectedExactly, ProtectedInRuns, ChecksumInRuns, WrongFinishedInRuns, LeavesOutOfRuns}
 use Rattle.demands.proofs.Genuine.{true-false}
@@ -59,7 +60,7 @@ module _ (h : Handshake) (random d : List ℕ) (r : Record) where
   RefusedFacts X.Forged = (c : List ℕ) → Sealed (keysOf h) d r c → ⊥
   RefusedFacts X.TooOld = (acceptOf (h .protection .window) (r .number) ≡ A.TooOld) × ((c : List ℕ) × Sealed (keysOf h) d r c)
   RefusedFacts X.Repeated = (acceptOf (h .protection .window) (r .number) ≡ A.Repeated) × ((c : List ℕ) × Sealed (keysOf h) d r c)
-  RefusedFacts X.Checksum = (a : Alert) × (alertOf (fragmentOf d r) ≡ R.WellFormed a) × (a .checksum ≢ h .last)
+  RefusedFacts X.Checksum = (a : Alert) × (alertOf (fragmentOf d r) ≡ R.WellFormed a) × (wasSent h (a .checksum) ≡ false)
   RefusedFacts X.WrongFinished =
       (c : List ℕ) × Sealed (keysOf h) d r c × (r .content ≡ C.Handshake) × (judgedOf c (h .expected) ≡ F.Wrong)
   RefusedFacts X.Room = Unit
@@ -184,11 +185,13 @@ module _ (session : Session) (past : List Happened) (h : Handshake) (p : Progres
   one-alert a b x e f = cc
 
   fourteen : (a : Alert) → Hears (h .state) → r .protected ≡ false → r .content ≡ C.Alert → alertOf (fragmentOf d r) ≡ R.WellFormed a
-      → (judgedRecord h random d r .answer ≡ W.Refused X.Checksum) ↔ (a .checksum ≢ wordAt (checksumOf (lastWritten session past)) 0)
+      → (judgedRecord h random d r .answer ≡ W.Refused X.Checksum) ↔ MatchesNone (a .checksum) (sentSince session past)
   fourteen a s q c e = (
-    λ z y. let t = told h random d r X.Checksum z in
-        t .2 (ap (λ b. b .checksum) (one-alert (t .0) a (alertOf (fragmentOf d r)) (t .1) e) ∙ y ∙ sym (p .kept .last-is)),
-    λ n. ap (λ j. j .answer) (row-is h random d r (row-checksum a s q c e (λ y. n (y ∙ p .kept .last-is)))),
+    λ z. let t = told h random d r X.Checksum z in
+        let same : t .0 .checksum ≡ a .checksum = ap (λ b. b .checksum) (one-alert (t .0) a (alertOf (fragmentOf d r)) (t .1) e) in
+        unmatched (a .checksum) recordsKept (sentSince session past) (ap (oneOf (a .checksum)) (sym (p .kept .sent-is)) ∙ ap (wasSent h) (sym same) ∙ t .2),
+    λ n. ap (λ j. j .answer) (row-is h random d r (row-checksum a s q c e
+        (ap (oneOf (a .checksum)) (p .kept .sent-is) ∙ matches-none (a .checksum) recordsKept (sentSince session past) n))),
   )
 
   seventeen : RecordOf d r → barredIn past ≡ false → judgedRecord h random d r .answer ≡ W.Refused X.WrongFinished

@@ -3,15 +3,14 @@
 use mathlib.Core.Path.{_≡_, refl, sym, _∙_, ap, ap₂, subst}
 use mathlib.Core.Logic.{_⊎_, inl, inr, _≢_}
 use mathlib.Core.Bool.{Bool, true, false}
-use mathlib.Core.List.{List, [], _∷_, _++_}
+use mathlib.Core.List.{List, [], _∷_, _++_, map}
 use Prim.Native.Nat.{ℕ, zero, suc, _+_, _-_, _≤_, _<_}
 use native.Mathlib.Omega.{arith}
 use lib.ListN.{length, take, replicate}
 use lib.Dec.{lit<}
 use lib.Seq.{take-at}
 use Rattle.digest.specs.Pick.{pick}
-use Rattle.digest.specs.Bytes.{wordAt, laidOver}
-use Rattle.record.specs.Checksum.{checksumOf, padded, xorBlocks}
+use Rattle.digest.specs.Bytes.{laidOver}
 use Rattle.record.specs.Window.{acceptOf, tooOld, windowWidth, emptied, Held}
 use Rattle.record.specs.History.{windowOf, arrivedOf, accepted, highestOf, judgedOf}
 use Rattle.record.specs.declared.header.Content.{Content}
@@ -29,7 +28,10 @@ use Rattle.connection.specs.Calls.{sessionOf}
 use Rattle.digest.specs.declared.mac.Mac.{Mac}
 use Rattle.connection.specs.Handshake.{withState, withWindow, barred, reopened, nothingKept, noSession, keptHello, keptReply, planted}
 use Rattle.connection.specs.Judge.{judgedRecord, fragmentOf}
-use Rattle.connection.specs.Reply.{answeredWith, replyTo, padTo}
+use Rattle.connection.specs.Reply.{answeredWith, replyTo, padTo, lastOf, ourHello, helloRecord, changeRecord}
+use Rattle.connection.specs.Sent.{sumOf, sumsOf}
+use Rattle.connection.specs.declared.sent.SentRecords.{SentRecords}
+use Rattle.demands.proofs.SentRecords.{record-sums, reply-sums}
 use Rattle.connection.specs.Send.{nextProtected, nextAlert, alertBody, afterAlert}
 use Rattle.connection.specs.declared.state.State.{State}
 use Rattle.connection.specs.declared.state.State.the-variants as S
@@ -46,7 +48,7 @@ use Rattle.demands.specs.Table.{row-ended, row-hello-while-open, row-not
 use Rattle.demands.specs.Calls.{CallRow, data-16, data-7, data-8, data-15, data-6, data-sent, alert-16, alert-7, alert-8, alert-15, alert-6, alert-sent, close-7, close-done, start-7, start-8, start-done}
 use Rattle.demands.specs.Refusals.{writtenBy}
 use Rattle.demands.specs.Events.{Event, took, sending, alerting, closing, starting, Sound, AllSound, Happened, answered, wrote, closed, started, refused, ifDone, connectionOf, next, happening, after, history}
-use Rattle.demands.specs.Past.{greeting, isReply, isSpec, isBarred, marks, lastReply, keptGreeting, agreedFor, agreedAs, helloAs, replyFor, replyHeard, nextSealed, nextClearNumber, lastWritten, lastHeard, acceptedIn, barredIn, agreedOf, nothingAgreed, Agreed}
+use Rattle.demands.specs.Past.{greeting, isReply, isSpec, isBarred, marks, lastReply, keptGreeting, agreedFor, agreedAs, helloAs, replyFor, replyHeard, nextSealed, nextClearNumber, sentSince, recordsHeard, acceptedIn, barredIn, agreedOf, nothingAgreed, Agreed}
 use Rattle.demands.specs.Runs.{freshWith}
 use Rattle.demands.specs.Kept.{KeptAs, KeptIsWhatHappened}
 use Rattle.demands.proofs.Genuine.{true-false}
@@ -86,14 +88,14 @@ both-no : (b : Bool) → pick b false false ≡ false
 both-no true = refl
 both-no false = refl
 
--- what we sent: the next numbers and the last record
+-- what we sent: the next numbers and the records
 record Sending : Type 0 where
   protected : ℕ
   clear : ℕ
-  last : ℕ
+  sent : SentRecords
 
 abbrev sendingOf : Handshake → Sending
-sendingOf h = record { protected = h .protection .protected; clear = h .protection .clear; last = h .last }
+sendingOf h = record { protected = h .protection .protected; clear = h .protection .clear; sent = h .sent }
 
 module _ (session : Session) (past : List Happened) (h : Handshake) (k : KeptAs session past h) where
   -- a connection that is not ended was not barred
@@ -109,7 +111,7 @@ module _ (session : Session) (past : List Happened) (h : Handshake) (k : KeptAs 
     kept-by : (x : Handshake) (a : Answer) → isReply a ≡ false → isBarred a ≡ false → planted x ≡ planted h → agreedOf x ≡ agreedOf h
         → x .kept ≡ h .kept → sendingOf x ≡ sendingOf h → x .protection .window ≡ windowOf windowWidth (acceptedIn (answered random d r a ∷ past))
         → (barredIn past ≡ true → x .state ≡ S.Barred) → KeptAs session (answered random d r a ∷ past) x
-    unfolding lastReply keptGreeting nextSealed nextClearNumber lastWritten barredIn
+    unfolding lastReply keptGreeting nextSealed nextClearNumber sentSince barredIn
     kept-by x a nr nb es ea ek en ew st =
         let bar : pick (isBarred a) true (barredIn past) ≡ barredIn past = ap (λ b. pick b true (barredIn past)) nb in
         record {
@@ -119,8 +121,8 @@ module _ (session : Session) (past : List Happened) (h : Handshake) (k : KeptAs 
           reply-is = λ f. ap (λ y. take (y .size) (y .reply)) ek ∙ k .reply-is (sym bar ∙ f) ∙ sym (ap (λ b. replyFor session (pick b (greeting (fragmentOf d r) random) (keptGreeting past))) nr);
           sealed-is = ap (λ y. y .protected) en ∙ k .sealed-is ∙ sym (ap (λ b. pick b 1 (nextSealed past)) nr);
           clear-is = ap (λ y. y .clear) en ∙ k .clear-is ∙ sym (ap (λ b. pick b 2 (nextClearNumber past)) nr);
-          last-is = ap (λ y. y .last) en ∙ k .last-is
-              ∙ sym (ap (λ b. wordAt (checksumOf (pick b (lastHeard session random (fragmentOf d r) (heardOf (fragmentOf d r) (session .id))) (lastWritten session past))) 0) nr);
+          sent-is = ap (λ y. sumsOf (y .sent)) en ∙ k .sent-is
+              ∙ sym (ap (λ b. map sumOf (take 8 (pick b (recordsHeard session random (fragmentOf d r) (heardOf (fragmentOf d r) (session .id)) ++ sentSince session past) (sentSince session past)))) nr);
           window-is = ew;
           barred-is = λ f. (
             st (sym bar ∙ f),
@@ -178,7 +180,7 @@ module _ (session : Session) (past : List Happened) (h : Handshake) (k : KeptAs 
 
     replied : (plan : Plan) → Greets h d r → heardOf (fragmentOf d r) (h .id) ≡ H.Accepted plan
         → KeptAs session (answered random d r (W.Reply (length (replyTo (planted h) random (fragmentOf d r) plan))) ∷ past) (answeredWith h random (fragmentOf d r) plan)
-    unfolding answeredWith lastReply keptGreeting nextSealed nextClearNumber lastWritten barredIn
+    unfolding answeredWith lastReply keptGreeting nextSealed nextClearNumber sentSince barredIn
     replied plan g e =
         let m : List ℕ = fragmentOf d r in
         let reply : List ℕ = replyTo (planted h) random m plan in
@@ -192,15 +194,17 @@ module _ (session : Session) (past : List Happened) (h : Handshake) (k : KeptAs 
               ∙ ap (replyHeard (planted h) random m) (sym e) ∙ ap (λ s. replyHeard s random m (heardOf m (s .id))) es;
           sealed-is = refl;
           clear-is = refl;
-          last-is = ap (λ x. wordAt (checksumOf (lastHeard (planted h) random m x)) 0) (sym e)
-              ∙ ap (λ s. wordAt (checksumOf (lastHeard s random m (heardOf m (s .id)))) 0) es;
+          sent-is = reply-sums (h .sent) (sentSince session past) (helloRecord (ourHello (planted h) random plan)) changeRecord
+              (lastOf (planted h) random m plan) (k .sent-is)
+              ∙ ap (λ x. map sumOf (take 8 (recordsHeard (planted h) random m x ++ sentSince session past))) (sym e)
+              ∙ ap (λ s. map sumOf (take 8 (recordsHeard s random m (heardOf m (s .id)) ++ sentSince session past))) es;
           window-is = k .window-is ∙ sym (ap (windowOf windowWidth) (accepted-unmarked (W.Reply (length reply)) refl refl));
           barred-is = λ f. true-false (barredIn past) f l;
         }
 
     barred-by : (c : List ℕ) (w : Window) → New h d r c w → (x : Description)
         → KeptAs session (answered random d r (W.Barred x) ∷ past) (barred (withWindow h w))
-    unfolding nextSealed nextClearNumber lastWritten barredIn nothingAgreed noSession
+    unfolding nextSealed nextClearNumber sentSince barredIn nothingAgreed noSession
     barred-by c w n x =
         record {
           session-is = λ f. true-false true refl f;
@@ -209,7 +213,7 @@ module _ (session : Session) (past : List Happened) (h : Handshake) (k : KeptAs 
           reply-is = λ f. true-false true refl f;
           sealed-is = k .sealed-is;
           clear-is = k .clear-is;
-          last-is = k .last-is;
+          sent-is = k .sent-is;
           window-is = window-marked c w n (W.Barred x) refl refl;
           barred-is = λ f. (refl, refl, refl, refl);
         }
@@ -254,7 +258,7 @@ module _ (session : Session) (past : List Happened) (h : Handshake) (k : KeptAs 
 
   -- a call that is refused
   refused-more : KeptAs session (refused ∷ past) h
-  unfolding lastReply keptGreeting nextSealed nextClearNumber lastWritten acceptedIn barredIn
+  unfolding lastReply keptGreeting nextSealed nextClearNumber sentSince acceptedIn barredIn
   refused-more =
       record {
         session-is = k .session-is;
@@ -263,14 +267,14 @@ module _ (session : Session) (past : List Happened) (h : Handshake) (k : KeptAs 
         reply-is = k .reply-is;
         sealed-is = k .sealed-is;
         clear-is = k .clear-is;
-        last-is = k .last-is;
+        sent-is = k .sent-is;
         window-is = k .window-is;
         barred-is = k .barred-is;
       }
 
   -- a record of ours
   wrote-more : (sealed : Bool) (bytes front : List ℕ) → front ≡ bytes → KeptAs session (wrote sealed front ∷ past) (afterAlert sealed h bytes)
-  unfolding lastReply keptGreeting nextSealed nextClearNumber lastWritten acceptedIn barredIn
+  unfolding lastReply keptGreeting nextSealed nextClearNumber sentSince acceptedIn barredIn
   wrote-more true bytes front e =
       record {
         session-is = k .session-is;
@@ -279,7 +283,7 @@ module _ (session : Session) (past : List Happened) (h : Handshake) (k : KeptAs 
         reply-is = k .reply-is;
         sealed-is = ap (λ n. n + 1) (k .sealed-is);
         clear-is = k .clear-is;
-        last-is = ap (λ b. wordAt (checksumOf b) 0) (sym e);
+        sent-is = record-sums (h .sent) (sentSince session past) bytes (k .sent-is) ∙ ap (λ b. map sumOf (take 8 (b ∷ sentSince session past))) (sym e);
         window-is = k .window-is;
         barred-is = k .barred-is;
       }
@@ -291,13 +295,13 @@ module _ (session : Session) (past : List Happened) (h : Handshake) (k : KeptAs 
         reply-is = k .reply-is;
         sealed-is = k .sealed-is;
         clear-is = ap (λ n. n + 1) (k .clear-is);
-        last-is = ap (λ b. wordAt (checksumOf b) 0) (sym e);
+        sent-is = record-sums (h .sent) (sentSince session past) bytes (k .sent-is) ∙ ap (λ b. map sumOf (take 8 (b ∷ sentSince session past))) (sym e);
         window-is = k .window-is;
         barred-is = k .barred-is;
       }
 
   closed-more : barredIn past ≡ false → KeptAs session (closed ∷ past) (withState h S.Closed)
-  unfolding lastReply keptGreeting nextSealed nextClearNumber lastWritten acceptedIn barredIn
+  unfolding lastReply keptGreeting nextSealed nextClearNumber sentSince acceptedIn barredIn
   closed-more l =
       record {
         session-is = k .session-is;
@@ -306,13 +310,13 @@ module _ (session : Session) (past : List Happened) (h : Handshake) (k : KeptAs 
         reply-is = k .reply-is;
         sealed-is = k .sealed-is;
         clear-is = k .clear-is;
-        last-is = k .last-is;
+        sent-is = k .sent-is;
         window-is = k .window-is;
         barred-is = λ f. true-false (barredIn past) f l;
       }
 
   started-more : barredIn past ≡ false → KeptAs session (started ∷ past) (reopened h)
-  unfolding lastReply keptGreeting nextSealed nextClearNumber lastWritten acceptedIn barredIn nothingKept
+  unfolding lastReply keptGreeting nextSealed nextClearNumber sentSince acceptedIn barredIn nothingKept
   started-more l =
       record {
         session-is = k .session-is;
@@ -321,7 +325,7 @@ module _ (session : Session) (past : List Happened) (h : Handshake) (k : KeptAs 
         reply-is = λ f. refl;
         sealed-is = k .sealed-is;
         clear-is = k .clear-is;
-        last-is = k .last-is;
+        sent-is = refl;
         window-is = ap emptied (k .window-is) ∙ fresh-means windowWidth;
         barred-is = λ f. true-false (barredIn past) f l;
       }
@@ -381,12 +385,8 @@ unfolding history after
 kept-all session [] past h k = k
 kept-all session (e ∷ es) past h k = kept-all session es (happening h e ∷ past) (next h e) (kept-more session past h k e)
 
-no-checksum : 0 ≡ wordAt (checksumOf []) 0
-unfolding checksumOf wordAt padded xorBlocks
-no-checksum = refl
-
 pub kept-fresh : (id secret : List ℕ) → KeptAs (sessionOf id secret) [] (freshWith id secret)
-unfolding lastReply keptGreeting nextSealed nextClearNumber lastWritten acceptedIn barredIn nothingKept nothingAgreed
+unfolding lastReply keptGreeting nextSealed nextClearNumber sentSince acceptedIn barredIn nothingKept nothingAgreed
 kept-fresh id secret =
     record {
       session-is = λ f. refl;
@@ -395,7 +395,7 @@ kept-fresh id secret =
       reply-is = λ f. refl;
       sealed-is = refl;
       clear-is = refl;
-      last-is = no-checksum;
+      sent-is = refl;
       window-is = fresh-means windowWidth;
       barred-is = λ f. true-false false f refl;
     }

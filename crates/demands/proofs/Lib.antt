@@ -4,6 +4,7 @@ pub mod Table
 pub mod Changes
 pub mod Calls
 pub mod Refusals
+pub mod SentRecords
 pub mod Kept
 pub mod Finished
 pub mod LeftOut

@@ -35,7 +35,7 @@ use Rattle.message.specs.declared.alert.Reading.the-variants as R
 use Rattle.message.specs.declared.finished.Verified.{Verified}
 use Rattle.message.specs.declared.finished.Verified.the-variants as F
 use Rattle.connection.specs.State.{kindOf, ruleOf}
-use Rattle.connection.specs.Handshake.{withState, withWindow, keptHello, keptReply}
+use Rattle.connection.specs.Handshake.{withState, withWindow, keptHello, keptReply, wasSent}
 use Rattle.connection.specs.Answer.{judged, refusing}
 use Rattle.connection.specs.Clear.{greetedBy, greetedAgain, changedBy, heardAlert, heardTo, heardBy, byLevel}
 use Rattle.connection.specs.Sealed.{unsealedBy, contentBy, alertedBy, alertedTo, sealedLevel, verifiedBy, verifiedTo, finishedIn}
@@ -217,21 +217,21 @@ module _ (h : Handshake) (random d : List ℕ) (r : Record) where
 
   -- clear alerts
   level-row : (a : Alert) → Hears (h .state) → r .protected ≡ false → r .content ≡ C.Alert → alertOf (fragmentOf d r) ≡ R.WellFormed a
-      → a .checksum ≡ h .last → (l : Level) → a .level ≡ l → Row h random d r (byLevel h l (a .description))
+      → wasSent h (a .checksum) ≡ true → (l : Level) → a .level ≡ l → Row h random d r (byLevel h l (a .description))
   level-row a s p c w k L.Warning e = row-clear-warning a s p c w k e
   level-row a s p c w k L.Critical e = row-clear-critical a s p c w k e
   level-row a s p c w k L.Fatal e = row-clear-fatal a s p c w k e
 
   checksum-row : (a : Alert) → Hears (h .state) → r .protected ≡ false → r .content ≡ C.Alert → alertOf (fragmentOf d r) ≡ R.WellFormed a
-      → (b : Bool) → eqb (a .checksum) (h .last) ≡ b
+      → (b : Bool) → wasSent h (a .checksum) ≡ b
       → Row h random d r (pick b (byLevel h (a .level) (a .description)) (refusing X.Checksum h))
-  checksum-row a s p c w true b = level-row a s p c w (eqb-true (a .checksum) (h .last) b) (a .level) refl
-  checksum-row a s p c w false b = row-checksum a s p c w (eqb-false (a .checksum) (h .last) b)
+  checksum-row a s p c w true b = level-row a s p c w b (a .level) refl
+  checksum-row a s p c w false b = row-checksum a s p c w b
 
   hear-row : Hears (h .state) → r .protected ≡ false → r .content ≡ C.Alert → (x : Reading) → alertOf (fragmentOf d r) ≡ x
       → Row h random d r (heardBy h x)
   hear-row s p c R.Malformed e = row-clear-malformed s p c e
-  hear-row s p c (R.WellFormed a) e = checksum-row a s p c e (eqb (a .checksum) (h .last)) refl
+  hear-row s p c (R.WellFormed a) e = checksum-row a s p c e (wasSent h (a .checksum)) refl
 
   -- protected records
   data-row : (w : Window) → New h d r (contentIn h (fragmentOf d r)) w → r .content ≡ C.Data
@@ -427,10 +427,10 @@ module _ (h : Handshake) (random d : List ℕ) (r : Record) where
   heard-as (inr es) p c x e = ruled-at S.Spec C.Alert false (beginsHello d r) es c p refl ∙ ap (heardBy h) e
 
   heard-level : (a : Alert) → Hears (h .state) → r .protected ≡ false → r .content ≡ C.Alert → alertOf (fragmentOf d r) ≡ R.WellFormed a
-      → a .checksum ≡ h .last → (l : Level) → a .level ≡ l → judgedRecord h random d r ≡ byLevel h l (a .description)
+      → wasSent h (a .checksum) ≡ true → (l : Level) → a .level ≡ l → judgedRecord h random d r ≡ byLevel h l (a .description)
   heard-level a s p c e k l el =
       heard-as s p c (R.WellFormed a) e
-      ∙ ap (λ b. pick b (byLevel h (a .level) (a .description)) (refusing X.Checksum h)) (eq-eqb (a .checksum) (h .last) k)
+      ∙ ap (λ b. pick b (byLevel h (a .level) (a .description)) (refusing X.Checksum h)) k
       ∙ ap (λ x. byLevel h x (a .description)) el
 
   guarded-is : Guarded h r → judgedRecord h random d r
@@ -529,7 +529,7 @@ module _ (h : Handshake) (random d : List ℕ) (r : Record) where
   row-is (row-clear-malformed s p c e) = heard-as s p c R.Malformed e
   row-is (row-checksum a s p c e n) =
       heard-as s p c (R.WellFormed a) e
-      ∙ ap (λ b. pick b (byLevel h (a .level) (a .description)) (refusing X.Checksum h)) (ne-eqb (a .checksum) (h .last) n)
+      ∙ ap (λ b. pick b (byLevel h (a .level) (a .description)) (refusing X.Checksum h)) n
   row-is (row-clear-warning a s p c e k l) = heard-level a s p c e k L.Warning l
   row-is (row-clear-critical a s p c e k l) = heard-level a s p c e k L.Critical l
   row-is (row-clear-fatal a s p c e k l) = heard-level a s p c e k L.Fatal l

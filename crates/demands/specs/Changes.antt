@@ -7,17 +7,15 @@ use mathlib.Core.Bool.{Bool, true, false}
 use mathlib.Core.List.{List}
 use Prim.Native.Nat.{ℕ, _+_}
 use lib.ListN.{length, take}
-use Rattle.digest.specs.Bytes.{wordAt}
-use Rattle.record.specs.Checksum.{checksumOf}
 use Rattle.record.specs.Window.{emptied}
 use Rattle.record.specs.declared.reader.Record.{Record}
 use Rattle.message.specs.Acceptance.{heardOf}
 use Rattle.message.specs.declared.acceptance.Plan.{Plan}
 use Rattle.message.specs.declared.acceptance.Heard.the-variants.{Accepted}
-use Rattle.record.specs.Protection as P
 use Rattle.record.specs.Protection.{countedOn}
 use Rattle.connection.specs.Send.{clearOn}
-use Rattle.connection.specs.Handshake.{withState, withWindow, withSent, barred, nothingKept, planted}
+use Rattle.connection.specs.Handshake.{withState, withWindow, withSent, forgetting, barred, planted}
+use Rattle.connection.specs.Sent.{sumOf}
 use Rattle.connection.specs.Judge.{judgedRecord, fragmentOf}
 use Rattle.connection.specs.Reply.{answeredWith}
 use Rattle.connection.specs.Send.{dataSent, dataOutput, alertSent, alertOutput}
@@ -55,12 +53,12 @@ RecordChangesOnly =
     → Leaves h random (fragmentOf d r) (r .protected) (r .number) (judgedRecord h random d r .handshake)
     (judgedRecord h random d r .answer)
 
--- our number, and the last record as it stands at the front of the output
+-- our number, and one record more that we sent, as it stands at the front of the output
 abbrev pub afterSending : Bool → Handshake → List ℕ → Handshake
 afterSending true h bytes =
-    withSent h (countedOn (h .protection)) (wordAt (checksumOf bytes) 0)
+    withSent h (countedOn (h .protection)) (sumOf bytes)
 afterSending false h bytes =
-    withSent h (clearOn (h .protection)) (wordAt (checksumOf bytes) 0)
+    withSent h (clearOn (h .protection)) (sumOf bytes)
 
 unfoldable pub DataChangesOnly : Type 0
 DataChangesOnly =
@@ -86,11 +84,4 @@ unfoldable pub StartChangesOnly : Type 0
 StartChangesOnly =
     (c : Connection) → startedOf c .outcome ≡ O.Done
     → startedOf c .connection .handshake
-    ≡ record {
-      state = S.Idle;
-      id = c .handshake .id;
-      expected = c .handshake .expected;
-      kept = nothingKept;
-      last = c .handshake .last;
-      protection = P.withWindow (c .handshake .protection) (emptied (c .handshake .protection .window));
-    }
+    ≡ withState (forgetting (c .handshake)) S.Idle

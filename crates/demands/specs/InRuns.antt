@@ -1,13 +1,11 @@
 -- Refusals that turn on what happened before, in a run from fresh, by its history alone: 9 by the keys of the last new
--- reply, 10 and 11 by the numbers accepted since the last change cipher spec that was taken, 14 by the last record
--- written, 17 by the very messages of the run. With `Table.TableHolds` and `Kept.KeptIsWhatHappened` behind it.
+-- reply, 10 and 11 by the numbers accepted since the last change cipher spec that was taken, 14 by the records
+-- written since the last start, 17 by the very messages of the run. With `Table.TableHolds` and `Kept.KeptIsWhatHappened` behind it.
 use mathlib.Core.Path.{_≡_}
 use mathlib.Core.Logic.{_↔_, _≢_}
 use mathlib.Core.Bool.{Bool, true, false}
 use mathlib.Core.List.{List, []}
 use Prim.Native.Nat.{ℕ, _+_, _≤_, _<_}
-use Rattle.digest.specs.Bytes.{wordAt}
-use Rattle.record.specs.Checksum.{checksumOf}
 use Rattle.record.specs.History.{accepted}
 use Rattle.record.specs.declared.header.Content.the-variants as C
 use Rattle.record.specs.declared.reader.Record.{Record}
@@ -28,7 +26,7 @@ use Rattle.demands.specs.Runs.{Call, stepOf, freshWith}
 use Rattle.demands.specs.Genuine.{Genuine, RecordOf}
 use Rattle.demands.specs.Table.{Guarded, Hears}
 use Rattle.demands.specs.Events.{Event, AllSound, Happened, connectionOf, after, history}
-use Rattle.demands.specs.Past.{keysIn, expectedIn, acceptedIn, lastWritten}
+use Rattle.demands.specs.Past.{keysIn, expectedIn, acceptedIn, sentSince, MatchesNone}
 use Rattle.demands.specs.LeftOut.{LeftOut, SameWithout}
 use Rattle.record.specs.Window.{windowWidth}
 
@@ -59,14 +57,15 @@ ProtectedInRuns =
     → ProtectedExactly (sessionOf id secret) (history (freshWith id secret) es []) d r
     (judgedRecord (after (freshWith id secret) es) random d r .answer)
 
--- 14: "A clear alert must carry the checksum of the last record that we sent, a resent reply not counted."
+-- 14: a clear alert is good "if it matches any of the last eight records that we sent since the last start, fewer if fewer
+-- were sent" (02)
 unfoldable pub ChecksumInRuns : Type 0
 ChecksumInRuns =
     (id secret : List ℕ) (es : List Event) → AllSound es → (random d : List ℕ) (r : Record) (a : Alert)
     → Hears (after (freshWith id secret) es .state) → r .protected ≡ false → r .content ≡ C.Alert
     → alertOf (fragmentOf d r) ≡ R.WellFormed a
     → (judgedRecord (after (freshWith id secret) es) random d r .answer ≡ Refused X.Checksum)
-    ↔ (a .checksum ≢ wordAt (checksumOf (lastWritten (sessionOf id secret) (history (freshWith id secret) es []))) 0)
+    ↔ MatchesNone (a .checksum) (sentSince (sessionOf id secret) (history (freshWith id secret) es []))
 
 -- 17: a genuine Finished that is answered so has other contents than the PRF over the messages of this run
 unfoldable pub WrongFinishedInRuns : Type 0

@@ -3,19 +3,19 @@
 -- fields.
 use mathlib.Core.Path.{_≡_}
 use mathlib.Core.Bool.{Bool, true, false}
-use mathlib.Core.List.{List, []}
+use mathlib.Core.List.{List, [], map}
 use Prim.Native.Nat.{ℕ}
-use Rattle.digest.specs.Bytes.{wordAt}
-use Rattle.record.specs.Checksum.{checksumOf}
+use lib.ListN.{take}
 use Rattle.record.specs.History.{windowOf}
 use Rattle.demands.specs.Runs.{freshWith}
 use Rattle.connection.specs.Handshake.{noSession, nothingKept, keptHello, keptReply, planted}
+use Rattle.connection.specs.Sent.{recordsKept, sumOf, sumsOf}
 use Rattle.connection.specs.Calls.{sessionOf}
 use Rattle.connection.specs.declared.handshake.Handshake.{Handshake}
 use Rattle.connection.specs.declared.handshake.Session.{Session}
 use Rattle.connection.specs.declared.state.State.the-variants.{Barred}
 use Rattle.demands.specs.Events.{Event, Happened, after, history}
-use Rattle.demands.specs.Past.{lastReply, keptGreeting, agreedFor, helloAs, replyFor, nextSealed, nextClearNumber, lastWritten, acceptedIn, barredIn, agreedOf, nothingAgreed, Agreed}
+use Rattle.demands.specs.Past.{lastReply, keptGreeting, agreedFor, helloAs, replyFor, nextSealed, nextClearNumber, sentSince, acceptedIn, barredIn, agreedOf, nothingAgreed, Agreed}
 use Rattle.record.specs.Window.{windowWidth}
 
 pub record KeptAs (session : Session) (past : List Happened) (h : Handshake) : Type 0 where
@@ -29,8 +29,8 @@ pub record KeptAs (session : Session) (past : List Happened) (h : Handshake) : T
   -- "After each new reply our data and protected alerts count on from 1, clear alerts from 2"
   pub sealed-is : h .protection .protected ≡ nextSealed past
   pub clear-is : h .protection .clear ≡ nextClearNumber past
-  -- "the checksum of the last record that we sent, a resent reply not counted"
-  pub last-is : h .last ≡ wordAt (checksumOf (lastWritten session past)) 0
+  -- the checksums of "the last eight records that we sent since the last start, fewer if fewer were sent"
+  pub sent-is : sumsOf (h .sent) ≡ map sumOf (take recordsKept (sentSince session past))
   -- the window holds exactly the numbers accepted since the last change cipher spec that was taken
   pub window-is : h .protection .window ≡ windowOf windowWidth (acceptedIn past)
   -- "required to forget any session identifiers, keys, and secrets" (002 10.2.2)

@@ -2,11 +2,12 @@
 -- what happened, never off what the connection keeps. Histories have the latest first.
 use mathlib.Core.Path.{_≡_}
 use mathlib.Core.Bool.{Bool, true, false}
-use mathlib.Core.List.{List, [], _∷_}
-use Prim.Native.Nat.{ℕ, _+_}
+use mathlib.Core.Logic.{_≢_}
+use mathlib.Core.List.{List, [], _∷_, _++_}
+use Prim.Native.Nat.{ℕ, _+_, _<_}
 use lib.Dec.{eqb}
 use Rattle.digest.specs.Pick.{pick}
-use lib.ListN.{replicate}
+use lib.ListN.{length, getD, replicate}
 use Rattle.digest.specs.declared.mac.Mac.{Mac}
 use Rattle.digest.specs.declared.mac.Mac.the-variants.{Sha80}
 use Rattle.message.specs.Acceptance.{heardOf}
@@ -15,7 +16,8 @@ use Rattle.message.specs.declared.acceptance.Heard.the-variants as H
 use Rattle.record.specs.declared.reader.Record.{Record}
 use Rattle.connection.specs.Answer.{answerNumber}
 use Rattle.connection.specs.Judge.{fragmentOf}
-use Rattle.connection.specs.Reply.{clientRandom, expectedOf, replyTo, lastOf}
+use Rattle.connection.specs.Reply.{clientRandom, expectedOf, replyTo, lastOf, ourHello, helloRecord, changeRecord}
+use Rattle.connection.specs.Sent.{recordsKept, sumOf}
 use Rattle.connection.specs.declared.answer.Answer.{Answer}
 use Rattle.connection.specs.declared.answer.Answer.the-variants.{Nothing, Reply, Resent, Spec, Open, Again, Data, Warning, Critical, Fatal, Barred, Refused}
 use Rattle.connection.specs.declared.handshake.Handshake.{Handshake}
@@ -184,22 +186,27 @@ nextClearNumber (closed ∷ past) = nextClearNumber past
 nextClearNumber (started ∷ past) = nextClearNumber past
 nextClearNumber (refused ∷ past) = nextClearNumber past
 
--- "the last record that we sent, a resent reply not counted": of a new reply it is our protected Finished; "no record
--- gives 0"
-abbrev pub lastHeard : Session → List ℕ → List ℕ → Heard → List ℕ
-lastHeard session random m (H.Accepted plan) = lastOf session random m plan
-lastHeard session random m (H.Unacceptable condition) = []
-lastHeard session random m (H.Malformed fault) = []
+-- the three records of a new reply, the latest first: Finished, change cipher spec, ServerHello
+abbrev pub recordsHeard : Session → List ℕ → List ℕ → Heard → List (List ℕ)
+recordsHeard session random m (H.Accepted plan) =
+    lastOf session random m plan ∷ changeRecord ∷ helloRecord (ourHello session random plan) ∷ []
+recordsHeard session random m (H.Unacceptable condition) = []
+recordsHeard session random m (H.Malformed fault) = []
 
-unfoldable pub lastWritten : Session → List Happened → List ℕ
-lastWritten session [] = []
-lastWritten session (answered random d r a ∷ past) =
-    pick (isReply a) (lastHeard session random (fragmentOf d r) (heardOf (fragmentOf d r) (session .id)))
-    (lastWritten session past)
-lastWritten session (wrote sealed bytes ∷ past) = bytes
-lastWritten session (closed ∷ past) = lastWritten session past
-lastWritten session (started ∷ past) = lastWritten session past
-lastWritten session (refused ∷ past) = lastWritten session past
+-- the "records that we sent since the last start", the latest first, a resent reply not counted
+unfoldable pub sentSince : Session → List Happened → List (List ℕ)
+sentSince session [] = []
+sentSince session (answered random d r a ∷ past) =
+    pick (isReply a) (recordsHeard session random (fragmentOf d r) (heardOf (fragmentOf d r) (session .id)) ++ sentSince session past)
+    (sentSince session past)
+sentSince session (wrote sealed bytes ∷ past) = bytes ∷ sentSince session past
+sentSince session (closed ∷ past) = sentSince session past
+sentSince session (started ∷ past) = []
+sentSince session (refused ∷ past) = sentSince session past
+
+-- a checksum that none of the last eight of them has, fewer if fewer were sent
+abbrev pub MatchesNone : ℕ → List (List ℕ) → Type 0
+MatchesNone sum sent = (i : ℕ) → i < recordsKept → i < length sent → sum ≢ sumOf (getD sent i [])
 
 -- ---- what was accepted
 

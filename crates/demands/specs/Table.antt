@@ -27,7 +27,7 @@ use Rattle.message.specs.declared.alert.Alert.{Alert}
 use Rattle.message.specs.declared.alert.Level.the-variants as L
 use Rattle.message.specs.declared.alert.Reading.the-variants as R
 use Rattle.message.specs.declared.finished.Verified.the-variants as F
-use Rattle.connection.specs.Handshake.{withState, withWindow, barred, keptHello, keptReply, planted}
+use Rattle.connection.specs.Handshake.{withState, withWindow, barred, keptHello, keptReply, planted, wasSent}
 use Rattle.connection.specs.Answer.{judged, refusing}
 use Rattle.connection.specs.Reply.{replyTo, answeredWith}
 use Rattle.connection.specs.Judge.{judgedRecord, fragmentOf}
@@ -179,16 +179,16 @@ pub data Row (h : Handshake) (random d : List ℕ) (r : Record) : Judged → Typ
       → alertOf (fragmentOf d r) ≡ R.Malformed
       → Row h random d r (refusing X.Malformed h)
   row-checksum : (a : Alert) → Hears (h .state) → r .protected ≡ false → r .content ≡ C.Alert
-      → alertOf (fragmentOf d r) ≡ R.WellFormed a → a .checksum ≢ h .last
+      → alertOf (fragmentOf d r) ≡ R.WellFormed a → wasSent h (a .checksum) ≡ false
       → Row h random d r (refusing X.Checksum h)
   row-clear-warning : (a : Alert) → Hears (h .state) → r .protected ≡ false → r .content ≡ C.Alert
-      → alertOf (fragmentOf d r) ≡ R.WellFormed a → a .checksum ≡ h .last → a .level ≡ L.Warning
+      → alertOf (fragmentOf d r) ≡ R.WellFormed a → wasSent h (a .checksum) ≡ true → a .level ≡ L.Warning
       → Row h random d r (judged (W.Warning (a .description)) h)
   row-clear-critical : (a : Alert) → Hears (h .state) → r .protected ≡ false → r .content ≡ C.Alert
-      → alertOf (fragmentOf d r) ≡ R.WellFormed a → a .checksum ≡ h .last → a .level ≡ L.Critical
+      → alertOf (fragmentOf d r) ≡ R.WellFormed a → wasSent h (a .checksum) ≡ true → a .level ≡ L.Critical
       → Row h random d r (judged (W.Critical (a .description)) (withState h Closed))
   row-clear-fatal : (a : Alert) → Hears (h .state) → r .protected ≡ false → r .content ≡ C.Alert
-      → alertOf (fragmentOf d r) ≡ R.WellFormed a → a .checksum ≡ h .last → a .level ≡ L.Fatal
+      → alertOf (fragmentOf d r) ≡ R.WellFormed a → wasSent h (a .checksum) ≡ true → a .level ≡ L.Fatal
       → Row h random d r (judged (W.Fatal (a .description)) (withState h Closed))
   -- 9: "code not right"; 10: "too old"; 11: "repeated"
   row-forged : Guarded h r → ((c : List ℕ) → Sealed (keysOf h) d r c → ⊥) → Row h random d r (refusing X.Forged h)

@@ -8,7 +8,7 @@ ghost use Rattle.lent.specs.Saved.{loaded};
 ghost use Rattle.lent.specs.Calls.{dataResult, dataState, dataOut, alertResult, alertState, alertOut};
 ghost use Rattle.lent.specs.Calls.{receiveResult, receiveState, receiveTally, receiveAnswers, receiveOut};
 
-// A fresh connection of a planted session, in 458 bytes. Refusal: 16.
+// A fresh connection of a planted session, in 490 bytes. Refusal: 16.
 #[no_mangle]
 pub extern "C" fn gateway_fresh(id: &[u8], secret: &[u8], state: &mut [u8]) -> u64
     ensures exact { λ r. ⌜ r ≡ freshResult (now (id .entry)) (now (secret .entry)) (length (now (state .entry))) ⌝ }

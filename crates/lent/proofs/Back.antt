@@ -3,7 +3,7 @@
 use mathlib.Core.Path.{_≡_, refl, sym, _∙_, ap, ap₂, subst}
 use mathlib.Core.Bool.{Bool, true, false}
 use mathlib.Core.List.{List, [], _∷_, _++_}
-use Prim.Native.Nat.{ℕ, zero, suc, _+_, _*_, _<_}
+use Prim.Native.Nat.{ℕ, zero, suc, _+_, _*_, _≤_, _<_}
 use native.Mathlib.Omega.{arith}
 use lib.ListN.{length, take, drop, getD, length-append}
 use lib.Seq.{take-at, drop-at, take-add, drop-drop, take-all}
@@ -19,11 +19,12 @@ use Rattle.connection.specs.declared.state.State.the-variants.{Idle, Replied, S
 use Rattle.connection.specs.declared.handshake.Handshake.{Handshake}
 use Rattle.connection.specs.declared.calls.Connection.{Connection}
 use Rattle.lent.specs.Fields.{joined, bytesIn, twoIn, eightIn}
-use Rattle.lent.specs.Saved.{stateSize, mark, stateNumber, savedHandshake, savedOf, isSaved, stateNumbered, macNumbered, protectionIn, keysIn, keptIn, windowIn, handshakeIn, connectionIn, Is, No, loaded, Ranged, Bytes}
+use Rattle.lent.specs.Saved.{stateSize, mark, stateNumber, savedHandshake, savedOf, isSaved, stateNumbered, macNumbered, protectionIn, keysIn, keptIn, windowIn, sentIn, sumFields, handshakeIn, connectionIn, Is, No, loaded, Ranged, Bytes}
 use Rattle.lent.proofs.Laying.{joined-append, joined-one, joined-none, length-eight}
 use Rattle.lent.proofs.Reading.{part-length}
 use Rattle.lent.proofs.Calling.{both-true}
-use Rattle.lent.proofs.Numbers.{byte-back, two-back, four-back, eight-back, byte-part, two-there, four-there, eight-there, word-below, eight-below}
+use Rattle.lent.proofs.Numbers.{byte-back, two-back, four-back, eight-back, byte-part, two-there, four-there, eight-there, word-below, eight-below, word-of}
+use Rattle.digest.proofs.Rounds.{word-part}
 
 -- ---- loading what was saved
 
@@ -70,6 +71,44 @@ mac-one : (mac : Mac) → pick (eqb (numberOf mac) 2) true (eqb (numberOf mac) 3
 mac-one Sha80 = refl
 mac-one Sha = refl
 
+-- eight checksums in 32 bytes, and read back
+sums-size : (sums : List ℕ) → length (joined (sumFields sums)) ≡ 32
+unfolding joined
+sums-size sums = refl
+
+eight-of : (l : List ℕ) → length l ≡ 8
+    → getD l 0 0 ∷ getD l 1 0 ∷ getD l 2 0 ∷ getD l 3 0 ∷ getD l 4 0 ∷ getD l 5 0 ∷ getD l 6 0 ∷ getD l 7 0 ∷ [] ≡ l
+eight-of [] e = absurd (omega arith)
+eight-of (a ∷ []) e = absurd (omega arith)
+eight-of (a ∷ b ∷ []) e = absurd (omega arith)
+eight-of (a ∷ b ∷ c ∷ []) e = absurd (omega arith)
+eight-of (a ∷ b ∷ c ∷ d ∷ []) e = absurd (omega arith)
+eight-of (a ∷ b ∷ c ∷ d ∷ f ∷ []) e = absurd (omega arith)
+eight-of (a ∷ b ∷ c ∷ d ∷ f ∷ g ∷ []) e = absurd (omega arith)
+eight-of (a ∷ b ∷ c ∷ d ∷ f ∷ g ∷ h ∷ []) e = absurd (omega arith)
+eight-of (a ∷ b ∷ c ∷ d ∷ f ∷ g ∷ h ∷ k ∷ []) e = refl
+eight-of (a ∷ b ∷ c ∷ d ∷ f ∷ g ∷ h ∷ k ∷ x ∷ more) e = absurd (omega arith)
+
+sums-words : (sums : List ℕ) → ((k : ℕ) → getD sums k 0 < 4294967296) → let w = wordAt (joined (sumFields sums)) in
+    w 0 ∷ w 4 ∷ w 8 ∷ w 12 ∷ w 16 ∷ w 20 ∷ w 24 ∷ w 28 ∷ []
+    ≡ getD sums 0 0 ∷ getD sums 1 0 ∷ getD sums 2 0 ∷ getD sums 3 0 ∷ getD sums 4 0 ∷ getD sums 5 0 ∷ getD sums 6 0 ∷ getD sums 7 0 ∷ []
+unfolding joined wordAt
+sums-words sums k =
+    λ i. word-of (getD sums 0 0) (k 0) i ∷ word-of (getD sums 1 0) (k 1) i ∷ word-of (getD sums 2 0) (k 2) i
+    ∷ word-of (getD sums 3 0) (k 3) i ∷ word-of (getD sums 4 0) (k 4) i ∷ word-of (getD sums 5 0) (k 5) i
+    ∷ word-of (getD sums 6 0) (k 6) i ∷ word-of (getD sums 7 0) (k 7) i ∷ []
+
+sums-back : (b sums : List ℕ) → length sums ≡ 8 → ((k : ℕ) → getD sums k 0 < 4294967296) → bytesIn b 458 32 ≡ joined (sumFields sums)
+    → wordAt b 458 ∷ wordAt b 462 ∷ wordAt b 466 ∷ wordAt b 470 ∷ wordAt b 474 ∷ wordAt b 478 ∷ wordAt b 482 ∷ wordAt b 486 ∷ [] ≡ sums
+sums-back b sums l k e =
+    (λ i. at 0 (omega arith) i ∷ at 4 (omega arith) i ∷ at 8 (omega arith) i ∷ at 12 (omega arith) i
+    ∷ at 16 (omega arith) i ∷ at 20 (omega arith) i ∷ at 24 (omega arith) i ∷ at 28 (omega arith) i ∷ [])
+    ∙ sums-words sums k
+    ∙ eight-of sums l
+  where
+    at : (n : ℕ) → n + 3 < 32 → wordAt b (458 + n) ≡ wordAt (joined (sumFields sums)) n
+    at n h = sym (word-part b 458 32 n h) ∙ ap (λ s. wordAt s n) e
+
 -- what stands at each place of a saved connection
 record Placed (h : Handshake) (b : List ℕ) : Type 0 where
   mark : bytesIn b 0 4 ≡ bytes4 mark
@@ -89,8 +128,9 @@ record Placed (h : Handshake) (b : List ℕ) : Type 0 where
   marks : bytesIn b 437 8 ≡ bytes8 (h .protection .window .marks)
   protected : bytesIn b 445 4 ≡ bytes4 (h .protection .protected)
   clear : bytesIn b 449 4 ≡ bytes4 (h .protection .clear)
-  last : bytesIn b 453 4 ≡ bytes4 (h .last)
+  count : bytesIn b 453 4 ≡ bytes4 (h .sent .count)
   width : bytesIn b 457 1 ≡ (h .protection .window .width ∷ [])
+  sums : bytesIn b 458 32 ≡ joined (sumFields (h .sent .checksums))
   all : length b ≡ stateSize
 
 places : (c : Connection) → Ranged c → Placed (c .handshake) (savedOf c)
@@ -115,33 +155,35 @@ places c r =
     let n15 = longer (bytes4 mark ∷ (stateNumber (h .state) ∷ []) ∷ h .id ∷ h .protection .keys .secret ∷ h .protection .keys .server ∷ h .protection .keys .client ∷ (numberOf (h .protection .keys .mac) ∷ []) ∷ (h .protection .keys .refresh ∷ []) ∷ h .expected ∷ h .kept .hello ∷ bytes8 (h .kept .heard) ∷ h .kept .reply ∷ bytes8 (h .kept .size) ∷ bytes2 (h .protection .window .highest) ∷ []) (bytes8 (h .protection .window .marks)) 437 8 n14 (length-eight (h .protection .window .marks)) in
     let n16 = longer (bytes4 mark ∷ (stateNumber (h .state) ∷ []) ∷ h .id ∷ h .protection .keys .secret ∷ h .protection .keys .server ∷ h .protection .keys .client ∷ (numberOf (h .protection .keys .mac) ∷ []) ∷ (h .protection .keys .refresh ∷ []) ∷ h .expected ∷ h .kept .hello ∷ bytes8 (h .kept .heard) ∷ h .kept .reply ∷ bytes8 (h .kept .size) ∷ bytes2 (h .protection .window .highest) ∷ bytes8 (h .protection .window .marks) ∷ []) (bytes4 (h .protection .protected)) 445 4 n15 (refl) in
     let n17 = longer (bytes4 mark ∷ (stateNumber (h .state) ∷ []) ∷ h .id ∷ h .protection .keys .secret ∷ h .protection .keys .server ∷ h .protection .keys .client ∷ (numberOf (h .protection .keys .mac) ∷ []) ∷ (h .protection .keys .refresh ∷ []) ∷ h .expected ∷ h .kept .hello ∷ bytes8 (h .kept .heard) ∷ h .kept .reply ∷ bytes8 (h .kept .size) ∷ bytes2 (h .protection .window .highest) ∷ bytes8 (h .protection .window .marks) ∷ bytes4 (h .protection .protected) ∷ []) (bytes4 (h .protection .clear)) 449 4 n16 (refl) in
-    let n18 = longer (bytes4 mark ∷ (stateNumber (h .state) ∷ []) ∷ h .id ∷ h .protection .keys .secret ∷ h .protection .keys .server ∷ h .protection .keys .client ∷ (numberOf (h .protection .keys .mac) ∷ []) ∷ (h .protection .keys .refresh ∷ []) ∷ h .expected ∷ h .kept .hello ∷ bytes8 (h .kept .heard) ∷ h .kept .reply ∷ bytes8 (h .kept .size) ∷ bytes2 (h .protection .window .highest) ∷ bytes8 (h .protection .window .marks) ∷ bytes4 (h .protection .protected) ∷ bytes4 (h .protection .clear) ∷ []) (bytes4 (h .last)) 453 4 n17 (refl) in
-    let n19 = longer (bytes4 mark ∷ (stateNumber (h .state) ∷ []) ∷ h .id ∷ h .protection .keys .secret ∷ h .protection .keys .server ∷ h .protection .keys .client ∷ (numberOf (h .protection .keys .mac) ∷ []) ∷ (h .protection .keys .refresh ∷ []) ∷ h .expected ∷ h .kept .hello ∷ bytes8 (h .kept .heard) ∷ h .kept .reply ∷ bytes8 (h .kept .size) ∷ bytes2 (h .protection .window .highest) ∷ bytes8 (h .protection .window .marks) ∷ bytes4 (h .protection .protected) ∷ bytes4 (h .protection .clear) ∷ bytes4 (h .last) ∷ []) ((h .protection .window .width ∷ [])) 457 1 n18 (refl) in
+    let n18 = longer (bytes4 mark ∷ (stateNumber (h .state) ∷ []) ∷ h .id ∷ h .protection .keys .secret ∷ h .protection .keys .server ∷ h .protection .keys .client ∷ (numberOf (h .protection .keys .mac) ∷ []) ∷ (h .protection .keys .refresh ∷ []) ∷ h .expected ∷ h .kept .hello ∷ bytes8 (h .kept .heard) ∷ h .kept .reply ∷ bytes8 (h .kept .size) ∷ bytes2 (h .protection .window .highest) ∷ bytes8 (h .protection .window .marks) ∷ bytes4 (h .protection .protected) ∷ bytes4 (h .protection .clear) ∷ []) (bytes4 (h .sent .count)) 453 4 n17 (refl) in
+    let n19 = longer (bytes4 mark ∷ (stateNumber (h .state) ∷ []) ∷ h .id ∷ h .protection .keys .secret ∷ h .protection .keys .server ∷ h .protection .keys .client ∷ (numberOf (h .protection .keys .mac) ∷ []) ∷ (h .protection .keys .refresh ∷ []) ∷ h .expected ∷ h .kept .hello ∷ bytes8 (h .kept .heard) ∷ h .kept .reply ∷ bytes8 (h .kept .size) ∷ bytes2 (h .protection .window .highest) ∷ bytes8 (h .protection .window .marks) ∷ bytes4 (h .protection .protected) ∷ bytes4 (h .protection .clear) ∷ bytes4 (h .sent .count) ∷ []) ((h .protection .window .width ∷ [])) 457 1 n18 (refl) in
+    let n20 = longer (bytes4 mark ∷ (stateNumber (h .state) ∷ []) ∷ h .id ∷ h .protection .keys .secret ∷ h .protection .keys .server ∷ h .protection .keys .client ∷ (numberOf (h .protection .keys .mac) ∷ []) ∷ (h .protection .keys .refresh ∷ []) ∷ h .expected ∷ h .kept .hello ∷ bytes8 (h .kept .heard) ∷ h .kept .reply ∷ bytes8 (h .kept .size) ∷ bytes2 (h .protection .window .highest) ∷ bytes8 (h .protection .window .marks) ∷ bytes4 (h .protection .protected) ∷ bytes4 (h .protection .clear) ∷ bytes4 (h .sent .count) ∷ (h .protection .window .width ∷ []) ∷ []) (joined (sumFields (h .sent .checksums))) 458 32 n19 (sums-size (h .sent .checksums)) in
     record {
-      mark = placed [] (bytes4 mark) ((stateNumber (h .state) ∷ []) ∷ h .id ∷ h .protection .keys .secret ∷ h .protection .keys .server ∷ h .protection .keys .client ∷ (numberOf (h .protection .keys .mac) ∷ []) ∷ (h .protection .keys .refresh ∷ []) ∷ h .expected ∷ h .kept .hello ∷ bytes8 (h .kept .heard) ∷ h .kept .reply ∷ bytes8 (h .kept .size) ∷ bytes2 (h .protection .window .highest) ∷ bytes8 (h .protection .window .marks) ∷ bytes4 (h .protection .protected) ∷ bytes4 (h .protection .clear) ∷ bytes4 (h .last) ∷ (h .protection .window .width ∷ []) ∷ []) 0 4 n0 (refl);
-      state = placed (bytes4 mark ∷ []) ((stateNumber (h .state) ∷ [])) (h .id ∷ h .protection .keys .secret ∷ h .protection .keys .server ∷ h .protection .keys .client ∷ (numberOf (h .protection .keys .mac) ∷ []) ∷ (h .protection .keys .refresh ∷ []) ∷ h .expected ∷ h .kept .hello ∷ bytes8 (h .kept .heard) ∷ h .kept .reply ∷ bytes8 (h .kept .size) ∷ bytes2 (h .protection .window .highest) ∷ bytes8 (h .protection .window .marks) ∷ bytes4 (h .protection .protected) ∷ bytes4 (h .protection .clear) ∷ bytes4 (h .last) ∷ (h .protection .window .width ∷ []) ∷ []) 4 1 n1 (refl);
-      id = placed (bytes4 mark ∷ (stateNumber (h .state) ∷ []) ∷ []) (h .id) (h .protection .keys .secret ∷ h .protection .keys .server ∷ h .protection .keys .client ∷ (numberOf (h .protection .keys .mac) ∷ []) ∷ (h .protection .keys .refresh ∷ []) ∷ h .expected ∷ h .kept .hello ∷ bytes8 (h .kept .heard) ∷ h .kept .reply ∷ bytes8 (h .kept .size) ∷ bytes2 (h .protection .window .highest) ∷ bytes8 (h .protection .window .marks) ∷ bytes4 (h .protection .protected) ∷ bytes4 (h .protection .clear) ∷ bytes4 (h .last) ∷ (h .protection .window .width ∷ []) ∷ []) 5 8 n2 (r .id);
-      secret = placed (bytes4 mark ∷ (stateNumber (h .state) ∷ []) ∷ h .id ∷ []) (h .protection .keys .secret) (h .protection .keys .server ∷ h .protection .keys .client ∷ (numberOf (h .protection .keys .mac) ∷ []) ∷ (h .protection .keys .refresh ∷ []) ∷ h .expected ∷ h .kept .hello ∷ bytes8 (h .kept .heard) ∷ h .kept .reply ∷ bytes8 (h .kept .size) ∷ bytes2 (h .protection .window .highest) ∷ bytes8 (h .protection .window .marks) ∷ bytes4 (h .protection .protected) ∷ bytes4 (h .protection .clear) ∷ bytes4 (h .last) ∷ (h .protection .window .width ∷ []) ∷ []) 13 20 n3 (r .secret);
-      server = placed (bytes4 mark ∷ (stateNumber (h .state) ∷ []) ∷ h .id ∷ h .protection .keys .secret ∷ []) (h .protection .keys .server) (h .protection .keys .client ∷ (numberOf (h .protection .keys .mac) ∷ []) ∷ (h .protection .keys .refresh ∷ []) ∷ h .expected ∷ h .kept .hello ∷ bytes8 (h .kept .heard) ∷ h .kept .reply ∷ bytes8 (h .kept .size) ∷ bytes2 (h .protection .window .highest) ∷ bytes8 (h .protection .window .marks) ∷ bytes4 (h .protection .protected) ∷ bytes4 (h .protection .clear) ∷ bytes4 (h .last) ∷ (h .protection .window .width ∷ []) ∷ []) 33 16 n4 (r .server);
-      client = placed (bytes4 mark ∷ (stateNumber (h .state) ∷ []) ∷ h .id ∷ h .protection .keys .secret ∷ h .protection .keys .server ∷ []) (h .protection .keys .client) ((numberOf (h .protection .keys .mac) ∷ []) ∷ (h .protection .keys .refresh ∷ []) ∷ h .expected ∷ h .kept .hello ∷ bytes8 (h .kept .heard) ∷ h .kept .reply ∷ bytes8 (h .kept .size) ∷ bytes2 (h .protection .window .highest) ∷ bytes8 (h .protection .window .marks) ∷ bytes4 (h .protection .protected) ∷ bytes4 (h .protection .clear) ∷ bytes4 (h .last) ∷ (h .protection .window .width ∷ []) ∷ []) 49 16 n5 (r .client);
-      mac = placed (bytes4 mark ∷ (stateNumber (h .state) ∷ []) ∷ h .id ∷ h .protection .keys .secret ∷ h .protection .keys .server ∷ h .protection .keys .client ∷ []) ((numberOf (h .protection .keys .mac) ∷ [])) ((h .protection .keys .refresh ∷ []) ∷ h .expected ∷ h .kept .hello ∷ bytes8 (h .kept .heard) ∷ h .kept .reply ∷ bytes8 (h .kept .size) ∷ bytes2 (h .protection .window .highest) ∷ bytes8 (h .protection .window .marks) ∷ bytes4 (h .protection .protected) ∷ bytes4 (h .protection .clear) ∷ bytes4 (h .last) ∷ (h .protection .window .width ∷ []) ∷ []) 65 1 n6 (refl);
-      refresh = placed (bytes4 mark ∷ (stateNumber (h .state) ∷ []) ∷ h .id ∷ h .protection .keys .secret ∷ h .protection .keys .server ∷ h .protection .keys .client ∷ (numberOf (h .protection .keys .mac) ∷ []) ∷ []) ((h .protection .keys .refresh ∷ [])) (h .expected ∷ h .kept .hello ∷ bytes8 (h .kept .heard) ∷ h .kept .reply ∷ bytes8 (h .kept .size) ∷ bytes2 (h .protection .window .highest) ∷ bytes8 (h .protection .window .marks) ∷ bytes4 (h .protection .protected) ∷ bytes4 (h .protection .clear) ∷ bytes4 (h .last) ∷ (h .protection .window .width ∷ []) ∷ []) 66 1 n7 (refl);
-      expected = placed (bytes4 mark ∷ (stateNumber (h .state) ∷ []) ∷ h .id ∷ h .protection .keys .secret ∷ h .protection .keys .server ∷ h .protection .keys .client ∷ (numberOf (h .protection .keys .mac) ∷ []) ∷ (h .protection .keys .refresh ∷ []) ∷ []) (h .expected) (h .kept .hello ∷ bytes8 (h .kept .heard) ∷ h .kept .reply ∷ bytes8 (h .kept .size) ∷ bytes2 (h .protection .window .highest) ∷ bytes8 (h .protection .window .marks) ∷ bytes4 (h .protection .protected) ∷ bytes4 (h .protection .clear) ∷ bytes4 (h .last) ∷ (h .protection .window .width ∷ []) ∷ []) 67 12 n8 (r .expected);
-      hello = placed (bytes4 mark ∷ (stateNumber (h .state) ∷ []) ∷ h .id ∷ h .protection .keys .secret ∷ h .protection .keys .server ∷ h .protection .keys .client ∷ (numberOf (h .protection .keys .mac) ∷ []) ∷ (h .protection .keys .refresh ∷ []) ∷ h .expected ∷ []) (h .kept .hello) (bytes8 (h .kept .heard) ∷ h .kept .reply ∷ bytes8 (h .kept .size) ∷ bytes2 (h .protection .window .highest) ∷ bytes8 (h .protection .window .marks) ∷ bytes4 (h .protection .protected) ∷ bytes4 (h .protection .clear) ∷ bytes4 (h .last) ∷ (h .protection .window .width ∷ []) ∷ []) 79 256 n9 (r .hello);
-      heard = placed (bytes4 mark ∷ (stateNumber (h .state) ∷ []) ∷ h .id ∷ h .protection .keys .secret ∷ h .protection .keys .server ∷ h .protection .keys .client ∷ (numberOf (h .protection .keys .mac) ∷ []) ∷ (h .protection .keys .refresh ∷ []) ∷ h .expected ∷ h .kept .hello ∷ []) (bytes8 (h .kept .heard)) (h .kept .reply ∷ bytes8 (h .kept .size) ∷ bytes2 (h .protection .window .highest) ∷ bytes8 (h .protection .window .marks) ∷ bytes4 (h .protection .protected) ∷ bytes4 (h .protection .clear) ∷ bytes4 (h .last) ∷ (h .protection .window .width ∷ []) ∷ []) 335 8 n10 (length-eight (h .kept .heard));
-      reply = placed (bytes4 mark ∷ (stateNumber (h .state) ∷ []) ∷ h .id ∷ h .protection .keys .secret ∷ h .protection .keys .server ∷ h .protection .keys .client ∷ (numberOf (h .protection .keys .mac) ∷ []) ∷ (h .protection .keys .refresh ∷ []) ∷ h .expected ∷ h .kept .hello ∷ bytes8 (h .kept .heard) ∷ []) (h .kept .reply) (bytes8 (h .kept .size) ∷ bytes2 (h .protection .window .highest) ∷ bytes8 (h .protection .window .marks) ∷ bytes4 (h .protection .protected) ∷ bytes4 (h .protection .clear) ∷ bytes4 (h .last) ∷ (h .protection .window .width ∷ []) ∷ []) 343 84 n11 (r .reply);
-      size = placed (bytes4 mark ∷ (stateNumber (h .state) ∷ []) ∷ h .id ∷ h .protection .keys .secret ∷ h .protection .keys .server ∷ h .protection .keys .client ∷ (numberOf (h .protection .keys .mac) ∷ []) ∷ (h .protection .keys .refresh ∷ []) ∷ h .expected ∷ h .kept .hello ∷ bytes8 (h .kept .heard) ∷ h .kept .reply ∷ []) (bytes8 (h .kept .size)) (bytes2 (h .protection .window .highest) ∷ bytes8 (h .protection .window .marks) ∷ bytes4 (h .protection .protected) ∷ bytes4 (h .protection .clear) ∷ bytes4 (h .last) ∷ (h .protection .window .width ∷ []) ∷ []) 427 8 n12 (length-eight (h .kept .size));
-      highest = placed (bytes4 mark ∷ (stateNumber (h .state) ∷ []) ∷ h .id ∷ h .protection .keys .secret ∷ h .protection .keys .server ∷ h .protection .keys .client ∷ (numberOf (h .protection .keys .mac) ∷ []) ∷ (h .protection .keys .refresh ∷ []) ∷ h .expected ∷ h .kept .hello ∷ bytes8 (h .kept .heard) ∷ h .kept .reply ∷ bytes8 (h .kept .size) ∷ []) (bytes2 (h .protection .window .highest)) (bytes8 (h .protection .window .marks) ∷ bytes4 (h .protection .protected) ∷ bytes4 (h .protection .clear) ∷ bytes4 (h .last) ∷ (h .protection .window .width ∷ []) ∷ []) 435 2 n13 (refl);
-      marks = placed (bytes4 mark ∷ (stateNumber (h .state) ∷ []) ∷ h .id ∷ h .protection .keys .secret ∷ h .protection .keys .server ∷ h .protection .keys .client ∷ (numberOf (h .protection .keys .mac) ∷ []) ∷ (h .protection .keys .refresh ∷ []) ∷ h .expected ∷ h .kept .hello ∷ bytes8 (h .kept .heard) ∷ h .kept .reply ∷ bytes8 (h .kept .size) ∷ bytes2 (h .protection .window .highest) ∷ []) (bytes8 (h .protection .window .marks)) (bytes4 (h .protection .protected) ∷ bytes4 (h .protection .clear) ∷ bytes4 (h .last) ∷ (h .protection .window .width ∷ []) ∷ []) 437 8 n14 (length-eight (h .protection .window .marks));
-      protected = placed (bytes4 mark ∷ (stateNumber (h .state) ∷ []) ∷ h .id ∷ h .protection .keys .secret ∷ h .protection .keys .server ∷ h .protection .keys .client ∷ (numberOf (h .protection .keys .mac) ∷ []) ∷ (h .protection .keys .refresh ∷ []) ∷ h .expected ∷ h .kept .hello ∷ bytes8 (h .kept .heard) ∷ h .kept .reply ∷ bytes8 (h .kept .size) ∷ bytes2 (h .protection .window .highest) ∷ bytes8 (h .protection .window .marks) ∷ []) (bytes4 (h .protection .protected)) (bytes4 (h .protection .clear) ∷ bytes4 (h .last) ∷ (h .protection .window .width ∷ []) ∷ []) 445 4 n15 (refl);
-      clear = placed (bytes4 mark ∷ (stateNumber (h .state) ∷ []) ∷ h .id ∷ h .protection .keys .secret ∷ h .protection .keys .server ∷ h .protection .keys .client ∷ (numberOf (h .protection .keys .mac) ∷ []) ∷ (h .protection .keys .refresh ∷ []) ∷ h .expected ∷ h .kept .hello ∷ bytes8 (h .kept .heard) ∷ h .kept .reply ∷ bytes8 (h .kept .size) ∷ bytes2 (h .protection .window .highest) ∷ bytes8 (h .protection .window .marks) ∷ bytes4 (h .protection .protected) ∷ []) (bytes4 (h .protection .clear)) (bytes4 (h .last) ∷ (h .protection .window .width ∷ []) ∷ []) 449 4 n16 (refl);
-      last = placed (bytes4 mark ∷ (stateNumber (h .state) ∷ []) ∷ h .id ∷ h .protection .keys .secret ∷ h .protection .keys .server ∷ h .protection .keys .client ∷ (numberOf (h .protection .keys .mac) ∷ []) ∷ (h .protection .keys .refresh ∷ []) ∷ h .expected ∷ h .kept .hello ∷ bytes8 (h .kept .heard) ∷ h .kept .reply ∷ bytes8 (h .kept .size) ∷ bytes2 (h .protection .window .highest) ∷ bytes8 (h .protection .window .marks) ∷ bytes4 (h .protection .protected) ∷ bytes4 (h .protection .clear) ∷ []) (bytes4 (h .last)) ((h .protection .window .width ∷ []) ∷ []) 453 4 n17 (refl);
-      width = placed (bytes4 mark ∷ (stateNumber (h .state) ∷ []) ∷ h .id ∷ h .protection .keys .secret ∷ h .protection .keys .server ∷ h .protection .keys .client ∷ (numberOf (h .protection .keys .mac) ∷ []) ∷ (h .protection .keys .refresh ∷ []) ∷ h .expected ∷ h .kept .hello ∷ bytes8 (h .kept .heard) ∷ h .kept .reply ∷ bytes8 (h .kept .size) ∷ bytes2 (h .protection .window .highest) ∷ bytes8 (h .protection .window .marks) ∷ bytes4 (h .protection .protected) ∷ bytes4 (h .protection .clear) ∷ bytes4 (h .last) ∷ []) ((h .protection .window .width ∷ [])) [] 457 1 n18 (refl);
-      all = n19;
+      mark = placed [] (bytes4 mark) ((stateNumber (h .state) ∷ []) ∷ h .id ∷ h .protection .keys .secret ∷ h .protection .keys .server ∷ h .protection .keys .client ∷ (numberOf (h .protection .keys .mac) ∷ []) ∷ (h .protection .keys .refresh ∷ []) ∷ h .expected ∷ h .kept .hello ∷ bytes8 (h .kept .heard) ∷ h .kept .reply ∷ bytes8 (h .kept .size) ∷ bytes2 (h .protection .window .highest) ∷ bytes8 (h .protection .window .marks) ∷ bytes4 (h .protection .protected) ∷ bytes4 (h .protection .clear) ∷ bytes4 (h .sent .count) ∷ (h .protection .window .width ∷ []) ∷ joined (sumFields (h .sent .checksums)) ∷ []) 0 4 n0 (refl);
+      state = placed (bytes4 mark ∷ []) ((stateNumber (h .state) ∷ [])) (h .id ∷ h .protection .keys .secret ∷ h .protection .keys .server ∷ h .protection .keys .client ∷ (numberOf (h .protection .keys .mac) ∷ []) ∷ (h .protection .keys .refresh ∷ []) ∷ h .expected ∷ h .kept .hello ∷ bytes8 (h .kept .heard) ∷ h .kept .reply ∷ bytes8 (h .kept .size) ∷ bytes2 (h .protection .window .highest) ∷ bytes8 (h .protection .window .marks) ∷ bytes4 (h .protection .protected) ∷ bytes4 (h .protection .clear) ∷ bytes4 (h .sent .count) ∷ (h .protection .window .width ∷ []) ∷ joined (sumFields (h .sent .checksums)) ∷ []) 4 1 n1 (refl);
+      id = placed (bytes4 mark ∷ (stateNumber (h .state) ∷ []) ∷ []) (h .id) (h .protection .keys .secret ∷ h .protection .keys .server ∷ h .protection .keys .client ∷ (numberOf (h .protection .keys .mac) ∷ []) ∷ (h .protection .keys .refresh ∷ []) ∷ h .expected ∷ h .kept .hello ∷ bytes8 (h .kept .heard) ∷ h .kept .reply ∷ bytes8 (h .kept .size) ∷ bytes2 (h .protection .window .highest) ∷ bytes8 (h .protection .window .marks) ∷ bytes4 (h .protection .protected) ∷ bytes4 (h .protection .clear) ∷ bytes4 (h .sent .count) ∷ (h .protection .window .width ∷ []) ∷ joined (sumFields (h .sent .checksums)) ∷ []) 5 8 n2 (r .id);
+      secret = placed (bytes4 mark ∷ (stateNumber (h .state) ∷ []) ∷ h .id ∷ []) (h .protection .keys .secret) (h .protection .keys .server ∷ h .protection .keys .client ∷ (numberOf (h .protection .keys .mac) ∷ []) ∷ (h .protection .keys .refresh ∷ []) ∷ h .expected ∷ h .kept .hello ∷ bytes8 (h .kept .heard) ∷ h .kept .reply ∷ bytes8 (h .kept .size) ∷ bytes2 (h .protection .window .highest) ∷ bytes8 (h .protection .window .marks) ∷ bytes4 (h .protection .protected) ∷ bytes4 (h .protection .clear) ∷ bytes4 (h .sent .count) ∷ (h .protection .window .width ∷ []) ∷ joined (sumFields (h .sent .checksums)) ∷ []) 13 20 n3 (r .secret);
+      server = placed (bytes4 mark ∷ (stateNumber (h .state) ∷ []) ∷ h .id ∷ h .protection .keys .secret ∷ []) (h .protection .keys .server) (h .protection .keys .client ∷ (numberOf (h .protection .keys .mac) ∷ []) ∷ (h .protection .keys .refresh ∷ []) ∷ h .expected ∷ h .kept .hello ∷ bytes8 (h .kept .heard) ∷ h .kept .reply ∷ bytes8 (h .kept .size) ∷ bytes2 (h .protection .window .highest) ∷ bytes8 (h .protection .window .marks) ∷ bytes4 (h .protection .protected) ∷ bytes4 (h .protection .clear) ∷ bytes4 (h .sent .count) ∷ (h .protection .window .width ∷ []) ∷ joined (sumFields (h .sent .checksums)) ∷ []) 33 16 n4 (r .server);
+      client = placed (bytes4 mark ∷ (stateNumber (h .state) ∷ []) ∷ h .id ∷ h .protection .keys .secret ∷ h .protection .keys .server ∷ []) (h .protection .keys .client) ((numberOf (h .protection .keys .mac) ∷ []) ∷ (h .protection .keys .refresh ∷ []) ∷ h .expected ∷ h .kept .hello ∷ bytes8 (h .kept .heard) ∷ h .kept .reply ∷ bytes8 (h .kept .size) ∷ bytes2 (h .protection .window .highest) ∷ bytes8 (h .protection .window .marks) ∷ bytes4 (h .protection .protected) ∷ bytes4 (h .protection .clear) ∷ bytes4 (h .sent .count) ∷ (h .protection .window .width ∷ []) ∷ joined (sumFields (h .sent .checksums)) ∷ []) 49 16 n5 (r .client);
+      mac = placed (bytes4 mark ∷ (stateNumber (h .state) ∷ []) ∷ h .id ∷ h .protection .keys .secret ∷ h .protection .keys .server ∷ h .protection .keys .client ∷ []) ((numberOf (h .protection .keys .mac) ∷ [])) ((h .protection .keys .refresh ∷ []) ∷ h .expected ∷ h .kept .hello ∷ bytes8 (h .kept .heard) ∷ h .kept .reply ∷ bytes8 (h .kept .size) ∷ bytes2 (h .protection .window .highest) ∷ bytes8 (h .protection .window .marks) ∷ bytes4 (h .protection .protected) ∷ bytes4 (h .protection .clear) ∷ bytes4 (h .sent .count) ∷ (h .protection .window .width ∷ []) ∷ joined (sumFields (h .sent .checksums)) ∷ []) 65 1 n6 (refl);
+      refresh = placed (bytes4 mark ∷ (stateNumber (h .state) ∷ []) ∷ h .id ∷ h .protection .keys .secret ∷ h .protection .keys .server ∷ h .protection .keys .client ∷ (numberOf (h .protection .keys .mac) ∷ []) ∷ []) ((h .protection .keys .refresh ∷ [])) (h .expected ∷ h .kept .hello ∷ bytes8 (h .kept .heard) ∷ h .kept .reply ∷ bytes8 (h .kept .size) ∷ bytes2 (h .protection .window .highest) ∷ bytes8 (h .protection .window .marks) ∷ bytes4 (h .protection .protected) ∷ bytes4 (h .protection .clear) ∷ bytes4 (h .sent .count) ∷ (h .protection .window .width ∷ []) ∷ joined (sumFields (h .sent .checksums)) ∷ []) 66 1 n7 (refl);
+      expected = placed (bytes4 mark ∷ (stateNumber (h .state) ∷ []) ∷ h .id ∷ h .protection .keys .secret ∷ h .protection .keys .server ∷ h .protection .keys .client ∷ (numberOf (h .protection .keys .mac) ∷ []) ∷ (h .protection .keys .refresh ∷ []) ∷ []) (h .expected) (h .kept .hello ∷ bytes8 (h .kept .heard) ∷ h .kept .reply ∷ bytes8 (h .kept .size) ∷ bytes2 (h .protection .window .highest) ∷ bytes8 (h .protection .window .marks) ∷ bytes4 (h .protection .protected) ∷ bytes4 (h .protection .clear) ∷ bytes4 (h .sent .count) ∷ (h .protection .window .width ∷ []) ∷ joined (sumFields (h .sent .checksums)) ∷ []) 67 12 n8 (r .expected);
+      hello = placed (bytes4 mark ∷ (stateNumber (h .state) ∷ []) ∷ h .id ∷ h .protection .keys .secret ∷ h .protection .keys .server ∷ h .protection .keys .client ∷ (numberOf (h .protection .keys .mac) ∷ []) ∷ (h .protection .keys .refresh ∷ []) ∷ h .expected ∷ []) (h .kept .hello) (bytes8 (h .kept .heard) ∷ h .kept .reply ∷ bytes8 (h .kept .size) ∷ bytes2 (h .protection .window .highest) ∷ bytes8 (h .protection .window .marks) ∷ bytes4 (h .protection .protected) ∷ bytes4 (h .protection .clear) ∷ bytes4 (h .sent .count) ∷ (h .protection .window .width ∷ []) ∷ joined (sumFields (h .sent .checksums)) ∷ []) 79 256 n9 (r .hello);
+      heard = placed (bytes4 mark ∷ (stateNumber (h .state) ∷ []) ∷ h .id ∷ h .protection .keys .secret ∷ h .protection .keys .server ∷ h .protection .keys .client ∷ (numberOf (h .protection .keys .mac) ∷ []) ∷ (h .protection .keys .refresh ∷ []) ∷ h .expected ∷ h .kept .hello ∷ []) (bytes8 (h .kept .heard)) (h .kept .reply ∷ bytes8 (h .kept .size) ∷ bytes2 (h .protection .window .highest) ∷ bytes8 (h .protection .window .marks) ∷ bytes4 (h .protection .protected) ∷ bytes4 (h .protection .clear) ∷ bytes4 (h .sent .count) ∷ (h .protection .window .width ∷ []) ∷ joined (sumFields (h .sent .checksums)) ∷ []) 335 8 n10 (length-eight (h .kept .heard));
+      reply = placed (bytes4 mark ∷ (stateNumber (h .state) ∷ []) ∷ h .id ∷ h .protection .keys .secret ∷ h .protection .keys .server ∷ h .protection .keys .client ∷ (numberOf (h .protection .keys .mac) ∷ []) ∷ (h .protection .keys .refresh ∷ []) ∷ h .expected ∷ h .kept .hello ∷ bytes8 (h .kept .heard) ∷ []) (h .kept .reply) (bytes8 (h .kept .size) ∷ bytes2 (h .protection .window .highest) ∷ bytes8 (h .protection .window .marks) ∷ bytes4 (h .protection .protected) ∷ bytes4 (h .protection .clear) ∷ bytes4 (h .sent .count) ∷ (h .protection .window .width ∷ []) ∷ joined (sumFields (h .sent .checksums)) ∷ []) 343 84 n11 (r .reply);
+      size = placed (bytes4 mark ∷ (stateNumber (h .state) ∷ []) ∷ h .id ∷ h .protection .keys .secret ∷ h .protection .keys .server ∷ h .protection .keys .client ∷ (numberOf (h .protection .keys .mac) ∷ []) ∷ (h .protection .keys .refresh ∷ []) ∷ h .expected ∷ h .kept .hello ∷ bytes8 (h .kept .heard) ∷ h .kept .reply ∷ []) (bytes8 (h .kept .size)) (bytes2 (h .protection .window .highest) ∷ bytes8 (h .protection .window .marks) ∷ bytes4 (h .protection .protected) ∷ bytes4 (h .protection .clear) ∷ bytes4 (h .sent .count) ∷ (h .protection .window .width ∷ []) ∷ joined (sumFields (h .sent .checksums)) ∷ []) 427 8 n12 (length-eight (h .kept .size));
+      highest = placed (bytes4 mark ∷ (stateNumber (h .state) ∷ []) ∷ h .id ∷ h .protection .keys .secret ∷ h .protection .keys .server ∷ h .protection .keys .client ∷ (numberOf (h .protection .keys .mac) ∷ []) ∷ (h .protection .keys .refresh ∷ []) ∷ h .expected ∷ h .kept .hello ∷ bytes8 (h .kept .heard) ∷ h .kept .reply ∷ bytes8 (h .kept .size) ∷ []) (bytes2 (h .protection .window .highest)) (bytes8 (h .protection .window .marks) ∷ bytes4 (h .protection .protected) ∷ bytes4 (h .protection .clear) ∷ bytes4 (h .sent .count) ∷ (h .protection .window .width ∷ []) ∷ joined (sumFields (h .sent .checksums)) ∷ []) 435 2 n13 (refl);
+      marks = placed (bytes4 mark ∷ (stateNumber (h .state) ∷ []) ∷ h .id ∷ h .protection .keys .secret ∷ h .protection .keys .server ∷ h .protection .keys .client ∷ (numberOf (h .protection .keys .mac) ∷ []) ∷ (h .protection .keys .refresh ∷ []) ∷ h .expected ∷ h .kept .hello ∷ bytes8 (h .kept .heard) ∷ h .kept .reply ∷ bytes8 (h .kept .size) ∷ bytes2 (h .protection .window .highest) ∷ []) (bytes8 (h .protection .window .marks)) (bytes4 (h .protection .protected) ∷ bytes4 (h .protection .clear) ∷ bytes4 (h .sent .count) ∷ (h .protection .window .width ∷ []) ∷ joined (sumFields (h .sent .checksums)) ∷ []) 437 8 n14 (length-eight (h .protection .window .marks));
+      protected = placed (bytes4 mark ∷ (stateNumber (h .state) ∷ []) ∷ h .id ∷ h .protection .keys .secret ∷ h .protection .keys .server ∷ h .protection .keys .client ∷ (numberOf (h .protection .keys .mac) ∷ []) ∷ (h .protection .keys .refresh ∷ []) ∷ h .expected ∷ h .kept .hello ∷ bytes8 (h .kept .heard) ∷ h .kept .reply ∷ bytes8 (h .kept .size) ∷ bytes2 (h .protection .window .highest) ∷ bytes8 (h .protection .window .marks) ∷ []) (bytes4 (h .protection .protected)) (bytes4 (h .protection .clear) ∷ bytes4 (h .sent .count) ∷ (h .protection .window .width ∷ []) ∷ joined (sumFields (h .sent .checksums)) ∷ []) 445 4 n15 (refl);
+      clear = placed (bytes4 mark ∷ (stateNumber (h .state) ∷ []) ∷ h .id ∷ h .protection .keys .secret ∷ h .protection .keys .server ∷ h .protection .keys .client ∷ (numberOf (h .protection .keys .mac) ∷ []) ∷ (h .protection .keys .refresh ∷ []) ∷ h .expected ∷ h .kept .hello ∷ bytes8 (h .kept .heard) ∷ h .kept .reply ∷ bytes8 (h .kept .size) ∷ bytes2 (h .protection .window .highest) ∷ bytes8 (h .protection .window .marks) ∷ bytes4 (h .protection .protected) ∷ []) (bytes4 (h .protection .clear)) (bytes4 (h .sent .count) ∷ (h .protection .window .width ∷ []) ∷ joined (sumFields (h .sent .checksums)) ∷ []) 449 4 n16 (refl);
+      count = placed (bytes4 mark ∷ (stateNumber (h .state) ∷ []) ∷ h .id ∷ h .protection .keys .secret ∷ h .protection .keys .server ∷ h .protection .keys .client ∷ (numberOf (h .protection .keys .mac) ∷ []) ∷ (h .protection .keys .refresh ∷ []) ∷ h .expected ∷ h .kept .hello ∷ bytes8 (h .kept .heard) ∷ h .kept .reply ∷ bytes8 (h .kept .size) ∷ bytes2 (h .protection .window .highest) ∷ bytes8 (h .protection .window .marks) ∷ bytes4 (h .protection .protected) ∷ bytes4 (h .protection .clear) ∷ []) (bytes4 (h .sent .count)) ((h .protection .window .width ∷ []) ∷ joined (sumFields (h .sent .checksums)) ∷ []) 453 4 n17 (refl);
+      width = placed (bytes4 mark ∷ (stateNumber (h .state) ∷ []) ∷ h .id ∷ h .protection .keys .secret ∷ h .protection .keys .server ∷ h .protection .keys .client ∷ (numberOf (h .protection .keys .mac) ∷ []) ∷ (h .protection .keys .refresh ∷ []) ∷ h .expected ∷ h .kept .hello ∷ bytes8 (h .kept .heard) ∷ h .kept .reply ∷ bytes8 (h .kept .size) ∷ bytes2 (h .protection .window .highest) ∷ bytes8 (h .protection .window .marks) ∷ bytes4 (h .protection .protected) ∷ bytes4 (h .protection .clear) ∷ bytes4 (h .sent .count) ∷ []) ((h .protection .window .width ∷ [])) (joined (sumFields (h .sent .checksums)) ∷ []) 457 1 n18 (refl);
+      sums = placed (bytes4 mark ∷ (stateNumber (h .state) ∷ []) ∷ h .id ∷ h .protection .keys .secret ∷ h .protection .keys .server ∷ h .protection .keys .client ∷ (numberOf (h .protection .keys .mac) ∷ []) ∷ (h .protection .keys .refresh ∷ []) ∷ h .expected ∷ h .kept .hello ∷ bytes8 (h .kept .heard) ∷ h .kept .reply ∷ bytes8 (h .kept .size) ∷ bytes2 (h .protection .window .highest) ∷ bytes8 (h .protection .window .marks) ∷ bytes4 (h .protection .protected) ∷ bytes4 (h .protection .clear) ∷ bytes4 (h .sent .count) ∷ (h .protection .window .width ∷ []) ∷ []) (joined (sumFields (h .sent .checksums))) [] 458 32 n19 (sums-size (h .sent .checksums));
+      all = n20;
     }
 
 back : (h : Handshake) (b : List ℕ) → Placed h b → Ranged (record { handshake = h }) → handshakeIn b ≡ h
-unfolding handshakeIn protectionIn keysIn keptIn windowIn
+unfolding handshakeIn protectionIn keysIn keptIn windowIn sentIn
 back h b p r =
     λ i. record {
       state = (ap stateNumbered (byte-back b 4 (stateNumber (h .state)) (p .state)) ∙ state-back (h .state)) i;
@@ -154,7 +196,11 @@ back h b p r =
             reply = p .reply i;
             size = eight-back b 427 (h .kept .size) (r .size) (p .size) i;
           };
-      last = four-back b 453 (h .last) (r .last) (p .last) i;
+      sent =
+          record {
+            count = four-back b 453 (h .sent .count) (r .count) (p .count) i;
+            checksums = sums-back b (h .sent .checksums) (r .sums) (r .sum) (p .sums) i;
+          };
       protection =
           record {
             keys =
@@ -208,6 +254,31 @@ cut-joined (n ∷ ns) at b =
     ap (λ x. bytesIn b at n ++ x) (cut-joined ns (at + n) b ∙ ap (take (total ns)) (sym (drop-drop n at b)))
     ∙ sym (take-add n (total ns) (drop at b))
 
+-- eight words and the bytes that they were read from
+sums-there : (b : List ℕ) → Bytes b → length b ≡ stateSize
+    → joined (sumFields (wordAt b 458 ∷ wordAt b 462 ∷ wordAt b 466 ∷ wordAt b 470 ∷ wordAt b 474 ∷ wordAt b 478 ∷ wordAt b 482 ∷ wordAt b 486 ∷ []))
+    ≡ bytesIn b 458 32
+unfolding cuts total
+sums-there b all room =
+    ap joined
+    (λ i. four-there b 458 all (omega arith) i ∷ four-there b 462 all (omega arith) i ∷ four-there b 466 all (omega arith) i
+    ∷ four-there b 470 all (omega arith) i ∷ four-there b 474 all (omega arith) i ∷ four-there b 478 all (omega arith) i
+    ∷ four-there b 482 all (omega arith) i ∷ four-there b 486 all (omega arith) i ∷ [])
+    ∙ cut-joined (4 ∷ 4 ∷ 4 ∷ 4 ∷ 4 ∷ 4 ∷ 4 ∷ 4 ∷ []) 458 b
+
+word-each : (b : List ℕ) → Bytes b → (i : ℕ)
+    → getD (wordAt b 458 ∷ wordAt b 462 ∷ wordAt b 466 ∷ wordAt b 470 ∷ wordAt b 474 ∷ wordAt b 478 ∷ wordAt b 482 ∷ wordAt b 486 ∷ []) i 0
+    < 4294967296
+word-each b all zero = word-below b 458 all
+word-each b all (suc zero) = word-below b 462 all
+word-each b all (suc (suc zero)) = word-below b 466 all
+word-each b all (suc (suc (suc zero))) = word-below b 470 all
+word-each b all (suc (suc (suc (suc zero)))) = word-below b 474 all
+word-each b all (suc (suc (suc (suc (suc zero))))) = word-below b 478 all
+word-each b all (suc (suc (suc (suc (suc (suc zero)))))) = word-below b 482 all
+word-each b all (suc (suc (suc (suc (suc (suc (suc zero))))))) = word-below b 486 all
+word-each b all (suc (suc (suc (suc (suc (suc (suc (suc i)))))))) = omega arith
+
 state-there : (n : ℕ) → ltb 5 n ≡ false → stateNumber (stateNumbered n) ≡ n
 unfolding stateNumbered
 state-there zero h = refl
@@ -247,7 +318,7 @@ tested b h =
     record { size = eqb-true (length b) stateSize (one .0); marked = eqb-true (wordAt b 0) mark (two .0); state = three .0; mac = three .1 }
 
 there : (b : List ℕ) → Bytes b → Tested b → savedHandshake (handshakeIn b) ≡ b
-unfolding savedHandshake handshakeIn protectionIn keysIn keptIn windowIn cuts total
+unfolding savedHandshake handshakeIn protectionIn keysIn keptIn windowIn sentIn cuts total
 there b all t =
     let room : length b ≡ stateSize = t .size in
     let marks : bytes4 mark ≡ bytesIn b 0 4 = ap bytes4 (sym (t .marked)) ∙ four-there b 0 all (omega arith) in
@@ -261,15 +332,17 @@ there b all t =
     (bytes4 mark ∷ (stateNumber (stateNumbered (getD b 4 0)) ∷ []) ∷ bytesIn b 5 8 ∷ bytesIn b 13 20 ∷ bytesIn b 33 16 ∷ bytesIn b 49 16
     ∷ (numberOf (macNumbered (getD b 65 0)) ∷ []) ∷ (getD b 66 0 ∷ []) ∷ bytesIn b 67 12 ∷ bytesIn b 79 256 ∷ bytes8 (eightIn b 335)
     ∷ bytesIn b 343 84 ∷ bytes8 (eightIn b 427) ∷ bytes2 (twoIn b 435) ∷ bytes8 (eightIn b 437)
-    ∷ bytes4 (wordAt b 445) ∷ bytes4 (wordAt b 449) ∷ bytes4 (wordAt b 453) ∷ (getD b 457 0 ∷ []) ∷ [])
-    (cuts (4 ∷ 1 ∷ 8 ∷ 20 ∷ 16 ∷ 16 ∷ 1 ∷ 1 ∷ 12 ∷ 256 ∷ 8 ∷ 84 ∷ 8 ∷ 2 ∷ 8 ∷ 4 ∷ 4 ∷ 4 ∷ 1 ∷ []) 0 b)
+    ∷ bytes4 (wordAt b 445) ∷ bytes4 (wordAt b 449) ∷ bytes4 (wordAt b 453) ∷ (getD b 457 0 ∷ [])
+    ∷ joined (sumFields (wordAt b 458 ∷ wordAt b 462 ∷ wordAt b 466 ∷ wordAt b 470 ∷ wordAt b 474 ∷ wordAt b 478 ∷ wordAt b 482 ∷ wordAt b 486 ∷ [])) ∷ [])
+    (cuts (4 ∷ 1 ∷ 8 ∷ 20 ∷ 16 ∷ 16 ∷ 1 ∷ 1 ∷ 12 ∷ 256 ∷ 8 ∷ 84 ∷ 8 ∷ 2 ∷ 8 ∷ 4 ∷ 4 ∷ 4 ∷ 1 ∷ 32 ∷ []) 0 b)
     = λ i.
     marks i ∷ state i ∷ bytesIn b 5 8 ∷ bytesIn b 13 20 ∷ bytesIn b 33 16 ∷ bytesIn b 49 16
     ∷ mac i ∷ refresh i ∷ bytesIn b 67 12 ∷ bytesIn b 79 256 ∷ eight-there b 335 all (omega arith) i
     ∷ bytesIn b 343 84 ∷ eight-there b 427 all (omega arith) i ∷ two-there b 435 all (omega arith) i ∷ eight-there b 437 all (omega arith) i
-    ∷ four-there b 445 all (omega arith) i ∷ four-there b 449 all (omega arith) i ∷ four-there b 453 all (omega arith) i ∷ width i ∷ [] in
+    ∷ four-there b 445 all (omega arith) i ∷ four-there b 449 all (omega arith) i ∷ four-there b 453 all (omega arith) i ∷ width i
+    ∷ sums-there b all room i ∷ [] in
     ap joined fields
-    ∙ cut-joined (4 ∷ 1 ∷ 8 ∷ 20 ∷ 16 ∷ 16 ∷ 1 ∷ 1 ∷ 12 ∷ 256 ∷ 8 ∷ 84 ∷ 8 ∷ 2 ∷ 8 ∷ 4 ∷ 4 ∷ 4 ∷ 1 ∷ []) 0 b
+    ∙ cut-joined (4 ∷ 1 ∷ 8 ∷ 20 ∷ 16 ∷ 16 ∷ 1 ∷ 1 ∷ 12 ∷ 256 ∷ 8 ∷ 84 ∷ 8 ∷ 2 ∷ 8 ∷ 4 ∷ 4 ∷ 4 ∷ 1 ∷ 32 ∷ []) 0 b
     ∙ take-all stateSize b (omega arith)
 
 is-loaded : (b : List ℕ) (c : Connection) → loaded b ≡ Is c → (isSaved b ≡ true) × (connectionIn b ≡ c)
@@ -287,7 +360,7 @@ loads-saved b c all e =
     ap savedOf (sym (is .1)) ∙ there b all (tested b (is .0))
 
 ranged : (b : List ℕ) → Bytes b → length b ≡ stateSize → Ranged (connectionIn b)
-unfolding handshakeIn protectionIn keysIn keptIn windowIn
+unfolding handshakeIn protectionIn keysIn keptIn windowIn sentIn
 ranged b all l =
     record {
       id = part-length b 5 8 (omega arith);
@@ -303,7 +376,9 @@ ranged b all l =
       marks = eight-below b 437 all;
       protected = word-below b 445 all;
       clear = word-below b 449 all;
-      last = word-below b 453 all;
+      count = word-below b 453 all;
+      sums = refl;
+      sum = word-each b all;
     }
   where
     two-below : (p q : ℕ) → p < 256 → q < 256 → p * 256 + q < 65536

@@ -33,7 +33,7 @@ two-back s at n h e =
     back : (n : ℕ) → n < 65536 → n / 256 % 256 * 256 + n % 256 ≡ n
     back n h = omega arith
 
-word-of : (n : ℕ) → n < 4294967296 → wordAt (bytes4 n) 0 ≡ n
+pub word-of : (n : ℕ) → n < 4294967296 → wordAt (bytes4 n) 0 ≡ n
 unfolding wordAt
 word-of n h = word-back n h
 

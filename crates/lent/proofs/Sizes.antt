@@ -40,7 +40,7 @@ use Rattle.message.specs.declared.alert.Sorted.{Sorted}
 use Rattle.message.specs.declared.alert.Sorted.the-variants as D
 use Rattle.message.specs.declared.finished.Verified.{Verified}
 use Rattle.message.specs.declared.finished.Verified.the-variants as Fin
-use Rattle.connection.specs.Handshake.{withState, withWindow, planted}
+use Rattle.connection.specs.Handshake.{withState, withWindow, planted, wasSent}
 use Rattle.connection.specs.State.{ruleOf}
 use Rattle.connection.specs.Answer.{replySize, judged, refusing}
 use Rattle.connection.specs.Clear.{heardTo, greetedBy, isKept, keptSize, greetedAgain, changedBy, byLevel, heardBy, heardAlert}
@@ -158,7 +158,7 @@ module _ where
   small-heard : (h : Handshake) (a : AlertReading) → Small (heardBy h a)
   small-heard h Q.Malformed = small-refusing Malformed h
   small-heard h (Q.WellFormed a) =
-      small-pick (eqb (a .checksum) (h .last)) (byLevel h (a .level) (a .description)) (refusing Checksum h)
+      small-pick (wasSent h (a .checksum)) (byLevel h (a .level) (a .description)) (refusing Checksum h)
       (small-level h (a .level) (a .description))
       (small-refusing Checksum h)
 

@@ -58,7 +58,7 @@ abbrev pub leftLoaded : List ℕ → Connection → Outcome → Loaded
 leftLoaded state c Done = Is c
 leftLoaded state c (Refused refusal) = loaded state
 
--- fresh: in 458 bytes, whatever they hold
+-- fresh: in 490 bytes, whatever they hold
 unfoldable pub freshResult : List ℕ → List ℕ → ℕ → ℕ
 freshResult id secret room = pick (eqb room stateSize) (resultOf (refusalIn (freshOf id secret .outcome)) 0 0) notTaken
 

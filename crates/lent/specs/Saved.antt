@@ -1,8 +1,8 @@
--- A connection in 458 lent bytes. Every value of a connection has its bytes, and one string of bytes only; which
+-- A connection in 490 lent bytes. Every value of a connection has its bytes, and one string of bytes only; which
 -- strings are a saved connection is `isSaved`. Numbers have the most significant byte first.
 --
 --     place  bytes
---         0      4  the mark: "WTG", and 2, the number of this layout
+--         0      4  the mark: "WTG", and 3, the number of this layout
 --         4      1  the state: 0 Idle, 1 Replied, 2 Spec, 3 Open, 4 Closed, 5 Barred
 --         5      8  the session's identifier
 --        13     20  the session's master secret
@@ -19,8 +19,9 @@
 --       437      8  the window: the marks
 --       445      4  the next protected number
 --       449      4  the next clear number
---       453      4  the checksum of the last record that we sent
+--       453      4  how many records that we sent are kept
 --       457      1  the window: its width
+--       458     32  the checksums of these records, four bytes each, the newest first
 use mathlib.Core.Bool.{Bool, true, false}
 use mathlib.Core.List.{List, [], _∷_, _++_}
 use mathlib.Core.Path.{_≡_}
@@ -41,16 +42,17 @@ use Rattle.connection.specs.declared.state.State.the-variants.{Idle, Replied, S
 use Rattle.connection.specs.declared.handshake.Session.{Session}
 use Rattle.connection.specs.declared.handshake.Kept.{Kept}
 use Rattle.connection.specs.declared.handshake.Handshake.{Handshake}
+use Rattle.connection.specs.declared.sent.SentRecords.{SentRecords}
 use Rattle.connection.specs.declared.calls.Connection.{Connection}
 use Rattle.lent.specs.Fields.{joined, bytesIn, twoIn, eightIn}
 
 -- how many bytes hold a connection
 abbrev pub stateSize : ℕ
-stateSize = 458
+stateSize = 490
 
--- "WTG", 2
+-- "WTG", 3
 abbrev pub mark : ℕ
-mark = 0x57544702
+mark = 0x57544703
 
 -- the number of a state
 abbrev pub stateNumber : State → ℕ
@@ -82,7 +84,13 @@ abbrev pub widthFields : Window → List (List ℕ)
 widthFields window = (window .width ∷ []) ∷ []
 
 abbrev pub sendingFields : Protection → ℕ → List (List ℕ)
-sendingFields p last = bytes4 (p .protected) ∷ bytes4 (p .clear) ∷ bytes4 last ∷ []
+sendingFields p count = bytes4 (p .protected) ∷ bytes4 (p .clear) ∷ bytes4 count ∷ []
+
+-- eight checksums, each in four bytes
+abbrev pub sumFields : List ℕ → List (List ℕ)
+sumFields sums =
+    bytes4 (getD sums 0 0) ∷ bytes4 (getD sums 1 0) ∷ bytes4 (getD sums 2 0) ∷ bytes4 (getD sums 3 0)
+    ∷ bytes4 (getD sums 4 0) ∷ bytes4 (getD sums 5 0) ∷ bytes4 (getD sums 6 0) ∷ bytes4 (getD sums 7 0) ∷ []
 
 -- the bytes of a connection
 unfoldable pub savedHandshake : Handshake → List ℕ
@@ -93,8 +101,9 @@ savedHandshake h =
     ++ agreedFields (h .protection .keys) (h .expected)
     ++ keptFields (h .kept)
     ++ windowFields (h .protection .window)
-    ++ sendingFields (h .protection) (h .last)
-    ++ widthFields (h .protection .window))
+    ++ sendingFields (h .protection) (h .sent .count)
+    ++ widthFields (h .protection .window)
+    ++ (joined (sumFields (h .sent .checksums)) ∷ []))
 
 abbrev pub savedOf : Connection → List ℕ
 savedOf c = savedHandshake (c .handshake)
@@ -138,6 +147,14 @@ windowIn b = record { width = getD b 457 0; highest = twoIn b 435; marks = eight
 unfoldable pub protectionIn : List ℕ → Protection
 protectionIn b = record { keys = keysIn b; window = windowIn b; protected = wordAt b 445; clear = wordAt b 449 }
 
+unfoldable pub sentIn : List ℕ → SentRecords
+sentIn b =
+    record {
+      count = wordAt b 453;
+      checksums =
+          wordAt b 458 ∷ wordAt b 462 ∷ wordAt b 466 ∷ wordAt b 470 ∷ wordAt b 474 ∷ wordAt b 478 ∷ wordAt b 482 ∷ wordAt b 486 ∷ [];
+    }
+
 unfoldable pub handshakeIn : List ℕ → Handshake
 handshakeIn b =
     record {
@@ -145,7 +162,7 @@ handshakeIn b =
       id = bytesIn b 5 8;
       expected = bytesIn b 67 12;
       kept = keptIn b;
-      last = wordAt b 453;
+      sent = sentIn b;
       protection = protectionIn b;
     }
 
@@ -175,7 +192,9 @@ pub record Ranged (c : Connection) : Type 0 where
   pub marks : c .handshake .protection .window .marks < 18446744073709551616
   pub protected : c .handshake .protection .protected < 4294967296
   pub clear : c .handshake .protection .clear < 4294967296
-  pub last : c .handshake .last < 4294967296
+  pub count : c .handshake .sent .count < 4294967296
+  pub sums : length (c .handshake .sent .checksums) ≡ 8
+  pub sum : (i : ℕ) → getD (c .handshake .sent .checksums) i 0 < 4294967296
 
 -- bytes are below 256
 abbrev pub Bytes : List ℕ → Type 0

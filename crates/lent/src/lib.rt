@@ -30,7 +30,7 @@ use result::not_taken;
 use result::result_of;
 use save::SIZE;
 
-// A fresh connection of a planted session, in 458 bytes. Refusal: 16.
+// A fresh connection of a planted session, in 490 bytes. Refusal: 16.
 pub fn fresh(id: &[u8], secret: &[u8], state: &mut [u8]) -> u64
     ensures exact { λ r. ⌜ r ≡ freshResult (now (id .entry)) (now (secret .entry)) (length (now (state .entry))) ⌝ }
     ensures bytes { λ _. ⌜ now (state .exit) ≡ freshState (now (id .entry)) (now (secret .entry))

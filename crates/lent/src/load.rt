@@ -3,7 +3,7 @@ ghost use mathlib.Core.Path.{_≡_};
 ghost use mathlib.Core.Bool.{true};
 ghost use lib.ListN.{length};
 ghost use Rattle.lent.specs.Saved.{isSaved, stateSize, stateNumbered, macNumbered, connectionIn};
-ghost use Rattle.lent.specs.Saved.{keysIn, keptIn, windowIn, protectionIn};
+ghost use Rattle.lent.specs.Saved.{keysIn, keptIn, windowIn, protectionIn, sentIn};
 ghost use Rattle.lent.specs.Calls.{lentFor};
 ghost use Rattle.lent.specs.Fields.{bytesIn};
 use crate::bytes::eight_in;
@@ -13,14 +13,15 @@ use crate::save::SIZE;
 use connection::calls::Connection;
 use connection::handshake::Handshake;
 use connection::handshake::Kept;
+use connection::sent::SentRecords;
 use connection::state::State;
 use digest::Mac;
 use record::keys::Keys;
 use record::protection::Protection;
 use record::window::Window;
 
-// "WTG", and 2 for this layout.
-const MARK: u32 = 0x57544702;
+// "WTG", and 3 for this layout.
+const MARK: u32 = 0x57544703;
 
 // Whether bytes are a saved connection: the size, the mark, a state and a MAC kind. Nothing else in them can be wrong.
 pub(crate) fn is_saved(b: &[u8]) -> bool
@@ -64,7 +65,7 @@ pub(crate) fn connection_in(b: &[u8]) -> Connection
         id: id_in(b),
         expected: expected_in(b),
         kept: kept_in(b),
-        last: four_in(b, 453),
+        sent: sent_in(b),
         protection: protection_in(b),
     };
     Connection { handshake }
@@ -176,4 +177,22 @@ fn protection_in(b: &[u8]) -> Protection
         protected: four_in(b, 445),
         clear: four_in(b, 449),
     }
+}
+
+fn sent_in(b: &[u8]) -> SentRecords
+    requires { ⌜ length (now b) ≡ stateSize ⌝ }
+    ensures { λ r. ⌜ r ≡ sentIn (now (b .entry)) ⌝ }
+{
+    let count = four_in(b, 453);
+    let checksums = [
+        four_in(b, 458),
+        four_in(b, 462),
+        four_in(b, 466),
+        four_in(b, 470),
+        four_in(b, 474),
+        four_in(b, 478),
+        four_in(b, 482),
+        four_in(b, 486),
+    ];
+    SentRecords { count, checksums }
 }

@@ -1,12 +1,12 @@
 // Saving: a connection laid into its bytes.
 ghost use mathlib.Core.Path.{_≡_};
-ghost use Prim.Native.Nat.{_<_};
-ghost use lib.ListN.{length};
+ghost use Prim.Native.Nat.{ℕ, _<_};
+ghost use lib.ListN.{length, getD};
 ghost use Rattle.digest.specs.Bytes.{laidOver};
 ghost use Rattle.lent.specs.Fields.{joined};
 ghost use Rattle.lent.specs.Saved.{savedOf, loaded, stateSize, Is};
 ghost use Rattle.lent.specs.Saved.{stateNumber, headFields, sessionFields, agreedFields};
-ghost use Rattle.lent.specs.Saved.{keptFields, windowFields, sendingFields, widthFields};
+ghost use Rattle.lent.specs.Saved.{keptFields, windowFields, sendingFields, widthFields, sumFields};
 use crate::bytes::eight;
 use crate::bytes::four;
 use crate::bytes::two;
@@ -19,11 +19,11 @@ use record::keys::Keys;
 use record::protection::Protection;
 use record::window::Window;
 
-// "WTG", and 2 for this layout.
-const MARK: u32 = 0x57544702;
+// "WTG", and 3 for this layout.
+const MARK: u32 = 0x57544703;
 
 // How many bytes hold a connection.
-pub(crate) const SIZE: usize = 458;
+pub(crate) const SIZE: usize = 490;
 
 // The connection, over all the bytes.
 pub(crate) fn put_connection(d: &mut [u8], c: Connection)
@@ -45,8 +45,11 @@ pub(crate) fn put_connection(d: &mut [u8], c: Connection)
     put_agreed(d, keys, expected);
     put_kept(d, h.kept);
     put_window(d, window);
-    put_sending(d, protection, h.last);
+    let sent = h.sent;
+    put_sending(d, protection, sent.count);
     put_width(d, window);
+    let sums = sent.checksums;
+    put_sums(d, sums);
 }
 
 fn put_head(d: &mut [u8], state: State)
@@ -132,18 +135,18 @@ fn put_window(d: &mut [u8], window: Window)
     put(d, 437, &marks);
 }
 
-fn put_sending(d: &mut [u8], protection: Protection, last: u32)
+fn put_sending(d: &mut [u8], protection: Protection, count: u32)
     requires { ⌜ length (now d) ≡ stateSize ⌝ }
-    ensures { λ _. ⌜ now (d .exit) ≡ laidOver (now (d .entry)) 445 (joined (sendingFields protection last)) ⌝ }
-    ensures { λ _. ⌜ length (joined (sendingFields protection last)) ≡ 12 ⌝ }
-    ensures { λ _. ⌜ (protection .protected < 4294967296) × ((protection .clear < 4294967296) × (last < 4294967296)) ⌝ }
+    ensures { λ _. ⌜ now (d .exit) ≡ laidOver (now (d .entry)) 445 (joined (sendingFields protection count)) ⌝ }
+    ensures { λ _. ⌜ length (joined (sendingFields protection count)) ≡ 12 ⌝ }
+    ensures { λ _. ⌜ (protection .protected < 4294967296) × ((protection .clear < 4294967296) × (count < 4294967296)) ⌝ }
 {
     let protected = four(protection.protected);
     put(d, 445, &protected);
     let clear = four(protection.clear);
     put(d, 449, &clear);
-    let sum = four(last);
-    put(d, 453, &sum);
+    let records = four(count);
+    put(d, 453, &records);
 }
 
 fn put_width(d: &mut [u8], window: Window)
@@ -153,4 +156,28 @@ fn put_width(d: &mut [u8], window: Window)
 {
     let width = [window.width];
     put(d, 457, &width);
+}
+
+fn put_sums(d: &mut [u8], sums: [u32; 8])
+    requires { ⌜ length (now d) ≡ stateSize ⌝ }
+    ensures { λ _. ⌜ now (d .exit) ≡ laidOver (now (d .entry)) 458 (joined (sumFields sums)) ⌝ }
+    ensures { λ _. ⌜ length (joined (sumFields sums)) ≡ 32 ⌝ }
+    ensures { λ _. ⌜ (length sums ≡ 8) × ((i : ℕ) → getD sums i 0 < 4294967296) ⌝ }
+{
+    let s0 = four(sums[0]);
+    put(d, 458, &s0);
+    let s1 = four(sums[1]);
+    put(d, 462, &s1);
+    let s2 = four(sums[2]);
+    put(d, 466, &s2);
+    let s3 = four(sums[3]);
+    put(d, 470, &s3);
+    let s4 = four(sums[4]);
+    put(d, 474, &s4);
+    let s5 = four(sums[5]);
+    put(d, 478, &s5);
+    let s6 = four(sums[6]);
+    put(d, 482, &s6);
+    let s7 = four(sums[7]);
+    put(d, 486, &s7);
 }

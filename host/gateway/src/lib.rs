@@ -37,7 +37,7 @@ pub use refusal::Refusal;
 pub use tally::Tally;
 
 /// Sizes, in bytes.
-pub const STATE_SIZE: usize = 458;
+pub const STATE_SIZE: usize = 490;
 pub const TALLY_SIZE: usize = 16;
 pub const ANSWER_SIZE: usize = 24;
 pub const ANSWERS_SIZE: usize = 192;

@@ -22,12 +22,15 @@ fn a_framing_fault_prints_its_offset() {
     let refused = connection.receive(&mut tally, &datagram, &[3; 16], &mut out).unwrap_err();
     assert_eq!(refused.to_string(), "refused 4 at 6: length past the end, or empty fragment");
     let refused = connection.receive(&mut tally, &datagram, &[3; 15], &mut out).unwrap_err();
-    assert_eq!(refused.to_string(), "refused 16: argument out of range; also: the bytes lent are no saved connection");
+    assert_eq!(
+        refused.to_string(),
+        "refused 16: argument out of range; also: the bytes lent are no saved connection"
+    );
 }
 
 #[test]
 fn what_is_no_saved_connection_does_not_load() {
-    assert_eq!(Connection::load(&[0; 458]), Err(Refusal::Argument));
+    assert_eq!(Connection::load(&[0; 490]), Err(Refusal::Argument));
     assert_eq!(Connection::load(&[]), Err(Refusal::Argument));
     let mut connection = Connection::fresh(&[1; 8], &[2; 20]).unwrap();
     connection.close().unwrap();

@@ -43,6 +43,8 @@ pub struct Fleet {
     hints: Option<Hints>,
     hellos: Shares,
     trials: Trials,
+    /// Handshakes that an alert in the clear has closed, since the start of the gateway.
+    closed_in_clear: u64,
 }
 
 #[derive(Clone, PartialEq, Eq, Debug)]
@@ -83,6 +85,7 @@ impl Fleet {
             hints: rules.hint_every.map(Hints::new),
             hellos: Shares::new(HELLOS_EACH_SECOND, HELLOS_OF_A_SHARE),
             trials: Trials::default(),
+            closed_in_clear: 0,
         };
         for index in 0..fleet.ships.len() {
             fleet.set_route(index);
@@ -168,7 +171,7 @@ impl Fleet {
             Err(refused) => return noted(Some(index), refused_whole(refused)),
         };
         let mut taken = Taken { ship: Some(index), ..Taken::default() };
-        tell(arrival, &trial, &mut taken);
+        tell(arrival, &trial, &mut taken, &mut self.closed_in_clear);
         // Nothing is kept of a hello that is refused, or that is taken back by what follows it.
         let under_way = matches!(trial.connection.state(), State::Replied | State::Spec);
         if trial.has_reply() && under_way {
@@ -222,7 +225,7 @@ impl Fleet {
             return noted(Some(index), Note::AlertPassedOver);
         }
         let mut taken = Taken { ship: Some(index), ..Taken::default() };
-        tell(arrival, &trial, &mut taken);
+        tell(arrival, &trial, &mut taken, &mut self.closed_in_clear);
         let ship = &mut self.ships[index];
         ship.tally = trial.tally;
         let mut moved = false;
@@ -348,7 +351,7 @@ fn refused_whole(Refused { refusal, offset }: Refused) -> Note {
 }
 
 /// Puts down what each answer is for the outside.
-fn tell(arrival: &Arrival, trial: &Trial, taken: &mut Taken) {
+fn tell(arrival: &Arrival, trial: &Trial, taken: &mut Taken, closed_in_clear: &mut u64) {
     for (record, answer) in trial.answers.iter().enumerate() {
         match *answer {
             Answer::Reply(_) | Answer::Resent(_) => {
@@ -359,7 +362,13 @@ fn tell(arrival: &Arrival, trial: &Trial, taken: &mut Taken) {
             }
             Answer::Open => taken.notes.push(Note::Opened),
             Answer::Critical(description) | Answer::Fatal(description) => {
-                taken.notes.push(Note::ClosedByAlert { description });
+                taken.notes.push(match datagram::records(arrival.datagram).nth(record) {
+                    Some(alert) if !datagram::is_protected(alert) => {
+                        *closed_in_clear += 1;
+                        Note::ClosedInClear { description, so_far: *closed_in_clear }
+                    }
+                    _ => Note::ClosedByAlert { description },
+                });
             }
             Answer::Barred(description) => taken.notes.push(Note::BarredByAlert { description }),
             Answer::Refused(refusal) => {

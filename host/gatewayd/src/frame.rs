@@ -5,10 +5,10 @@
 //! ```text
 //! mark 4, length of the body 4, body, SHA-1 over all of these 20
 //! body: time 8, place in the list (day 4, text 8, JSON 8), changes until its end
-//! change: identifier 8, planting 20, connection 458, tally 16, route 19, name 2 + n,
+//! change: identifier 8, planting 20, connection 490, tally 16, route 19, name 2 + n,
 //!         reports 2, and for each number 2, bytes 2 + n,
 //!         highest number 2, hello 2 + n, handshakes 2, and for each hello 2 + n,
-//!         connection 458, senders 2, and for each 19
+//!         connection 490, senders 2, and for each 19
 //! ```
 //!
 //! A connection of another size has no place here, so a journal of another layout is not read: `other_layout` tells it
@@ -22,8 +22,8 @@ use gateway::{STATE_SIZE, TALLY_SIZE};
 use peer::sha1::sha1;
 use std::net::{IpAddr, SocketAddr};
 
-/// "GWJ", and 2 for this layout.
-const MARK: [u8; 4] = *b"GWJ\x02";
+/// "GWJ", and 3 for this layout.
+const MARK: [u8; 4] = *b"GWJ\x03";
 const HEAD: usize = 8;
 const DIGEST: usize = 20;
 

@@ -30,6 +30,12 @@ pub enum Note {
     ClosedByAlert {
         description: u8,
     },
+    /// A handshake under way was closed by an alert in the clear, the so-manieth since the start: who has seen nothing can
+    /// write one (docs/GATEWAY.md).
+    ClosedInClear {
+        description: u8,
+        so_far: u64,
+    },
     ClosedByWrongFinished,
     BarredByAlert {
         description: u8,
@@ -69,6 +75,7 @@ impl Note {
             Note::Answered => (12, 0),
             Note::Hinted => (13, 0),
             Note::AlertPassedOver => (14, 0),
+            Note::ClosedInClear { .. } => (15, 0),
         }
     }
 }
@@ -87,6 +94,10 @@ impl fmt::Display for Note {
             Note::ClosedByAlert { description } => {
                 write!(f, "closed by an alert, description {description}; started again")
             }
+            Note::ClosedInClear { description, so_far } => write!(
+                f,
+                "handshake closed by an alert in the clear, description {description}; {so_far} so far"
+            ),
             Note::ClosedByWrongFinished => write!(f, "closed by a wrong Finished; started again"),
             Note::BarredByAlert { description } => {
                 write!(f, "session barred by a fatal alert, description {description}")

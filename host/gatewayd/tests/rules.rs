@@ -233,7 +233,8 @@ fn clear_records_touch_the_handshake_of_their_sender_only() {
     assert_eq!(last[0], 0x63);
     let alert = [&[0x42, 0, 2, 2, 0][..], &peer::alert::checksum(last)].concat();
     let taken = world.take(2, &alert, 0);
-    assert!(taken.notes.contains(&Note::ClosedByAlert { description: 0 }), "{:?}", taken.notes);
+    let note = Note::ClosedInClear { description: 0, so_far: 1 };
+    assert!(taken.notes.contains(&note), "{:?}", taken.notes);
     assert_eq!(world.fleet.ships[0].started.len(), 1);
     assert_eq!(world.take(3, &alert, 0).notes, [Note::Stranger]);
     let change = unit.unit.clear(Content::ChangeCipherSpec, true, 1, &[1]);
@@ -853,4 +854,30 @@ fn clear_records_cost_one_trial() {
 
 fn unit_clear(content: Content) -> Vec<u8> {
     ship(0).unit.clear(content, false, 1, &[1; 20])
+}
+
+/// Our clear change cipher spec is the same six bytes for everybody: who has seen nothing can close a handshake under way with
+/// its checksum, and the log counts it. An open connection is never closed so.
+#[test]
+fn closings_by_alerts_in_the_clear_are_counted() {
+    let change = peer::alert::checksum(&[0xc1, 0, 1, 0, 1, 1]);
+    assert_eq!(change, [0xc0, 1, 1, 0]);
+    let alert = [&[0x42, 0, 0, 3, 40][..], &change].concat();
+    let mut world = World::new(1);
+    for so_far in 1..=3 {
+        let mut unit = ship(0);
+        world.greet(&mut unit, so_far as u8, 1, 0);
+        let taken = world.take(1, &alert, 0);
+        let note = Note::ClosedInClear { description: 40, so_far };
+        assert!(taken.notes.contains(&note), "{:?}", taken.notes);
+        assert!(note.to_string().ends_with(&format!("description 40; {so_far} so far")));
+        assert!(world.fleet.ships[0].started.is_empty());
+    }
+    let mut unit = ship(0);
+    world.open(&mut unit, 1);
+    let taken = world.take(1, &alert, 0);
+    let closed =
+        |note: &Note| matches!(note, Note::ClosedInClear { .. } | Note::ClosedByAlert { .. });
+    assert!(!taken.changed && !taken.notes.iter().any(closed), "{:?}", taken.notes);
+    assert_eq!(world.state(0), State::Open);
 }

@@ -3,6 +3,7 @@
 //! the unit must hear what the shore would say.
 
 mod records;
+mod sent;
 mod traffic;
 
 use crate::alert;
@@ -10,7 +11,7 @@ use crate::console::Console;
 use crate::hex;
 use crate::lines;
 use crate::rng::Rng;
-use crate::shore::State;
+use crate::shore::{Checksum, State};
 use crate::unit::Unit;
 use crate::wire;
 
@@ -64,6 +65,8 @@ struct Day<'a> {
     arrived: Vec<Vec<u8>>,
     hellos: Vec<Vec<u8>>,
     last_line: Vec<u8>,
+    /// Checksums of records that the shore sent and no longer goes by, the latest last.
+    forgotten: Vec<Checksum>,
     /// How many of a thousand numbers are not simply the next.
     disorder: usize,
     /// How many datagrams may be on their way.
@@ -96,12 +99,15 @@ impl<'a> Day<'a> {
             arrived: Vec::new(),
             hellos: Vec::new(),
             last_line: Vec::new(),
+            forgotten: Vec::new(),
         }
     }
 
     /// Makes a call, and gives the bytes that the shore put out.
     fn call(&mut self, line: Vec<u8>) -> Option<Vec<u8>> {
+        let before = self.records_sent();
         let expected = self.model.line(&line);
+        self.forget(before);
         let out = expected.iter().find_map(|line| line.strip_prefix("out "));
         let out = out.map(|text| hex::read(text.as_bytes()).expect("the model writes hex"));
         if !self.over {
@@ -182,7 +188,8 @@ impl<'a> Day<'a> {
             40..=48 => self.resend_hello(),
             49..=53 => self.hello(),
             54..=60 => self.wrong_hello(),
-            61..=80 => self.clear_alert(),
+            61..=79 => self.clear_alert(),
+            80 => self.earlier_records(),
             81..=84 => self.resend_hello_and_more(),
             85..=88 => self.traffic(),
             _ => self.call_shore(),
@@ -196,7 +203,8 @@ impl<'a> Day<'a> {
             55..=63 => self.resend_hello(),
             64..=68 => self.hello(),
             69..=73 => self.wrong_hello(),
-            74..=84 => self.clear_alert(),
+            74..=83 => self.clear_alert(),
+            84 => self.earlier_records(),
             85..=88 => self.flight(),
             89..=90 => self.resend_hello_and_more(),
             _ => self.call_shore(),

@@ -77,6 +77,7 @@ pub struct Shore {
     window: Window,
     handshake: Option<Handshake>,
     sending: Option<Sending>,
+    records_sent: Vec<Checksum>,
 }
 
 /// What a reply leaves behind for the rest of its handshake.
@@ -88,17 +89,21 @@ struct Handshake {
     unit_verify_data: Vec<u8>,
 }
 
-/// Our next numbers (65,536 once spent) and the last record that we sent.
+/// The checksum of a record that we sent.
+pub type Checksum = [u8; 4];
+
+/// Our next numbers (65,536 once spent).
 #[derive(Clone, PartialEq, Eq, Debug)]
 struct Sending {
     protected: u32,
     clear: u32,
-    last: Vec<u8>,
 }
 
 const SPENT: u32 = 65536;
 const ROOM_OF_RECEIVE: usize = 128;
 const LARGEST_DATA: usize = 1300;
+/// How many of the records that we sent an alert may be about.
+const RECORDS_SENT: usize = 8;
 
 impl Shore {
     /// Fresh connection: 16 only.
@@ -113,6 +118,7 @@ impl Shore {
             window: Window::fresh(),
             handshake: None,
             sending: None,
+            records_sent: Vec::new(),
         })
     }
 
@@ -190,8 +196,8 @@ impl Shore {
         Ok(())
     }
 
-    /// Start again: 7 in Barred, 8 anywhere but in Closed. It forgets the window and the kept
-    /// hello; sending numbers and last record stay until the next reply.
+    /// Start again: 7 in Barred, 8 anywhere but in Closed. It forgets the window, the kept hello
+    /// and the records sent; the sending numbers stay until the next reply.
     pub fn start(&mut self) -> Result<(), Refusal> {
         match self.state {
             State::Barred => Err(Refusal::Closed),
@@ -199,6 +205,7 @@ impl Shore {
                 self.state = State::Idle;
                 self.window = Window::fresh();
                 self.handshake = None;
+                self.records_sent.clear();
                 Ok(())
             }
             _ => Err(Refusal::NotAllowed),
@@ -218,12 +225,15 @@ impl Shore {
         self.sending.as_ref().map(|sending| (sending.protected, sending.clear))
     }
 
-    /// The checksum of the last record that we sent, of nothing before there is one.
-    pub fn last_checksum(&self) -> [u8; 4] {
-        match &self.sending {
-            Some(sending) => alert::checksum(&sending.last),
-            None => alert::checksum(&[]),
-        }
+    /// The checksums of the last eight records that we sent since the last start, fewer if fewer
+    /// were sent, the newest first.
+    pub fn records_sent(&self) -> &[Checksum] {
+        &self.records_sent
+    }
+
+    /// The newest of them; of nothing where there is none.
+    pub fn last_checksum(&self) -> Checksum {
+        self.records_sent.first().copied().unwrap_or(alert::checksum(&[]))
     }
 }
 
@@ -300,17 +310,17 @@ impl Shore {
             &[client_hello, &server_hello, &ours],
         );
         let clear = |content| wire::type_byte(content, false, true);
-        let last = keys.protect(Writer::Shore, Content::Handshake, false, 0, &ours);
-        let reply = [
+        let records = [
             wire::write(clear(Content::Handshake), 0, &server_hello),
             wire::write(clear(Content::ChangeCipherSpec), 1, &[1]),
-            last.clone(),
-        ]
-        .concat();
+            keys.protect(Writer::Shore, Content::Handshake, false, 0, &ours),
+        ];
+        let reply = records.concat();
         let length = reply.len();
         let hello = client_hello.to_vec();
         self.handshake = Some(Handshake { hello, reply, keys, unit_verify_data });
-        self.sending = Some(Sending { protected: 1, clear: 2, last });
+        self.sending = Some(Sending { protected: 1, clear: 2 });
+        records.iter().for_each(|record| remember(&mut self.records_sent, record));
         self.state = State::Replied;
         length
     }
@@ -324,11 +334,11 @@ impl Shore {
         Ok(Answer::Spec)
     }
 
-    /// A clear alert must carry the checksum of the last record that we sent. A clear fatal one
-    /// closes only (house rule).
+    /// A clear alert must match one of the last eight records that we sent since the last start. A
+    /// clear fatal one closes only (house rule).
     fn judge_clear_alert(&mut self, fragment: &[u8]) -> Judged {
         let alert = alert::read(fragment).ok_or(Refusal::Malformed)?;
-        if alert.checksum != self.last_checksum() {
+        if !self.records_sent.contains(&alert.checksum) {
             return Err(Refusal::Checksum);
         }
         match alert.level {
@@ -436,7 +446,7 @@ impl Shore {
             return Err(Refusal::Room);
         }
         sending.protected += 1;
-        sending.last = record.clone();
+        remember(&mut self.records_sent, &record);
         Ok(record)
     }
 
@@ -449,9 +459,15 @@ impl Shore {
             return Err(Refusal::Room);
         }
         sending.clear += 1;
-        sending.last = record.clone();
+        remember(&mut self.records_sent, &record);
         Ok(record)
     }
+}
+
+/// One record more that we sent; of nine the oldest is forgotten.
+fn remember(records_sent: &mut Vec<Checksum>, record: &[u8]) {
+    records_sent.insert(0, alert::checksum(record));
+    records_sent.truncate(RECORDS_SENT);
 }
 
 fn unspent(next: u32) -> Result<u16, Refusal> {

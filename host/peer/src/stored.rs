@@ -7,6 +7,7 @@
 use crate::alert;
 use crate::day::word;
 use crate::handshakes::{secret, session};
+use crate::hex;
 use crate::keys::Kind;
 use crate::script::Script;
 use crate::shore::{Received, Shore, Tally};
@@ -34,6 +35,7 @@ pub fn written() -> Script {
     critical_closes(&mut day);
     hellos(&mut day);
     clear_alerts(&mut day);
+    earlier_records(&mut day);
     spec(&mut day);
     wrong_finished(&mut day);
     all_in_one_datagram(&mut day);
@@ -338,6 +340,48 @@ fn clear_alerts(day: &mut Script) {
     day.hello(0x21, Kind::Sha, 0);
     day.clear_alert(3, 40);
     day.line("start");
+}
+
+fn earlier_records(day: &mut Script) {
+    day.heading(
+        "a clear alert may be about any of the last eight records since the start, not the ninth",
+    );
+    let first = day.hello(0x23, Kind::Sha, 0);
+    let mut sums = sums_of(&first);
+    for _ in 0..5 {
+        sums.insert(0, sums_of(&day.send("alert clear 1 90 - 9"))[0]);
+    }
+    sums.iter().for_each(|sum| about(day, *sum));
+    day.send("alert protected 1 90 - 29");
+    about(day, sums[7]);
+    about(day, sums[6]);
+    day.heading(
+        "a new reply forgets none of them, a start all; our change cipher spec is always the same",
+    );
+    day.hello(0x24, Kind::Sha, 0);
+    about(day, sums[3]);
+    about(day, sums[4]);
+    day.line("close");
+    day.line("start");
+    day.hello(0x25, Kind::Sha, 0);
+    about(day, sums[0]);
+    day.receive(&[0x42, 0, 0, 2, 40, 0xc0, 1, 1, 0]);
+    day.line("start");
+}
+
+/// The checksums of the records that the shore sent, the latest first.
+fn sums_of(lines: &[String]) -> Vec<[u8; 4]> {
+    let out = lines.iter().find_map(|line| line.strip_prefix("out ")).expect("something is sent");
+    let out = hex::read(out.as_bytes()).expect("the model writes hex");
+    let records = wire::frame(&out).expect("the model writes records");
+    let sum = |record: &wire::Record| alert::checksum(&out[record.start..record.fragment.end]);
+    records.iter().rev().map(sum).collect()
+}
+
+/// A clear warning with this checksum.
+fn about(day: &mut Script, sum: [u8; 4]) {
+    let content = alert::write(1, 90, sum);
+    day.receive(&wire::write(wire::type_byte(Content::Alert, false, false), 2, &content));
 }
 
 fn spec(day: &mut Script) {

@@ -3,7 +3,12 @@
 use std::collections::BTreeSet;
 use std::process::{Command, Output};
 
+use peer::alert;
+use peer::console::Console;
+use peer::day;
+use peer::hex;
 use peer::stored;
+use peer::wire;
 
 const PEER: &str = env!("CARGO_BIN_EXE_peer");
 
@@ -76,13 +81,14 @@ fn no_difference_from_the_model_itself() {
 
 /// A console that is the model but for one edit of its lines.
 fn broken(edit: &str) -> Output {
-    days(5, 3000, &["sh", "-c", &format!("{PEER} console | sed -e '{edit}'")])
+    days(5, 8000, &["sh", "-c", &format!("{PEER} console | sed -e '{edit}'")])
 }
 
 #[test]
 fn differences_are_found() {
     for edit in [
         "s/refused 11/refused 10/",
+        "s/refused 14/refused 12/",
         "s/n=65535/n=65534/",
         "s/arrived=32/arrived=31/",
         "s/^\\(out 64.*\\)a$/\\1b/",
@@ -115,4 +121,67 @@ fn a_console_that_fails_is_a_difference() {
 fn wrong_arguments_are_told() {
     let run = Command::new(PEER).arg("days").output().unwrap();
     assert_eq!(run.status.code(), Some(2));
+}
+
+/// Records that were sent, and the clear alerts about them, as the lines of a day show them.
+#[derive(Default)]
+struct AlertsHeard {
+    /// Checksums of what was sent since the last start, the latest first; and of what was sent before it.
+    sent: Vec<[u8; 4]>,
+    earlier: Vec<[u8; 4]>,
+    /// Good alerts about each of the last eight; refused ones about the ninth, and about one from before a start.
+    good: [u32; 8],
+    ninth: u32,
+    before_start: u32,
+}
+
+impl AlertsHeard {
+    fn line(&mut self, line: &[u8], lines: &[String]) {
+        let text = String::from_utf8_lossy(line).to_string();
+        let words: Vec<&str> = text.split(' ').collect();
+        match (words[0], lines[0].as_str()) {
+            ("fresh", "fresh ok") | ("start", "start ok") => {
+                self.earlier = std::mem::take(&mut self.sent);
+            }
+            ("receive", _) => self.heard(words[1], lines),
+            _ => {}
+        }
+        let resent = lines.iter().any(|line| line.starts_with("0 resent"));
+        if let Some(out) = lines.iter().find_map(|line| line.strip_prefix("out ")) {
+            let out = hex::read(out.as_bytes()).unwrap();
+            for record in wire::frame(&out).unwrap().iter().filter(|_| !resent) {
+                self.sent.insert(0, alert::checksum(&out[record.start..record.fragment.end]));
+            }
+        }
+    }
+
+    /// A datagram that is one clear alert.
+    fn heard(&mut self, datagram: &str, lines: &[String]) {
+        let Some(bytes) = hex::read(datagram.as_bytes()) else { return };
+        let &[0x42, _, _, _, _, a, b, c, d] = &bytes[..] else { return };
+        let Some(answer) = lines.get(1) else { return };
+        let place = |list: &[[u8; 4]]| list.iter().position(|sum| *sum == [a, b, c, d]);
+        let is_good = ["0 warning", "0 critical", "0 fatal"].iter().any(|w| answer.starts_with(w));
+        match (place(&self.sent), is_good, answer.starts_with("0 refused 14")) {
+            (Some(place), true, _) => self.good[place] += 1,
+            (Some(8), _, true) => self.ninth += 1,
+            (None, _, true) if place(&self.earlier).is_some() => self.before_start += 1,
+            _ => {}
+        }
+    }
+}
+
+#[test]
+fn random_days_have_alerts_about_each_of_eight_records_and_no_more() {
+    let mut alerts = AlertsHeard::default();
+    let mut model = Console::default();
+    for seed in 0..60 {
+        day::random(seed, &mut model, &mut |line: &[u8], lines: Vec<String>| {
+            alerts.line(line, &lines);
+            true
+        });
+    }
+    let AlertsHeard { good, ninth, before_start, .. } = alerts;
+    assert!(good.iter().all(|count| *count > 0), "{good:?}");
+    assert!(ninth > 0 && before_start > 0, "{ninth} {before_start}");
 }

@@ -3,9 +3,10 @@
 use peer::alert;
 use peer::console;
 use peer::handshakes::{secret, session};
+use peer::hex;
 use peer::keys::Kind;
 use peer::script::Script;
-use peer::wire::Content;
+use peer::wire::{self, Content};
 
 /// The answers of a receive: its lines without the first, the output and the state.
 fn answers(lines: &[String]) -> Vec<&str> {
@@ -217,13 +218,89 @@ fn a_replaced_hello_counts_as_another() {
 }
 
 #[test]
-fn starting_again_keeps_numbers_and_last_record() {
+fn starting_again_keeps_the_numbers() {
     let mut script = open(Kind::Sha80);
     script.send("send 6f6b 15");
     let before = script.line("close").pop().unwrap();
     let after = script.line("start").pop().unwrap();
-    let tail = |line: &str| line[line.find("sent=").unwrap()..].to_string();
-    assert_eq!(tail(&before), tail(&after));
+    assert!(before.contains(" sent=2,2 "), "{before}");
     assert!(after.starts_with("state Idle n=- marks=00000000 arrived=0 sent=2,2 "));
     assert_eq!(answers(&script.hello(0x10, Kind::Sha80, 3)), ["reply 74"]);
+}
+
+/// A clear warning that carries this checksum.
+fn warning(checksum: [u8; 4]) -> Vec<u8> {
+    [&[0x42, 0, 2, 1, 90][..], &checksum].concat()
+}
+
+fn sent(lines: &[String]) -> Vec<u8> {
+    let out = lines.iter().find_map(|line| line.strip_prefix("out ")).unwrap();
+    hex::read(out.as_bytes()).unwrap()
+}
+
+/// The checksums of the three records of a reply, the latest first.
+fn reply_sums(lines: &[String]) -> Vec<[u8; 4]> {
+    let reply = sent(lines);
+    let records = wire::frame(&reply).unwrap();
+    let sum = |record: &wire::Record| alert::checksum(&reply[record.start..record.fragment.end]);
+    records.iter().rev().map(sum).collect()
+}
+
+#[test]
+fn a_clear_alert_may_be_about_any_of_the_last_eight_records() {
+    let mut script = Script::new(&session(), &secret());
+    script.fresh();
+    let mut sums = reply_sums(&script.hello(0x10, Kind::Sha, 3));
+    for number in 2..9 {
+        for sum in &sums {
+            assert_eq!(answers(&script.receive(&warning(*sum))), ["warning 90"], "{number}");
+        }
+        sums.insert(0, alert::checksum(&sent(&script.line("alert clear 1 90 - 9"))));
+        sums.truncate(8);
+    }
+    let first = sums.pop().unwrap();
+    script.line("alert protected 1 90 - 29");
+    assert_eq!(answers(&script.receive(&warning(first))), ["refused 14"]);
+    assert_eq!(answers(&script.receive(&warning(sums[6]))), ["warning 90"]);
+    assert_eq!(answers(&script.receive(&warning([0; 4]))), ["refused 14"]);
+}
+
+#[test]
+fn a_new_reply_adds_three_records_and_a_resent_one_none() {
+    let mut script = Script::new(&session(), &secret());
+    script.fresh();
+    let first = reply_sums(&script.hello(0x10, Kind::Sha, 3));
+    let message = script.unit.last_hello().to_vec();
+    for _ in 0..4 {
+        assert_eq!(answers(&script.stray_hello(&message)), ["resent 84"]);
+    }
+    assert_eq!(answers(&script.receive(&warning(first[2]))), ["warning 90"]);
+    let second = reply_sums(&script.hello(0x11, Kind::Sha, 3));
+    assert_eq!(answers(&script.receive(&warning(first[2]))), ["warning 90"]);
+    script.hello(0x12, Kind::Sha, 3);
+    assert_eq!(answers(&script.receive(&warning(first[2]))), ["refused 14"]);
+    assert_eq!(answers(&script.receive(&warning(second[2]))), ["warning 90"]);
+}
+
+#[test]
+fn a_start_forgets_the_records_sent() {
+    let mut script = Script::new(&session(), &secret());
+    script.fresh();
+    let sums = reply_sums(&script.hello(0x10, Kind::Sha, 3));
+    script.line("close");
+    assert!(script.line("close")[1].contains(&format!("checksum={}", hex::write(&sums[0]))));
+    assert!(script.line("start")[1].contains(" sent=1,2 checksum=00000000 "));
+    script.hello(0x11, Kind::Sha, 3);
+    assert_eq!(answers(&script.receive(&warning(sums[0]))), ["refused 14"]);
+}
+
+#[test]
+fn who_has_seen_nothing_knows_the_change_cipher_spec() {
+    let mut script = replied(Kind::Sha80);
+    let fatal = [0x42, 0, 0, 3, 40, 0xc0, 1, 1, 0];
+    let lines = script.receive(&fatal);
+    assert_eq!((answers(&lines), state(&lines)), (vec!["fatal 40"], "Closed"));
+    let mut script = open(Kind::Sha80);
+    let lines = script.receive(&fatal);
+    assert_eq!((answers(&lines), state(&lines)), (vec!["refused 8"], "Open"));
 }

@@ -49,8 +49,8 @@ fn states() -> Vec<(Kind, State)> {
 
 /// Which bytes are a saved connection, said a second time: the mark, a state, a MAC kind. Every other byte is free.
 fn is_saved(bytes: &[u8]) -> bool {
-    bytes.len() == 458
-        && bytes.starts_with(b"WTG\x02")
+    bytes.len() == 490
+        && bytes.starts_with(b"WTG\x03")
         && bytes[4] <= 5
         && (bytes[65] == 2 || bytes[65] == 3)
 }
@@ -100,10 +100,11 @@ fn taken(bytes: &[u8], report: &[u8]) -> Option<&'static str> {
     if (given.refusal, given.written, given.count) != (0, 0, 1) || lent.out != [0xa5; 128] {
         return Some("a report is not answered, or the output is touched");
     }
-    // The window: highest number and marks, and behind all else its width; one that it cannot have becomes the nearest that it can.
+    // The window: highest number and marks, and apart from them its width; one that it cannot have becomes the nearest that it can.
     let width = [bytes[457], bytes[457].clamp(32, 64)].contains(&lent.state[457]);
-    let unchanged =
-        width && [&lent.state[..435], &lent.state[445..457]] == [&bytes[..435], &bytes[445..457]];
+    let unchanged = width
+        && [&lent.state[..435], &lent.state[445..457], &lent.state[458..]]
+            == [&bytes[..435], &bytes[445..457], &bytes[458..]];
     match (unchanged, lent.answers[0]) {
         (false, _) => Some("a report changes more than the window"),
         (true, 11) if lent.state != bytes => Some("a refused report changes the window"),
@@ -150,7 +151,7 @@ fn lengths() -> Result<(), String> {
     let link = Link::in_state(State::Open, Kind::Sha80);
     let report = link.record(Content::Data, 19, b"report");
     let saved = [&link.connection.save()[..], &[0; 600]].concat();
-    for length in (0..saved.len()).filter(|length| *length != 458) {
+    for length in (0..saved.len()).filter(|length| *length != 490) {
         if let Some(wrong) = refused(&saved[..length], &report) {
             return Err(format!("trials: {length} bytes lent as a connection: {wrong}"));
         }

@@ -172,7 +172,7 @@ impl Library {
             "state {:?} n={n} marks={marks:08x} arrived={} sent={sent} checksum={} tally={},{},{},{}",
             connection.state(),
             marks.count_ones(),
-            hex(&saved[453..457]),
+            hex(&saved[458..462]),
             tally.handed_out(),
             tally.forged(),
             tally.too_old(),

@@ -48,7 +48,7 @@ use Rattle.message.specs.declared.finished.Verified.{Verified}
 use Rattle.message.specs.declared.finished.Verified.the-variants as F
 use Rattle.connection.specs.Answer.{judged, refusing}
 use Rattle.connection.specs.Clear.{heardTo, greetedBy, greetedAgain, isKept, changedBy, byLevel, heardBy, heardAlert}
-use Rattle.connection.specs.Handshake.{withState, withWindow, keptHello}
+use Rattle.connection.specs.Handshake.{withState, withWindow, keptHello, wasSent}
 use Rattle.connection.specs.Judge.{judgedRecord, ruledBy, fragmentOf}
 use Rattle.connection.specs.Sealed.{finishedIn, verifiedTo, verifiedBy, sealedLevel, alertedTo, alertedBy, contentBy, unsealedBy}
 use Rattle.connection.proofs.Unsealing.{windowedTo, genuineIn, contentIn, unsealed-is}
@@ -179,9 +179,9 @@ module _ (h : Handshake) (numbers random : List ℕ) (window : HoldsNumbers h nu
         go : (x : Reading) → AlertHolds f x → AnswerHolds (Why content) (heardBy h x .answer)
         go R.Malformed w = bad-alert s c n w
         go (R.WellFormed a) w =
-            decide (eqb (a .checksum) (h .last))
+            decide (wasSent h (a .checksum))
             (λ e. rw e (clear-level (Why content) h (a .level) (a .description)))
-            (λ e. rw e (s, c, n, w .0, λ k. eqb-false (a .checksum) (h .last) e (w .1 ∙ k)))
+            (λ e. rw e (s, c, n, w .0, ap (wasSent h) (sym (w .1)) ∙ e))
 
     -- the content of a genuine new record, in the handshake g with its mark
     content-a : (content : Content) (g : Handshake) (c : List ℕ) → g .expected ≡ h .expected
@@ -401,7 +401,7 @@ module _ (h : Handshake) (numbers random : List ℕ) (window : HoldsNumbers h nu
           let (a, e, m) = is-alert f i in
           ap (λ j. j .answer) (by-rule T.Hear (alert-rule byte number f at (h .state) content p one first s c n))
           ∙ ap (λ x. heardBy h x .answer) e
-          ∙ rw (ne-eqb (a .checksum) (h .last) (λ z. k (sym m ∙ z))) refl
+          ∙ rw (ap (wasSent h) m ∙ k) refl
       because X.WrongFinished (c, w, n, i, d) =
           ap (λ j. j .answer) (fresh-b c w)
           ∙ ap (λ x. contentBy marked (sealedKind x) number place c .answer) (number-three content n)

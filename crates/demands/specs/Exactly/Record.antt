@@ -15,7 +15,7 @@ use Rattle.record.specs.History.{accepted, highestOf, windowOf}
 use Rattle.record.specs.Reader.{pairAt}
 use Rattle.record.specs.declared.reader.Record.{Record}
 use Rattle.message.specs.Values.{Values, allowed, helloOf}
-use Rattle.connection.specs.Handshake.{keptHello, planted}
+use Rattle.connection.specs.Handshake.{keptHello, planted, wasSent}
 use Rattle.connection.specs.Judge.{judgedRecord}
 use Rattle.connection.specs.declared.answer.Answer.the-variants as W
 use Rattle.connection.specs.declared.handshake.Handshake.{Handshake}
@@ -168,7 +168,7 @@ WhyRecord h numbers q X.Unacceptable =
 -- 14: "clear alert with another checksum"
 WhyRecord h numbers q X.Checksum =
     Hears (h .state) × (q .protected ≡ false) × (q .content ≡ 2) × IsAlert (q .fragment) ×
-    (wordAt (q .fragment) 2 ≢ h .last)
+    (wasSent h (wordAt (q .fragment) 2) ≡ false)
 -- 17: "genuine Finished with wrong contents"
 WhyRecord h numbers q X.WrongFinished =
     (c : List ℕ) × NewAs h numbers q c × (q .content ≡ 3) × IsFinished c × (drop 3 c ≢ h .expected)

@@ -199,11 +199,11 @@ impl Day<'_> {
         self.unit.clear(content, with_length, number, &bytes)
     }
 
-    /// A clear alert: mostly a warning, mostly with the checksum that the shore wants.
+    /// A clear alert: mostly a warning, mostly with a checksum that the shore knows or once knew.
     pub(super) fn clear_alert_record(&mut self, with_length: bool) -> Vec<u8> {
         let level = self.rng.weigh(&[(6, 1), (2, 2), (2, 3)]);
         let description = self.description();
-        let wanted = self.model.shore().map_or([0; 4], |shore| shore.last_checksum());
+        let wanted = self.some_checksum();
         let mut content = match self.rng.under(10) {
             0..=5 => alert::write(level, description, wanted),
             6..=7 => self.unit.alert(level, description),

@@ -44,20 +44,25 @@ flown-requires : tie.Need-flown-requires
 flown-requires c κs = search needs
 
 kept-hello-requires : tie.Need-kept-hello-requires
-kept-hello-requires c κs = search needs
+kept-hello-requires c κs = c .before .before .before .before .before .before .before .before .before .before .before .before .before .before .before .before .before .before .before .pre .1 .1
 
 size-requires : tie.Need-size-requires
 size-requires c κs = search needs
 
-add-t35 : tie.Need-add-t35
-add-t35 c = omega (arith, c .size .ensures, size-most (c .before .before .before .before .before .before .before .before .before .before .before .before .before .before .before .before .before .before .before .before .args .plan .mac))
+add-t36 : tie.Need-add-t36
+add-t36 c = omega (arith, c .size .ensures, size-most (c .before .before .before .before .before .before .before .before .before .before .before .before .before .before .before .before .before .before .before .before .before .args .plan .mac))
+
+with-reply-requires : tie.Need-with-reply-requires
+with-reply-requires c κs = search needs
 
 returns : tie.Need-returns
-returns c = let args = c .before .before .before .before .before .before .before .before .before .before .before .before .before .before .before .before .before .before .before .before .args in
-    let id-size : length (args .h .id) ≡ 8 = search (needs, c .before .before .before .before .before .before .before .before .before .before .before .before .before .before .before .before .before .before .before .before .good .0) in
-    answered-by (args .h) (args .random) (args .m .now) (args .plan) _ _ _ _ _ _ _ _
-    (c .before .before .before .before .before .before .before .before .before .before .before .before .before .before .client-random .ensures) (c .before .before .before .before .before .before .before .before .before .before .before .before .before .server-hello .ensures) (c .before .before .before .before .before .before .before .before .before .before .server-verify .ensures) (c .before .before .before .before .before .before .before .before .before .message .ensures) (c .before .before .before .before .before .client-verify .ensures) (c .before .before .before .before .flown .ensures) (c .before .kept-hello .ensures)
-    (ap (λ n. 64 + n) (c .size .ensures) ∙ sym (reply-size (planted (args .h)) (args .random) (args .m .now) (args .plan) (c .before .before .before .before .before .before .before .before .before .before .before .before .before .before .before .before .before .before .before .before .pre .0) id-size))
+returns c = let args = c .before .before .before .before .before .before .before .before .before .before .before .before .before .before .before .before .before .before .before .before .before .before .args in
+    let id-size : length (args .h .id) ≡ 8 = search (needs, c .before .before .before .before .before .before .before .before .before .before .before .before .before .before .before .before .before .before .before .before .before .before .good .0) in
+    answered-by (args .h) (args .random) (args .m .now) (args .plan) _ _ _ _ _ _ _ _ _
+    (c .before .before .before .before .before .before .before .before .before .before .before .before .before .before .before .before .client-random .ensures) (c .before .before .before .before .before .before .before .before .before .before .before .before .before .before .before .server-hello .ensures) (c .before .before .before .before .before .before .before .before .before .before .before .before .server-verify .ensures) (c .before .before .before .before .before .before .before .before .before .before .before .message .ensures) (c .before .before .before .before .before .before .before .client-verify .ensures)
+    (c .before .before .before .before .before .before .flown .ensures) (c .before .before .kept-hello .ensures)
+    (ap (λ n. 64 + n) (c .before .size .ensures) ∙ sym (reply-size (planted (args .h)) (args .random) (args .m .now) (args .plan) (c .before .before .before .before .before .before .before .before .before .before .before .before .before .before .before .before .before .before .before .before .before .before .pre .0) id-size))
+    (c .with-reply .ensures)
 
 pub answered-spec : {M : Type 1} → statement M
 answered-spec =
@@ -76,5 +81,6 @@ answered-spec =
     flown-requires
     kept-hello-requires
     size-requires
-    add-t35
+    add-t36
+    with-reply-requires
     returns)

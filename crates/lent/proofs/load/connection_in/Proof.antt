@@ -19,8 +19,8 @@ expected-in-requires c κs = search needs
 kept-in-requires : tie.Need-kept-in-requires
 kept-in-requires c κs = search needs
 
-four-in-requires : tie.Need-four-in-requires
-four-in-requires c κs = search needs
+sent-in-requires : tie.Need-sent-in-requires
+sent-in-requires c κs = search needs
 
 protection-in-requires : tie.Need-protection-in-requires
 protection-in-requires c κs = search needs
@@ -34,7 +34,7 @@ returns c =
         id = c .before .before .before .before .id-in .ensures i;
         expected = c .before .before .before .expected-in .ensures i;
         kept = c .before .before .kept-in .ensures i;
-        last = c .before .four-in .ensures i;
+        sent = c .before .sent-in .ensures i;
         protection = c .protection-in .ensures i;
       };
     }
@@ -48,6 +48,6 @@ connection-in-spec =
     id-in-requires
     expected-in-requires
     kept-in-requires
-    four-in-requires
+    sent-in-requires
     protection-in-requires
     returns)

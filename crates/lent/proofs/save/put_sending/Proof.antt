@@ -42,14 +42,14 @@ returns : tie.Need-returns
 returns c =
     let d = c .before .before .before .before .before .before .before .before .before .before .before .before .before .before .before .before .before .before .before .args .d .now in
     let protection = c .before .before .before .before .before .before .before .before .before .before .before .before .before .before .before .before .before .before .before .args .protection in
-    let last = c .before .before .before .before .before .before .before .before .before .before .before .before .before .before .before .before .before .before .before .args .last in
+    let count = c .before .before .before .before .before .before .before .before .before .before .before .before .before .before .before .before .before .before .before .args .count in
     let one = laid-more 445 4 (c .before .before .before .before .before .before .before .before .before .before .before .before .before .before .before .before .before .four .result) (bytes4 (protection .protected)) (c .before .before .before .before .before .before .before .before .before .before .before .before .before .before .put .last .0) (laid-none d 445 (omega (arith, c .before .before .before .before .before .before .before .before .before .before .before .before .before .before .before .before .before .before .before .pre))) refl (c .before .before .before .before .before .before .before .before .before .before .before .before .before .before .before .before .before .four .ensures) refl (omega (arith, c .before .before .before .before .before .before .before .before .before .before .before .before .before .before .before .before .before .before .before .pre)) (c .before .before .before .before .before .before .before .before .before .before .before .before .before .before .put .ensures) in
     let two = laid-more 449 4 (c .before .before .before .before .before .before .before .before .before .before .before .four2 .result) (bytes4 (protection .clear)) (c .before .before .before .before .before .before .before .before .put2 .last .0) one refl (c .before .before .before .before .before .before .before .before .before .before .before .four2 .ensures) refl (omega (arith, c .before .before .before .before .before .before .before .before .before .before .before .before .before .before .before .before .before .before .before .pre)) (c .before .before .before .before .before .before .before .before .put2 .ensures) in
-    let three = laid-more 453 4 (c .before .before .before .before .before .four3 .result) (bytes4 (last)) (c .before .before .put3 .last .0) two refl (c .before .before .before .before .before .four3 .ensures) refl (omega (arith, c .before .before .before .before .before .before .before .before .before .before .before .before .before .before .before .before .before .before .before .pre)) (c .before .before .put3 .ensures) in
+    let three = laid-more 453 4 (c .before .before .before .before .before .four3 .result) (bytes4 (count)) (c .before .before .put3 .last .0) two refl (c .before .before .before .before .before .four3 .ensures) refl (omega (arith, c .before .before .before .before .before .before .before .before .before .before .before .before .before .before .before .before .before .before .before .pre)) (c .before .before .put3 .ensures) in
     let n-protected : protection .protected < 4294967296 = search (needs, c .before .before .before .before .before .before .before .before .before .before .before .before .before .before .before .before .before .before .before .good .1 .0) in
     let n-clear : protection .clear < 4294967296 = search (needs, c .before .before .before .before .before .before .before .before .before .before .before .before .before .before .before .before .before .before .before .good .1 .0) in
-    let n-last : last < 4294967296 = search (needs, c .before .before .before .before .before .before .before .before .before .before .before .before .before .before .before .before .before .before .before .fits .last) in
-    (three .bytes, (three .count, (n-protected, (n-clear, n-last))))
+    let n-count : count < 4294967296 = search (needs, c .before .before .before .before .before .before .before .before .before .before .before .before .before .before .before .before .before .before .before .fits .count) in
+    (three .bytes, (three .count, (n-protected, (n-clear, n-count))))
 
 pub put-sending-spec : {M : Type 1} → statement M
 put-sending-spec =
