@@ -50,7 +50,7 @@ const HELLOS_FROM_ITS_HOST: u32 = 10;
 
 impl Ship {
     pub fn fresh(session: Session, now: Instant) -> Result<Ship, String> {
-        let connection = Connection::fresh(&session.id, &session.secret)
+        let connection = Connection::fresh(&session.id, &session.secret, session.width)
             .map_err(|refusal| format!("{session:?}: {refusal}"))?;
         Ok(Ship {
             planting: planting(&session),
@@ -72,12 +72,15 @@ impl Ship {
         !self.barred && self.connection.state() == State::Open
     }
 
-    /// The connection on which a new handshake starts: the one that is there, if it is Idle, or
-    /// another one of the same session beside it.
+    /// The connection on which a new handshake starts: the one that is there, if it is Idle and of
+    /// the width that the sessions file says, or another one of the same session beside it.
     pub fn base(&self) -> Option<Connection> {
+        let Session { id, secret, width, .. } = &self.session;
         match self.connection.state() {
-            State::Idle => Some(self.connection.clone()),
-            _ => Connection::fresh(&self.session.id, &self.session.secret).ok(),
+            State::Idle if self.connection.width() == *width as usize => {
+                Some(self.connection.clone())
+            }
+            _ => Connection::fresh(id, secret, *width).ok(),
         }
     }
 }

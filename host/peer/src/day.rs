@@ -259,8 +259,8 @@ impl Day<'_> {
     fn wrong_fresh(&mut self) {
         let (identifier, secret, width) = match self.rng.percent(50) {
             true => {
-                let widths = [31, 65, 0, 1, 16, 66, 128, 255, 256, 288, 65568, 999_999_999];
-                (8, 20, self.rng.pick(&widths))
+                let far = self.rng.pick(&[0, 1, 16, 66, 128, 255, 256, 288, 65568, 999_999_999]);
+                (8, 20, self.rng.weigh(&[(1, 31), (1, 65), (2, far)]))
             }
             false => {
                 let sizes = [(8, 19), (8, 21), (7, 20), (9, 20), (0, 0), (20, 8)];
