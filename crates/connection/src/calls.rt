@@ -43,7 +43,10 @@ pub fn fresh(id: &[u8], secret: &[u8], width: u32) -> Called
     if 64 < width {
         return leave(Outcome::Refused(Refusal::Argument), blank());
     }
-    leave(Outcome::Done, made(planted(id, secret), width as u8, State::Idle))
+    leave(
+        Outcome::Done,
+        made(planted(id, secret), width as u8, State::Idle),
+    )
 }
 
 // Close leads anywhere but Barred to Closed.

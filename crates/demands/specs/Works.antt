@@ -74,5 +74,5 @@ pub record Worked (g : Gateway) (id secret : List ℕ) (width : ℕ) (m random o
 unfoldable pub Works : Gateway → Type 0
 Works g =
     (id secret : List ℕ) (width : ℕ) → Held width → (m random out bytes : List ℕ) (plan : Plan) → length random ≡ 16 → 128 ≤ length out
-    → heardOf m id ≡ Accepted plan → 1 ≤ length bytes → length bytes ≤ 1300 
+    → heardOf m id ≡ Accepted plan → 1 ≤ length bytes → length bytes ≤ 1300
     → Worked g id secret width m random out bytes plan
