@@ -481,7 +481,9 @@ fn store_and_forward(day: &mut Script) {
     for number in [41, 42, 43, 44, 1, 2, 3, 4, 1, 65, 66, 2, 3, 4] {
         day.data(number, "late");
     }
-    day.heading("a jump of the width leaves the one mark, and the width stays over close and start again");
+    day.heading(
+        "a jump of the width leaves the one mark, and the width stays over close and start again",
+    );
     day.data(130, "far");
     day.line("close");
     day.line("start");

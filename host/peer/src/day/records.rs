@@ -56,7 +56,8 @@ impl Day<'_> {
             0..=34 => next + self.rng.between(1, 70),
             35..=64 => highest.saturating_sub(self.rng.between(0, 70)),
             65..=84 => {
-                let edges = [0, width - 2, width - 1, width, width, width, width + 1, 31, 32, 63, 64];
+                let edges =
+                    [0, width - 2, width - 1, width, width, width, width + 1, 31, 32, 63, 64];
                 highest.saturating_sub(self.rng.pick(&edges))
             }
             85..=94 => highest + 1,
