@@ -108,7 +108,8 @@ mod tests {
         (out, link)
     }
 
-    /// Each datagram that was forwarded comes out just behind the fortieth after it.
+    /// Each datagram that was forwarded comes out just behind the fortieth after it, or behind those
+    /// before that one where it was forwarded, too.
     #[test]
     fn forwarded_are_forty_places_late() {
         let mut link = Link::new(Rates { forward: 20, ..Rates::default() }, 7);
@@ -116,7 +117,8 @@ mod tests {
         let mut out: Vec<Vec<u8>> = (0..200).flat_map(|n| link.pass(vec![n, 0, 0])).collect();
         assert_eq!(out.len() + link.under_way.len(), 200);
         let late: Vec<u8> = late_by(&out);
-        assert!(late.len() > 20 && late.iter().all(|places| *places == 40), "{late:?}");
+        assert!(late.len() > 20 && late.iter().all(|places| (32..=40).contains(places)));
+        assert!(late.iter().filter(|places| **places == 40).count() > 20, "{late:?}");
         out.extend(link.empty());
         assert_eq!(out.len(), 200);
     }
