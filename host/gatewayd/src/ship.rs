@@ -100,3 +100,20 @@ impl Handshake {
 fn planting(session: &Session) -> [u8; 20] {
     sha1(&[b"planting", &session.id, &session.secret])
 }
+
+#[cfg(test)]
+mod tests {
+    use super::*;
+
+    /// The open connection keeps its width; a new handshake has the one that the file says now.
+    #[test]
+    fn another_width_comes_with_the_next_handshake() {
+        let session = Session { id: [1; 8], secret: [2; 20], width: 32, ship: "A".to_string() };
+        let mut ship = Ship::fresh(session, Instant::now()).unwrap();
+        assert_eq!(ship.base().unwrap().width(), 32);
+        ship.session.width = 64;
+        assert_eq!((ship.connection.width(), ship.base().unwrap().width()), (32, 64));
+        ship.connection.close().unwrap();
+        assert_eq!((ship.connection.width(), ship.base().unwrap().width()), (32, 64));
+    }
+}
