@@ -142,10 +142,11 @@ static void shore_open(struct shore *s, int made_by, unsigned refresh) {
 static uint8_t state[GATEWAY_STATE_SIZE], tally[GATEWAY_TALLY_SIZE], answers[GATEWAY_ANSWERS_SIZE], out[128], fresh_random[16];
 
 static void ours_open(unsigned refresh) {
-    memset(state, 0, sizeof state);
-    memcpy(state, "WTG\3", 4);
+    uint8_t id[GATEWAY_ID_SIZE] = {0}, secret[GATEWAY_SECRET_SIZE];
+    memset(secret, 0x31, sizeof secret);
+    gateway_fresh(id, sizeof id, secret, sizeof secret, 32, state, sizeof state);
     state[4] = GATEWAY_OPEN;
-    memset(state + 13, 0x31, 20), memset(state + 33, 0x80, 16), memset(state + 49, 0x10, 16);
+    memset(state + 33, 0x80, 16), memset(state + 49, 0x10, 16);
     state[65] = 2;
     state[66] = (uint8_t)refresh;
 }

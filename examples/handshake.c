@@ -22,7 +22,7 @@ int main(void) {
     from_hex("a0a1a2a3a4a5a6a7", id);
     from_hex("303132333435363738393a3b3c3d3e3f40414243", secret);
     from_hex("808182838485868788898a8b8c8d8e8f", random); /* a real caller draws fresh bytes for each receive */
-    printf("fresh: refusal %u\n", GATEWAY_REFUSAL(gateway_fresh(id, 8, secret, 20, state, sizeof state)));
+    printf("fresh: refusal %u\n", GATEWAY_REFUSAL(gateway_fresh(id, 8, secret, 20, 64, state, sizeof state)));
     for (size_t i = 0; i < 3; i++) {
         size_t n = from_hex(datagrams[i], datagram);
         uint64_t result = gateway_receive(state, sizeof state, tally, sizeof tally, datagram, n, random, sizeof random,
@@ -37,5 +37,7 @@ int main(void) {
     }
     uint64_t sent = gateway_send_data(state, sizeof state, (const uint8_t *)"answer", 6, out, sizeof out);
     printf("send: refusal %u, to send %zu\n", GATEWAY_REFUSAL(sent), GATEWAY_WRITTEN(sent));
+    printf("arrived: %zu of the newest %zu\n", GATEWAY_COUNT(gateway_arrived(state, sizeof state)),
+           GATEWAY_COUNT(gateway_width(state, sizeof state)));
     return 0;
 }

@@ -30,6 +30,8 @@ extern "C" {
 #define GATEWAY_ID_SIZE 8
 #define GATEWAY_SECRET_SIZE 20
 #define GATEWAY_RANDOM_SIZE 16
+#define GATEWAY_WIDTH_LEAST 32   /* the widths that a window may have */
+#define GATEWAY_WIDTH_MOST 64
 #define GATEWAY_REPLY_ROOM 128   /* the least room that a receive needs for a reply */
 #define GATEWAY_DATAGRAM_MOST 1400
 #define GATEWAY_DATA_MOST 1300
@@ -105,10 +107,12 @@ struct gateway_answer {
     size_t start, size;
 };
 
-/* A fresh connection of a planted session: an identifier of 8 bytes, a master secret of 20, and 490 bytes for the connection,
-   whatever they hold.
-   Done: they hold a connection in Idle. Refused: 16, where one of the three has another length. */
-uint64_t gateway_fresh(const uint8_t *id, size_t id_size, const uint8_t *secret, size_t secret_size,
+/* A fresh connection of a planted session: an identifier of 8 bytes, a master secret of 20, the width of its window, 32 to 64, and
+   490 bytes for the connection, whatever they hold. A record is too old if its number is at most the highest accepted less the
+   width: 32 serves a link that keeps the order nearly, 64 one that stores and forwards. The width stays what it is here, over
+   close and start again.
+   Done: they hold a connection in Idle. Refused: 16, where one of the three has another length, or the width is none. */
+uint64_t gateway_fresh(const uint8_t *id, size_t id_size, const uint8_t *secret, size_t secret_size, uint32_t width,
                        uint8_t *state, size_t state_size);
 
 /* Takes a datagram. `random` is 16 fresh bytes for the server random of a reply (only a new reply uses them; that they are fresh
@@ -144,6 +148,13 @@ uint64_t gateway_start(uint8_t *state, size_t state_size);
 /* The connection's state as the count, one of enum gateway_state. Refused: 16, where the bytes are no saved connection: with
    this, bytes that come from elsewhere can be tested. */
 uint64_t gateway_state(const uint8_t *state, size_t state_size);
+
+/* The arrival report: how many of the newest numbers have arrived, the highest included, as many of them as the width says; 0
+   before the first. It is the count. Refused: 16, where the bytes are no saved connection. */
+uint64_t gateway_arrived(const uint8_t *state, size_t state_size);
+
+/* The width of the connection's window, as the count. Refused: 16, where the bytes are no saved connection. */
+uint64_t gateway_width(const uint8_t *state, size_t state_size);
 
 /* The number that n bytes spell, high byte first. */
 static inline uint64_t gateway_number(const uint8_t *bytes, size_t n) {

@@ -3,7 +3,7 @@
 use mathlib.Core.List.{List}
 use Prim.Native.Nat.{ℕ}
 use lib.ListN.{length}
-use lib.Dec.{eqb}
+use lib.Dec.{eqb, ltb}
 use Rattle.digest.specs.Pick.{pick}
 use Rattle.connection.specs.Refusal.{refusalNumber}
 use Rattle.connection.specs.Handshake.{newHandshake, blankHandshake, withState, reopened}
@@ -29,12 +29,19 @@ leaving outcome h = record { outcome = outcome; connection = record { handshake 
 abbrev pub sessionOf : List ℕ → List ℕ → Session
 sessionOf id secret = record { id = id; secret = secret }
 
--- 16: "identifier not 8, secret not 20". What stands beside the refusal is blank and Barred.
-unfoldable pub freshOf : List ℕ → List ℕ → Called
-freshOf id secret =
+-- 16. What stands beside the refusal is blank and Barred.
+abbrev pub outOfRange : Called
+outOfRange = leaving (Refused Argument) blankHandshake
+
+-- 16: "identifier not 8, secret not 20", "width outside 32 to 64" (02, P1)
+unfoldable pub freshOf : List ℕ → List ℕ → ℕ → Called
+freshOf id secret width =
     pick (eqb (length id) 8)
-    (pick (eqb (length secret) 20) (leaving Done (newHandshake (sessionOf id secret) S.Idle)) (leaving (Refused Argument) blankHandshake))
-    (leaving (Refused Argument) blankHandshake)
+    (pick (eqb (length secret) 20)
+    (pick (ltb width 32) outOfRange
+    (pick (ltb 64 width) outOfRange (leaving Done (newHandshake (sessionOf id secret) width S.Idle))))
+    outOfRange)
+    outOfRange
 
 -- "Close leads anywhere but Barred to Closed."
 abbrev pub closedIn : Handshake → State → Called

@@ -31,25 +31,25 @@ nothingExpected = replicate 12 0
 unfoldable pub nothingKept : Kept
 nothingKept = record { hello = replicate 256 0; heard = 0; reply = replicate 84 0; size = 0 }
 
-abbrev pub newProtection : List ℕ → Protection
-newProtection secret =
-    record { keys = unagreedKeys secret Sha80 0; window = freshWindow windowWidth; protected = 0; clear = 0 }
+abbrev pub newProtection : List ℕ → ℕ → Protection
+newProtection secret width =
+    record { keys = unagreedKeys secret Sha80 0; window = freshWindow width; protected = 0; clear = 0 }
 
--- a handshake of a session in which nothing has happened
-abbrev pub newHandshake : Session → State → Handshake
-newHandshake session state =
+-- a handshake of a session in which nothing has happened, with a window of this width
+abbrev pub newHandshake : Session → ℕ → State → Handshake
+newHandshake session width state =
     record {
       state = state;
       id = session .id;
       expected = nothingExpected;
       kept = nothingKept;
       sent = noRecords;
-      protection = newProtection (session .secret);
+      protection = newProtection (session .secret) width;
     }
 
 -- what stands beside a refused fresh
 abbrev pub blankHandshake : Handshake
-blankHandshake = newHandshake noSession Barred
+blankHandshake = newHandshake noSession windowWidth Barred
 
 -- the session of a handshake: its identifier, and the secret that its keys are made of
 abbrev pub planted : Handshake → Session

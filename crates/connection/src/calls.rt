@@ -26,9 +26,10 @@ pub struct Called {
     pub connection: Connection,
 }
 
-// A fresh connection of a planted session: an identifier of 8 bytes and a secret of 20, else 16.
-pub fn fresh(id: &[u8], secret: &[u8]) -> Called
-    ensures { λ r. ⌜ r ≡ freshOf (now (id .entry)) (now (secret .entry)) ⌝ }
+// A fresh connection of a planted session, an identifier of 8 bytes and a secret of 20, whose window has a width from
+// 32 to 64; else 16.
+pub fn fresh(id: &[u8], secret: &[u8], width: u32) -> Called
+    ensures { λ r. ⌜ r ≡ freshOf (now (id .entry)) (now (secret .entry)) width ⌝ }
 {
     if id.len() != 8 {
         return leave(Outcome::Refused(Refusal::Argument), blank());
@@ -36,7 +37,16 @@ pub fn fresh(id: &[u8], secret: &[u8]) -> Called
     if secret.len() != 20 {
         return leave(Outcome::Refused(Refusal::Argument), blank());
     }
-    leave(Outcome::Done, made(planted(id, secret), State::Idle))
+    if width < 32 {
+        return leave(Outcome::Refused(Refusal::Argument), blank());
+    }
+    if 64 < width {
+        return leave(Outcome::Refused(Refusal::Argument), blank());
+    }
+    leave(
+        Outcome::Done,
+        made(planted(id, secret), width as u8, State::Idle),
+    )
 }
 
 // Close leads anywhere but Barred to Closed.

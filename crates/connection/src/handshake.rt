@@ -8,6 +8,7 @@ use crate::state::State;
 use digest::Mac;
 use record::keys::Keys;
 use record::protection::Protection;
+use record::window::WIDTH;
 use record::window::Window;
 
 // The session planted at fitting out. In a handshake its secret is what the protection's keys are made of.
@@ -116,12 +117,12 @@ impl Handshake {
 pub fn blank() -> Handshake
     ensures { λ r. ⌜ r ≡ blankHandshake ⌝ }
 {
-    made(no_session(), State::Barred)
+    made(no_session(), WIDTH, State::Barred)
 }
 
-// A handshake of a session in which nothing has happened.
-pub fn made(session: Session, state: State) -> Handshake
-    ensures { λ r. ⌜ r ≡ newHandshake session state ⌝ }
+// A handshake of a session in which nothing has happened, with a window of this width.
+pub fn made(session: Session, width: u8, state: State) -> Handshake
+    ensures { λ r. ⌜ r ≡ newHandshake session width state ⌝ }
 {
     let id = session.id;
     let secret = session.secret;
@@ -131,13 +132,13 @@ pub fn made(session: Session, state: State) -> Handshake
         expected: [0; 12],
         kept: nothing_kept(),
         sent: SentRecords::fresh(),
-        protection: new_protection(secret),
+        protection: new_protection(secret, width),
     }
 }
 
 // The protection of a secret under which nothing has happened.
-fn new_protection(secret: [u8; 20]) -> Protection
-    ensures { λ r. ⌜ r ≡ newProtection secret ⌝ }
+fn new_protection(secret: [u8; 20], width: u8) -> Protection
+    ensures { λ r. ⌜ r ≡ newProtection secret width ⌝ }
 {
     Protection {
         keys: Keys {
@@ -147,7 +148,7 @@ fn new_protection(secret: [u8; 20]) -> Protection
             mac: Mac::Sha80,
             refresh: 0,
         },
-        window: Window::fresh(),
+        window: Window::fresh(width),
         protected: 0,
         clear: 0,
     }

@@ -9,9 +9,9 @@ use Rattle.lines.specs.Said.{isNamed, bytesAt, numberAt}
 use Rattle.console.specs.declared.call.Call.{Call}
 use Rattle.console.specs.declared.call.Call.the-variants.{Fresh, Receive, Send, Alert, Close, Start, Bad}
 
--- fresh ID SECRET
+-- fresh ID SECRET WIDTH
 abbrev pub freshWords : List ℕ → Bool
-freshWords l = pick (eqb (spacesIn l) 2) (pick (bytesAt l 1) (bytesAt l 2) false) false
+freshWords l = pick (eqb (spacesIn l) 3) (pick (bytesAt l 1) (pick (bytesAt l 2) (numberAt l 3 999999999) false) false) false
 
 -- receive DATAGRAM RANDOM ROOM
 abbrev pub receiveWords : List ℕ → Bool

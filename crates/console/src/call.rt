@@ -11,6 +11,9 @@ use lines::words::spaces;
 // The most bytes of output that a line may lend.
 const ROOM: usize = 2048;
 
+// The most that nine digits spell.
+const NUMBER: usize = 999999999;
+
 pub enum Call {
     Fresh,
     Receive,
@@ -74,12 +77,13 @@ fn call_if(call: Call, good: bool) -> Call
     Call::Bad
 }
 
-// fresh ID SECRET
+// fresh ID SECRET WIDTH
 fn fresh_words(line: &[u8]) -> bool
     ensures { λ r. ⌜ r ≡ freshWords (now (line .entry)) ⌝ }
 {
-    let rest = both(bytes_at(line, 1), bytes_at(line, 2));
-    both(spaces(line) == 2, rest)
+    let rest = both(bytes_at(line, 2), number_at(line, 3, NUMBER));
+    let rest = both(bytes_at(line, 1), rest);
+    both(spaces(line) == 3, rest)
 }
 
 // receive DATAGRAM RANDOM ROOM

@@ -53,12 +53,20 @@ fn run_fresh(console: Console, line: &[u8], text: &mut [u8], at: usize) -> Ran {
     let n = put_bytes(word(line, 1), &mut id);
     let mut secret = io::buffer();
     let m = put_bytes(word(line, 2), &mut secret);
-    fresh(console, &id[..n], &secret[..m], text, at)
+    let width = number(word(line, 3), 999999999) as u32;
+    fresh(console, &id[..n], &secret[..m], width, text, at)
 }
 
 // A refused fresh leaves connection and tally as they were.
-fn fresh(console: Console, id: &[u8], secret: &[u8], text: &mut [u8], at: usize) -> Ran {
-    let called = calls::fresh(id, secret);
+fn fresh(
+    console: Console,
+    id: &[u8],
+    secret: &[u8],
+    width: u32,
+    text: &mut [u8],
+    at: usize,
+) -> Ran {
+    let called = calls::fresh(id, secret, width);
     let outcome = called.outcome;
     match outcome {
         Outcome::Done => {

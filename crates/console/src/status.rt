@@ -39,19 +39,25 @@ fn put_name(connected: bool, state: State, text: &mut [u8], at: usize) -> usize 
     }
 }
 
-// The highest number accepted, the marks of the 32 newest, the least significant bit first, and how many of them have arrived.
+// The highest number accepted, the marks of the newest, the least significant bit first, and how many of them have arrived.
 fn put_window(window: Window, text: &mut [u8], at: usize) -> usize {
-    let marks = (window.marks % 4294967296) as u32;
+    let marks = window.marks;
     let end = put(text, at, b" n=");
     let end = put_highest(window.highest, marks, text, end);
     let end = put(text, end, b" marks=");
-    let end = put_word(text, end, marks);
+    let end = put_marks(marks, text, end);
     let end = put(text, end, b" arrived=");
-    put_count(u32::count_ones(marks), text, end)
+    put_count(window.arrival(), text, end)
+}
+
+// The marks in 16 hex digits.
+fn put_marks(marks: u64, text: &mut [u8], at: usize) -> usize {
+    let end = put_word(text, at, (marks / 4294967296) as u32);
+    put_word(text, end, (marks % 4294967296) as u32)
 }
 
 // `-` in a fresh window, which has no mark.
-fn put_highest(highest: u16, marks: u32, text: &mut [u8], at: usize) -> usize {
+fn put_highest(highest: u16, marks: u64, text: &mut [u8], at: usize) -> usize {
     if marks == 0 {
         return put(text, at, b"-");
     }

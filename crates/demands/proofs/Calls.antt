@@ -23,11 +23,11 @@ use Rattle.message.specs.declared.alert.Graded.{Graded}
 use Rattle.message.specs.declared.alert.Graded.the-variants as G
 use Rattle.message.specs.declared.alert.Sorted.{Sorted}
 use Rattle.message.specs.declared.alert.Sorted.the-variants as D
-use Rattle.connection.specs.Handshake.{withState, reopened, blankHandshake}
+use Rattle.connection.specs.Handshake.{withState, reopened}
 use Rattle.connection.specs.Judge.{judgedRecord}
 use Rattle.connection.specs.Receive.{slotsOf, firstReply, endOf, answersOf, receivedOf, outputOf, wholeOf, runOf, framedTo, sentOf}
 use Rattle.connection.specs.Send.{nextProtected, nextAlert, afterProtected, afterAlert, alertBody, mayData, maySeal, mayClear, andThen, numberedBy, dataRefused, alertRefused, alertOutcome, sentTo, outputTo, done, dataSent, dataOutput, dataOutcome, alertSent, alertOutput, alertSentAs, alertOutputAs}
-use Rattle.connection.specs.Calls.{closedOf, closedIn, startedOf, startedIn, freshOf, leaving}
+use Rattle.connection.specs.Calls.{closedOf, closedIn, startedOf, startedIn, freshOf, outOfRange, leaving}
 use Rattle.connection.specs.declared.state.State.{State}
 use Rattle.connection.specs.declared.state.State.the-variants as S
 use Rattle.connection.specs.declared.refusal.Refusal.{Refusal}
@@ -490,33 +490,60 @@ calls-hold c call s = (λ e. subst (CallRow c call) e (call-of c call), call-is 
 
 -- ---- fresh
 
-module _ (id secret : List ℕ) where
-  abbrev freshBy : Bool → Bool → Called
-  freshBy eight twenty =
-      pick eight (pick twenty (leaving O.Done (freshWith id secret)) (leaving (O.Refused X.Argument) blankHandshake)) (leaving (O.Refused X.Argument) blankHandshake)
+module _ (id secret : List ℕ) (width : ℕ) where
+  abbrev freshBy : Bool → Bool → Bool → Bool → Called
+  freshBy eight twenty narrow wide =
+      pick eight (pick twenty (pick narrow outOfRange (pick wide outOfRange (leaving O.Done (freshWith id secret width)))) outOfRange) outOfRange
 
-  fresh-is : freshOf id secret ≡ freshBy (eqb (length id) 8) (eqb (length secret) 20)
+  fresh-is : freshOf id secret width ≡ freshBy (eqb (length id) 8) (eqb (length secret) 20) (ltb width 32) (ltb 64 width)
   unfolding freshOf
   fresh-is = refl
 
-  fresh-by : (a b : Bool) → eqb (length id) 8 ≡ a → eqb (length secret) 20 ≡ b → FreshRow id secret (freshBy a b)
-  fresh-by false b ea eb = fresh-16 (inl (eqb-false (length id) 8 ea))
-  fresh-by true false ea eb = fresh-16 (inr (eqb-false (length secret) 20 eb))
-  fresh-by true true ea eb = fresh-done (eqb-true (length id) 8 ea) (eqb-true (length secret) 20 eb)
+  fresh-by : (a b n w : Bool) → eqb (length id) 8 ≡ a → eqb (length secret) 20 ≡ b → ltb width 32 ≡ n → ltb 64 width ≡ w
+      → FreshRow id secret width (freshBy a b n w)
+  fresh-by false b n w ea eb en ew = fresh-16 (inl (eqb-false (length id) 8 ea))
+  fresh-by true false n w ea eb en ew = fresh-16 (inr (inl (eqb-false (length secret) 20 eb)))
+  fresh-by true true true w ea eb en ew = fresh-16 (inr (inr (inl (ltb-true width 32 en))))
+  fresh-by true true false true ea eb en ew = fresh-16 (inr (inr (inr (ltb-true 64 width ew))))
+  fresh-by true true false false ea eb en ew =
+      fresh-done (eqb-true (length id) 8 ea) (eqb-true (length secret) 20 eb) (ltb-false width 32 en, ltb-false 64 width ew)
 
-  fresh-of : FreshRow id secret (freshOf id secret)
-  fresh-of = subst (FreshRow id secret) (sym fresh-is) (fresh-by (eqb (length id) 8) (eqb (length secret) 20) refl refl)
+  pub fresh-of : FreshRow id secret width (freshOf id secret width)
+  fresh-of =
+      subst (FreshRow id secret width) (sym fresh-is)
+      (fresh-by (eqb (length id) 8) (eqb (length secret) 20) (ltb width 32) (ltb 64 width) refl refl refl refl)
 
-  not-twenty : (b : Bool) → freshBy b false ≡ leaving (O.Refused X.Argument) blankHandshake
-  not-twenty true = refl
-  not-twenty false = refl
+  not-twenty : (a n w : Bool) → freshBy a false n w ≡ outOfRange
+  not-twenty true n w = refl
+  not-twenty false n w = refl
 
-  fresh-row : {s : Called} → FreshRow id secret s → freshOf id secret ≡ s
-  fresh-row (fresh-16 (inl n)) = fresh-is ∙ ap (λ b. freshBy b (eqb (length secret) 20)) (ne-eqb (length id) 8 n)
-  fresh-row (fresh-16 (inr n)) =
-      fresh-is ∙ ap (λ b. freshBy (eqb (length id) 8) b) (ne-eqb (length secret) 20 n) ∙ not-twenty (eqb (length id) 8)
-  fresh-row (fresh-done a b) = fresh-is ∙ ap₂ freshBy (eq-eqb (length id) 8 a) (eq-eqb (length secret) 20 b)
+  too-narrow : (a b w : Bool) → freshBy a b true w ≡ outOfRange
+  too-narrow true true w = refl
+  too-narrow true false w = refl
+  too-narrow false b w = refl
+
+  too-wide : (a b n : Bool) → freshBy a b n true ≡ outOfRange
+  too-wide true true true = refl
+  too-wide true true false = refl
+  too-wide true false n = refl
+  too-wide false b n = refl
+
+  pub fresh-row : {s : Called} → FreshRow id secret width s → freshOf id secret width ≡ s
+  fresh-row (fresh-16 (inl n)) =
+      fresh-is ∙ ap (λ b. freshBy b (eqb (length secret) 20) (ltb width 32) (ltb 64 width)) (ne-eqb (length id) 8 n)
+  fresh-row (fresh-16 (inr (inl n))) =
+      fresh-is ∙ ap (λ b. freshBy (eqb (length id) 8) b (ltb width 32) (ltb 64 width)) (ne-eqb (length secret) 20 n)
+      ∙ not-twenty (eqb (length id) 8) (ltb width 32) (ltb 64 width)
+  fresh-row (fresh-16 (inr (inr (inl l)))) =
+      fresh-is ∙ ap (λ b. freshBy (eqb (length id) 8) (eqb (length secret) 20) b (ltb 64 width)) (lt-ltb width 32 l)
+      ∙ too-narrow (eqb (length id) 8) (eqb (length secret) 20) (ltb 64 width)
+  fresh-row (fresh-16 (inr (inr (inr l)))) =
+      fresh-is ∙ ap (λ b. freshBy (eqb (length id) 8) (eqb (length secret) 20) (ltb width 32) b) (lt-ltb 64 width l)
+      ∙ too-wide (eqb (length id) 8) (eqb (length secret) 20) (ltb width 32)
+  fresh-row (fresh-done a b held) =
+      fresh-is ∙ ap₂ (λ x y. freshBy x y (ltb width 32) (ltb 64 width)) (eq-eqb (length id) 8 a) (eq-eqb (length secret) 20 b)
+      ∙ ap₂ (λ x y. freshBy true true x y) (le-ltb width 32 (held .0)) (le-ltb 64 width (held .1))
 
 pub fresh-holds : FreshHolds
 unfolding FreshHolds
-fresh-holds id secret s = (λ e. subst (FreshRow id secret) e (fresh-of id secret), fresh-row id secret)
+fresh-holds id secret width s = (λ e. subst (FreshRow id secret width) e (fresh-of id secret width), fresh-row id secret width)

@@ -21,8 +21,9 @@ use Rattle.connection.specs.declared.state.State.the-variants.{Open}
 use Rattle.connection.specs.declared.handshake.Handshake.{Handshake}
 use Rattle.demands.specs.Genuine.{RecordOf}
 use Rattle.demands.specs.Events.{Event, took, AllSound, after}
+use Rattle.record.specs.Window.{Held}
 use Rattle.demands.specs.Runs.{freshWith}
-use Rattle.demands.specs.Example.{exampleId, exampleSecret, exampleHello, exampleRandom, examplePlan, exampleOut, exampleData}
+use Rattle.demands.specs.Example.{exampleId, exampleSecret, exampleWidth, exampleHello, exampleRandom, examplePlan, exampleOut, exampleData}
 use Rattle.demands.proofs.Table.{row-is}
 use Rattle.demands.proofs.Works.{Walk, walk}
 
@@ -30,12 +31,15 @@ pub example-heard : heardOf exampleHello exampleId ≡ Accepted examplePlan
 unfolding heardOf acceptedOf hasNull firstFit fitsPair readOf suitesEnd keysEnd keyList entriesFrom entryEnd identifierEnd specifierEnd fills longEnd shortEnd fieldEnd listedAs sameBytes
 example-heard = refl
 
-pub example-walk : Walk exampleId exampleSecret exampleRandom exampleData
+pub example-held : Held exampleWidth
+example-held = (lit≤ tt, lit≤ tt)
+
+pub example-walk : Walk exampleId exampleSecret exampleWidth exampleRandom exampleData
 example-walk =
-    walk exampleId exampleSecret exampleHello exampleRandom exampleOut exampleData examplePlan refl (lit≤ tt) example-heard (lit≤ tt) (lit≤ tt)
+    walk exampleId exampleSecret exampleWidth example-held exampleHello exampleRandom exampleOut exampleData examplePlan refl (lit≤ tt) example-heard (lit≤ tt) (lit≤ tt)
 
 -- a walk as events: the first three from fresh are Open, and the fourth is data
-module _ (id secret random bytes : List ℕ) (lr : length random ≡ 16) (w : Walk id secret random bytes) where
+module _ (id secret random bytes : List ℕ) (lr : length random ≡ 16) {width : ℕ} (w : Walk id secret width random bytes) where
   pub alone : (d : List ℕ) (r : Record) → framingOf d ≡ framed (r ∷ []) → RecordOf d r
   alone d r f = record { before = []; behind = []; framing = f }
 
@@ -47,12 +51,12 @@ module _ (id secret random bytes : List ℕ) (lr : length random ≡ 16) (w : Wa
   opening-sound =
       ((lr, alone (w .d₁) (w .r₁) (w .framed₁)), ((lr, alone (w .d₂) (w .r₂) (w .framed₂)), ((lr, alone (w .d₃) (w .r₃) (w .framed₃)), tt)))
 
-  pub opening-leaves : after (freshWith id secret) opening ≡ w .h₃
+  pub opening-leaves : after (freshWith id secret width) opening ≡ w .h₃
   unfolding opening after
   opening-leaves =
-      ap (λ x. judgedRecord (judgedRecord (x .handshake) random (w .d₂) (w .r₂) .handshake) random (w .d₃) (w .r₃) .handshake) (row-is (freshWith id secret) random (w .d₁) (w .r₁) (w .row₁))
+      ap (λ x. judgedRecord (judgedRecord (x .handshake) random (w .d₂) (w .r₂) .handshake) random (w .d₃) (w .r₃) .handshake) (row-is (freshWith id secret width) random (w .d₁) (w .r₁) (w .row₁))
       ∙ ap (λ x. judgedRecord (x .handshake) random (w .d₃) (w .r₃) .handshake) (row-is (w .h₁) random (w .d₂) (w .r₂) (w .row₂))
       ∙ ap (λ x. x .handshake) (row-is (w .h₂) random (w .d₃) (w .r₃) (w .row₃))
 
-  pub opening-open : after (freshWith id secret) opening .state ≡ Open
+  pub opening-open : after (freshWith id secret width) opening .state ≡ Open
   opening-open = ap (λ x. x .state) opening-leaves ∙ w .open-is

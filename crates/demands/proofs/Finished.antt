@@ -53,6 +53,7 @@ use Rattle.demands.specs.Calls.{CallRow, data-16, data-7, data-8, data-1
 use Rattle.demands.specs.Refusals.{writtenBy}
 use Rattle.demands.specs.Events.{Event, took, sending, alerting, closing, starting, Sound, AllSound, Happened, answered, wrote, closed, started, refused, ifDone, connectionOf, next, happening, after, history}
 use Rattle.demands.specs.Past.{Greeting, none, greeting, isReply, isData, shuts, lastReply, agreedFor, agreedAs, keysWith, keysIn, expectedIn, barredIn}
+use Rattle.record.specs.Window.{Held}
 use Rattle.demands.specs.Runs.{freshWith}
 use Rattle.demands.specs.Kept.{KeptAs}
 use Rattle.demands.specs.Finished.{Quiet, Verified, OnlyAfterFinished}
@@ -110,12 +111,12 @@ pub record Greeted (session : Session) (past : List Happened) : Type 0 where
   pub replied : lastReply past ≡ greeting hello ours
   pub heard : heardOf hello (session .id) ≡ H.Accepted plan
 
-pub record Progress (session : Session) (past : List Happened) (h : Handshake) : Type 0 where
-  pub kept : KeptAs session past h
+pub record Progress (session : Session) (width : ℕ) (past : List Happened) (h : Handshake) : Type 0 where
+  pub kept : KeptAs session width past h
   pub greeted : hasReplied (h .state) ≡ true → Greeted session past
   pub verified : h .state ≡ S.Open → Verified session past
 
-module _ (session : Session) (past : List Happened) (h : Handshake) (p : Progress session past h) where
+module _ (session : Session) {width : ℕ} (past : List Happened) (h : Handshake) (p : Progress session width past h) where
   -- the keys and the expected contents of a connection that is not ended are those of the history
   pub keys-are : barredIn past ≡ false → keysOf h ≡ keysIn session past
   keys-are l = ap₂ keysWith (p .kept .session-is l) (p .kept .agreed-is l)
@@ -156,8 +157,8 @@ module _ (session : Session) (past : List Happened) (h : Handshake) (p : Progres
         }
 
     -- the same state, by an answer that is no reply and closes nothing
-    same-state : (a : Answer) (x : Handshake) → KeptAs session (answered random d r a ∷ past) x → isReply a ≡ false → shuts a ≡ false
-        → x .state ≡ h .state → Progress session (answered random d r a ∷ past) x
+    same-state : (a : Answer) (x : Handshake) → KeptAs session width (answered random d r a ∷ past) x → isReply a ≡ false → shuts a ≡ false
+        → x .state ≡ h .state → Progress session width (answered random d r a ∷ past) x
     same-state a x k e f es =
         record {
           kept = k;
@@ -166,8 +167,8 @@ module _ (session : Session) (past : List Happened) (h : Handshake) (p : Progres
         }
 
     -- a state without a reply
-    ended-state : (a : Answer) (x : Handshake) (s : State) → KeptAs session (answered random d r a ∷ past) x → x .state ≡ s → hasReplied s ≡ false
-        → (s ≡ S.Open → ⊥) → Progress session (answered random d r a ∷ past) x
+    ended-state : (a : Answer) (x : Handshake) (s : State) → KeptAs session width (answered random d r a ∷ past) x → x .state ≡ s → hasReplied s ≡ false
+        → (s ≡ S.Open → ⊥) → Progress session width (answered random d r a ∷ past) x
     ended-state a x s k es n o =
         record {
           kept = k;
@@ -176,8 +177,8 @@ module _ (session : Session) (past : List Happened) (h : Handshake) (p : Progres
         }
 
     -- Spec and Open come behind a reply
-    go-on : (a : Answer) (x : Handshake) (s : State) → KeptAs session (answered random d r a ∷ past) x → isReply a ≡ false → hasReplied (h .state) ≡ true
-        → x .state ≡ s → (s ≡ S.Open → Verified session (answered random d r a ∷ past)) → Progress session (answered random d r a ∷ past) x
+    go-on : (a : Answer) (x : Handshake) (s : State) → KeptAs session width (answered random d r a ∷ past) x → isReply a ≡ false → hasReplied (h .state) ≡ true
+        → x .state ≡ s → (s ≡ S.Open → Verified session (answered random d r a ∷ past)) → Progress session width (answered random d r a ∷ past) x
     go-on a x s k e z es v =
         record { kept = k; greeted = λ _. still-greeted a e (p .greeted z); verified = λ y. v (sym es ∙ y) }
 
@@ -206,8 +207,8 @@ module _ (session : Session) (past : List Happened) (h : Handshake) (p : Progres
         }
 
     new-reply : (plan : Plan) → Greets h d r → heardOf (fragmentOf d r) (h .id) ≡ H.Accepted plan
-        → KeptAs session (answered random d r (W.Reply (length (replyTo (planted h) random (fragmentOf d r) plan))) ∷ past) (answeredWith h random (fragmentOf d r) plan)
-        → Progress session (answered random d r (W.Reply (length (replyTo (planted h) random (fragmentOf d r) plan))) ∷ past) (answeredWith h random (fragmentOf d r) plan)
+        → KeptAs session width (answered random d r (W.Reply (length (replyTo (planted h) random (fragmentOf d r) plan))) ∷ past) (answeredWith h random (fragmentOf d r) plan)
+        → Progress session width (answered random d r (W.Reply (length (replyTo (planted h) random (fragmentOf d r) plan))) ∷ past) (answeredWith h random (fragmentOf d r) plan)
     unfolding answeredWith lastReply
     new-reply plan g e k =
         let l : barredIn past ≡ false = live session past h (p .kept) (greets-live h d r (g .another)) in
@@ -232,8 +233,8 @@ module _ (session : Session) (past : List Happened) (h : Handshake) (p : Progres
     barred-never : S.Barred ≡ S.Open → ⊥
     barred-never z = let w : _≡_ {A = ℕ} 0 1 = cc in omega arith
 
-    by-row : {j : Judged} → Row h random d r j → KeptAs session (answered random d r (j .answer) ∷ past) (j .handshake)
-        → Progress session (answered random d r (j .answer) ∷ past) (j .handshake)
+    by-row : {j : Judged} → Row h random d r j → KeptAs session width (answered random d r (j .answer) ∷ past) (j .handshake)
+        → Progress session width (answered random d r (j .answer) ∷ past) (j .handshake)
     by-row (row-ended e) k = same-state (W.Refused X.Ended) h k refl refl refl
     by-row (row-hello-while-open e) k = same-state (W.Refused X.HelloWhileOpen) h k refl refl refl
     by-row (row-not-allowed e o a) k = same-state (W.Refused X.NotAllowed) h k refl refl refl
@@ -263,8 +264,8 @@ module _ (session : Session) (past : List Happened) (h : Handshake) (p : Progres
     by-row (row-wrong-finished c w n e m) k = ended-state (W.Refused X.WrongFinished) (withState (withWindow h w) S.Closed) S.Closed k refl refl closed-never
 
   -- what is no record: a record of ours, or a call refused
-  still : (what : Happened) (x : Handshake) → KeptAs session (what ∷ past) x → x .state ≡ h .state → lastReply (what ∷ past) ≡ lastReply past
-      → ((v : List Happened) → Quiet v → Quiet (what ∷ v)) → Progress session (what ∷ past) x
+  still : (what : Happened) (x : Handshake) → KeptAs session width (what ∷ past) x → x .state ≡ h .state → lastReply (what ∷ past) ≡ lastReply past
+      → ((v : List Happened) → Quiet v → Quiet (what ∷ v)) → Progress session width (what ∷ past) x
   still what x k es el q =
       record {
         kept = k;
@@ -289,17 +290,17 @@ module _ (session : Session) (past : List Happened) (h : Handshake) (p : Progres
             };
       }
 
-  still-refused : (x : Handshake) → KeptAs session (refused ∷ past) x → x .state ≡ h .state → Progress session (refused ∷ past) x
+  still-refused : (x : Handshake) → KeptAs session width (refused ∷ past) x → x .state ≡ h .state → Progress session width (refused ∷ past) x
   unfolding lastReply
   still-refused x k es = still refused x k es refl (λ v q. q)
 
-  still-wrote : (sealed : Bool) (bytes : List ℕ) (x : Handshake) → KeptAs session (wrote sealed bytes ∷ past) x → x .state ≡ h .state
-      → Progress session (wrote sealed bytes ∷ past) x
+  still-wrote : (sealed : Bool) (bytes : List ℕ) (x : Handshake) → KeptAs session width (wrote sealed bytes ∷ past) x → x .state ≡ h .state
+      → Progress session width (wrote sealed bytes ∷ past) x
   unfolding lastReply
   still-wrote sealed bytes x k es = still (wrote sealed bytes) x k es refl (λ v q. q)
 
-  over : (what : Happened) (x : Handshake) (s : State) → KeptAs session (what ∷ past) x → x .state ≡ s → hasReplied s ≡ false → (s ≡ S.Open → ⊥)
-      → Progress session (what ∷ past) x
+  over : (what : Happened) (x : Handshake) (s : State) → KeptAs session width (what ∷ past) x → x .state ≡ s → hasReplied s ≡ false → (s ≡ S.Open → ⊥)
+      → Progress session width (what ∷ past) x
   over what x s k es n o =
       record {
         kept = k;
@@ -308,8 +309,8 @@ module _ (session : Session) (past : List Happened) (h : Handshake) (p : Progres
       }
 
   by-data : (bytes out : List ℕ) {s : Step} → CallRow (connectionOf h) (send-data bytes out) s
-      → KeptAs session (ifDone (outcomeIn (s .result)) (wrote true (take (writtenBy (s .result)) (s .output))) ∷ past) (s .connection .handshake)
-      → Progress session (ifDone (outcomeIn (s .result)) (wrote true (take (writtenBy (s .result)) (s .output))) ∷ past) (s .connection .handshake)
+      → KeptAs session width (ifDone (outcomeIn (s .result)) (wrote true (take (writtenBy (s .result)) (s .output))) ∷ past) (s .connection .handshake)
+      → Progress session width (ifDone (outcomeIn (s .result)) (wrote true (take (writtenBy (s .result)) (s .output))) ∷ past) (s .connection .handshake)
   by-data bytes out (data-16 b) k = still-refused h k refl
   by-data bytes out (data-7 g e) k = still-refused h k refl
   by-data bytes out (data-8 g e n) k = still-refused h k refl
@@ -322,8 +323,8 @@ module _ (session : Session) (past : List Happened) (h : Handshake) (p : Progres
   alert-state false bytes = refl
 
   by-alert : (sealed : Bool) (level description : ℕ) (lent out : List ℕ) {s : Step} → CallRow (connectionOf h) (send-alert sealed level description lent out) s
-      → KeptAs session (ifDone (outcomeIn (s .result)) (wrote sealed (take (writtenBy (s .result)) (s .output))) ∷ past) (s .connection .handshake)
-      → Progress session (ifDone (outcomeIn (s .result)) (wrote sealed (take (writtenBy (s .result)) (s .output))) ∷ past) (s .connection .handshake)
+      → KeptAs session width (ifDone (outcomeIn (s .result)) (wrote sealed (take (writtenBy (s .result)) (s .output))) ∷ past) (s .connection .handshake)
+      → Progress session width (ifDone (outcomeIn (s .result)) (wrote sealed (take (writtenBy (s .result)) (s .output))) ∷ past) (s .connection .handshake)
   by-alert sealed level description lent out (alert-16 b) k = still-refused h k refl
   by-alert sealed level description lent out (alert-7 g e) k = still-refused h k refl
   by-alert sealed level description lent out (alert-8 g e f) k = still-refused h k refl
@@ -332,18 +333,18 @@ module _ (session : Session) (past : List Happened) (h : Handshake) (p : Progres
   by-alert sealed level description lent out {s} (alert-sent {l = v} {k = m} g e n l) k =
       still-wrote sealed (take (writtenBy (s .result)) (s .output)) (s .connection .handshake) k (alert-state sealed (nextAlert sealed h (alertBody v m lent)))
 
-  by-close : {s : Step} → CallRow (connectionOf h) close s → KeptAs session (ifDone (outcomeIn (s .result)) closed ∷ past) (s .connection .handshake)
-      → Progress session (ifDone (outcomeIn (s .result)) closed ∷ past) (s .connection .handshake)
+  by-close : {s : Step} → CallRow (connectionOf h) close s → KeptAs session width (ifDone (outcomeIn (s .result)) closed ∷ past) (s .connection .handshake)
+      → Progress session width (ifDone (outcomeIn (s .result)) closed ∷ past) (s .connection .handshake)
   by-close (close-7 e) k = still-refused h k refl
   by-close (close-done n) k = over closed (withState h S.Closed) S.Closed k refl refl (λ z. let w : _≡_ {A = ℕ} 0 1 = cc in omega arith)
 
-  by-start : {s : Step} → CallRow (connectionOf h) start s → KeptAs session (ifDone (outcomeIn (s .result)) started ∷ past) (s .connection .handshake)
-      → Progress session (ifDone (outcomeIn (s .result)) started ∷ past) (s .connection .handshake)
+  by-start : {s : Step} → CallRow (connectionOf h) start s → KeptAs session width (ifDone (outcomeIn (s .result)) started ∷ past) (s .connection .handshake)
+      → Progress session width (ifDone (outcomeIn (s .result)) started ∷ past) (s .connection .handshake)
   by-start (start-7 e) k = still-refused h k refl
   by-start (start-8 n m) k = still-refused h k refl
   by-start (start-done e) k = over started (reopened h) S.Idle k refl refl (λ z. let w : _≡_ {A = ℕ} 0 1 = cc in omega arith)
 
-  pub progress-more : (e : Event) → Sound e → Progress session (happening h e ∷ past) (next h e)
+  pub progress-more : (e : Event) → Sound e → Progress session width (happening h e ∷ past) (next h e)
   unfolding stepOf
   progress-more (took random d r) sound = by-row random d r (sound .1) (row-of h random d r) (kept-more session past h (p .kept) (took random d r))
   progress-more (sending bytes out) sound =
@@ -355,17 +356,17 @@ module _ (session : Session) (past : List Happened) (h : Handshake) (p : Progres
 
 -- ---- a whole run
 
-pub progress-all : (session : Session) (es : List Event) (past : List Happened) (h : Handshake) → AllSound es → Progress session past h
-    → Progress session (history h es past) (after h es)
+pub progress-all : (session : Session) {width : ℕ} (es : List Event) (past : List Happened) (h : Handshake) → AllSound es → Progress session width past h
+    → Progress session width (history h es past) (after h es)
 unfolding history after
 progress-all session [] past h sound p = p
 progress-all session (e ∷ es) past h sound p =
     progress-all session es (happening h e ∷ past) (next h e) (sound .1) (progress-more session past h p e (sound .0))
 
-pub progress-fresh : (id secret : List ℕ) → Progress (sessionOf id secret) [] (freshWith id secret)
-progress-fresh id secret =
+pub progress-fresh : (id secret : List ℕ) (width : ℕ) → Held width → Progress (sessionOf id secret) width [] (freshWith id secret width)
+progress-fresh id secret width held =
     record {
-      kept = kept-fresh id secret;
+      kept = kept-fresh id secret width held;
       greeted = λ z. true-false false z refl;
       verified = λ z. let w : _≡_ {A = ℕ} 0 1 = cc in absurd (omega arith);
     }
@@ -411,6 +412,6 @@ data-open h random d r (row-wrong-finished c w n e m) z = true-false false z ref
 
 pub only-after-finished : OnlyAfterFinished
 unfolding OnlyAfterFinished
-only-after-finished id secret es sound random d r here z =
-    progress-all (sessionOf id secret) es [] (freshWith id secret) sound (progress-fresh id secret) .verified
-    (data-open (after (freshWith id secret) es) random d r (row-of (after (freshWith id secret) es) random d r) z)
+only-after-finished id secret width held es sound random d r here z =
+    progress-all (sessionOf id secret) es [] (freshWith id secret width) sound (progress-fresh id secret width held) .verified
+    (data-open (after (freshWith id secret width) es) random d r (row-of (after (freshWith id secret width) es) random d r) z)

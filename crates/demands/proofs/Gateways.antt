@@ -48,7 +48,7 @@ use Rattle.demands.specs.HandedOut.{courseFrom, answerAt, HandedOut}
 use Rattle.demands.specs.Counts.{countIn, countOver, tallyAfter, upToStop, OnConnection, refusedAs, isForged, isOld, isRepeated, CountsRight}
 use Rattle.demands.specs.Places.{answerOf, RunsAreEvents, AnswersInPlace}
 use Rattle.demands.specs.Gateways.{AnswersByTable, Demand2, Demand2IsTable, Demand2Settles, FiveFail, HandsOut, OneEach, Demand3, refusesCalls, byRecords, answersAlike, doesNothing, firstThen, firstLeaves, firstOnly, invented}
-use Rattle.demands.specs.Example.{exampleId, exampleSecret, exampleRandom, exampleOut, exampleData}
+use Rattle.demands.specs.Example.{exampleId, exampleSecret, exampleWidth, exampleRandom, exampleOut, exampleData}
 use Rattle.demands.proofs.Genuine.{true-false}
 use Rattle.demands.proofs.Table.{row-is}
 use Rattle.demands.proofs.Calls.{call-of, call-is, chain-of, chain-is}
@@ -56,7 +56,7 @@ use Rattle.demands.proofs.LeftOut.{leaves-out}
 use Rattle.demands.proofs.HandedOut.{handed-out}
 use Rattle.demands.proofs.Places.{after-more, records-sound, run-sound, runs-are-events, answers-in-place, sound-more}
 use Rattle.demands.proofs.Works.{Walk}
-use Rattle.demands.proofs.Example.{example-walk, opening, opening-sound, opening-leaves, opening-open}
+use Rattle.demands.proofs.Example.{example-held, example-walk, opening, opening-sound, opening-leaves, opening-open}
 
 -- ---- ours
 
@@ -101,18 +101,18 @@ records-ongoing random d (r ∷ rs) = records-ongoing random d rs
 
 pub hands-out : HandsOut stepOf
 unfolding HandsOut HandedOut RunsAreEvents AnswersInPlace
-hands-out id secret es sound is-open calls go d random out before r behind e l f =
-    let h : Handshake = after (freshWith id secret) es in
+hands-out id secret width held es sound is-open calls go d random out before r behind e l f =
+    let h : Handshake = after (freshWith id secret width) es in
     let c : Connection = finalOf stepOf (connectionOf h) calls in
     let later : List Event = eventsOf calls ++ map (took random d) before in
     let session : Session = sessionOf id secret in
-    let past : List Happened = history (freshWith id secret) es [] in
+    let past : List Happened = history (freshWith id secret width) es [] in
     let same : answerOf stepOf c d random out before ≡ answerAt (after h later) random d r
     = answers-in-place c d random out before r behind e l f
     ∙ ap (λ x. judgedRecord (after x (map (took random d) before)) random d r .answer) (runs-are-events (connectionOf h) calls .0)
     ∙ ap (λ x. judgedRecord x random d r .answer) (sym (after-more h (eventsOf calls) (map (took random d) before))) in
-    let q = handed-out id secret es sound is-open later (sound-more (eventsOf calls) (map (took random d) before) (run-sound calls) (records-sound random d e [] before (r ∷ behind) f)) (ongoing-more (eventsOf calls) (map (took random d) before) go (records-ongoing random d before)) random d r (e, record { before = before; behind = behind; framing = f }) in
-    subst (λ a. ((isData a ≡ true) ↔ ((x : List ℕ) × Due (keysIn session past) (courseFrom session past later) d r x)) × ((x : List ℕ) → Due (keysIn session past) (courseFrom session past later) d r x → handedOf d a ≡ x)) (sym same) q
+    let q = handed-out id secret width held es sound is-open later (sound-more (eventsOf calls) (map (took random d) before) (run-sound calls) (records-sound random d e [] before (r ∷ behind) f)) (ongoing-more (eventsOf calls) (map (took random d) before) go (records-ongoing random d before)) random d r (e, record { before = before; behind = behind; framing = f }) in
+    subst (λ a. ((isData a ≡ true) ↔ ((x : List ℕ) × Due (keysIn session past) (courseFrom session width past later) d r x)) × ((x : List ℕ) → Due (keysIn session past) (courseFrom session width past later) d r x → handedOf d a ≡ x)) (sym same) q
 
 chain-length : (random d : List ℕ) (h : Handshake) (rs : List Record) (answers : List Answer) (left : Handshake)
     → Chain random d h rs answers left → length answers ≡ length rs
@@ -135,11 +135,11 @@ meets-3 = (leaves-out, hands-out, one-each)
 
 -- ---- the worked handshake
 
-abbrev w : Walk exampleId exampleSecret exampleRandom exampleData
+abbrev w : Walk exampleId exampleSecret exampleWidth exampleRandom exampleData
 w = example-walk
 
 abbrev start₀ : Handshake
-start₀ = freshWith exampleId exampleSecret
+start₀ = freshWith exampleId exampleSecret exampleWidth
 
 room : 128 ≤ length exampleOut
 room = lit≤ tt
@@ -162,9 +162,9 @@ due-example g hands =
     let es : List Event = opening exampleId exampleSecret exampleRandom exampleData sixteen w in
     let sound = opening-sound exampleId exampleSecret exampleRandom exampleData sixteen w in
     let is-open = opening-open exampleId exampleSecret exampleRandom exampleData sixteen w in
-    let ours = hands-out exampleId exampleSecret es sound is-open [] tt (w .d₄) exampleRandom exampleOut [] (w .r₄) [] sixteen room (w .framed₄) in
+    let ours = hands-out exampleId exampleSecret exampleWidth example-held es sound is-open [] tt (w .d₄) exampleRandom exampleOut [] (w .r₄) [] sixteen room (w .framed₄) in
     let at : after start₀ es ≡ w .h₃ = opening-leaves exampleId exampleSecret exampleRandom exampleData sixteen w in
-    hands exampleId exampleSecret es sound is-open [] tt (w .d₄) exampleRandom exampleOut [] (w .r₄) [] sixteen room (w .framed₄) .0 .1 (ours .0 .0 (ap isData (example-data (after start₀ es) at)))
+    hands exampleId exampleSecret exampleWidth example-held es sound is-open [] tt (w .d₄) exampleRandom exampleOut [] (w .r₄) [] sixteen room (w .framed₄) .0 .1 (ours .0 .0 (ap isData (example-data (after start₀ es) at)))
 
 -- ---- one that refuses everything
 

@@ -15,7 +15,7 @@ use Rattle.digest.specs.Pick.{pick}
 use Rattle.digest.specs.Hmac.{hmac}
 use Rattle.digest.specs.Mac.{sizeOf}
 use Rattle.record.specs.Code.{genuineBy, fragmentBy, codeBy}
-use Rattle.record.specs.Window.{acceptOf, tooOld, windowWidth, Held}
+use Rattle.record.specs.Window.{acceptOf, tooOld, Held}
 use Rattle.record.specs.History.{windowOf, arrivedOf, accepted, highestOf, judgedOf}
 use Rattle.record.specs.declared.header.Content.{Content}
 use Rattle.record.specs.declared.header.Content.the-variants as C
@@ -23,7 +23,7 @@ use Rattle.record.specs.declared.reader.Record.{Record}
 use Rattle.record.specs.declared.window.Window.{Window}
 use Rattle.record.specs.declared.window.Acceptance.{Acceptance}
 use Rattle.record.specs.declared.window.Acceptance.the-variants as A
-use Rattle.record.proofs.Histories.{meaning, new-means, old-means, repeated-means, new-when, all-below, below-all, accepted-here, accepted-still, held-ours, held-some}
+use Rattle.record.proofs.Histories.{meaning, new-means, old-means, repeated-means, new-when, all-below, below-all, accepted-here, accepted-still, held-some}
 use Rattle.message.specs.Alert.{alertOf}
 use Rattle.message.specs.Finished.{judgedOf as verdictOf}
 use Rattle.message.specs.declared.alert.Alert.{Alert}
@@ -285,15 +285,15 @@ along-all k expected (closing ∷ es) course h a go = absurd go
 along-all k expected (starting ∷ es) course h a go = absurd go
 
 -- an Open place of a run begins a course
-along-open : (session : Session) (past : List Happened) (h : Handshake) → Progress session past h → h .state ≡ S.Open
-    → Along (keysIn session past) (expectedIn session past) (record { width = windowWidth; numbers = acceptedIn past; shut = false }) h
+along-open : (session : Session) {width : ℕ} (past : List Happened) (h : Handshake) → Progress session width past h → h .state ≡ S.Open
+    → Along (keysIn session past) (expectedIn session past) (record { width = width; numbers = acceptedIn past; shut = false }) h
 along-open session past h p s =
     let l : barredIn past ≡ false = live session past h (p .kept) (ap ended s) in
     record {
       is-open = λ _. s;
       keys-same = λ _. keys-are session past h p l;
       expected-same = λ _. expected-is session past h p l;
-      held = held-ours;
+      held = p .kept .held;
       window-same = λ _. p .kept .window-is;
       is-ended = λ f. true-false false f refl;
     }
@@ -408,15 +408,15 @@ module _ (k : Keys) (expected : List ℕ) (course : Course) (h : Handshake) (a :
 
 pub handed-out : HandedOut
 unfolding HandedOut
-handed-out id secret es sound is-open later more go random d r here =
-    let h₀ : Handshake = freshWith id secret in
+handed-out id secret width held es sound is-open later more go random d r here =
+    let h₀ : Handshake = freshWith id secret width in
     let session : Session = sessionOf id secret in
     let past : List Happened = history h₀ es [] in
-    let p : Progress session past (after h₀ es) = progress-all session es [] h₀ sound (progress-fresh id secret) in
-    let a : Along (keysIn session past) (expectedIn session past) (courseFrom session past later) (after (after h₀ es) later)
-    = along-all (keysIn session past) (expectedIn session past) later (record { width = windowWidth; numbers = acceptedIn past; shut = false }) (after h₀ es) (along-open session past (after h₀ es) p is-open) go in (
-      due-exactly (keysIn session past) (expectedIn session past) (courseFrom session past later) (after (after h₀ es) later) a random d r (here .1),
-      due-handed (keysIn session past) (expectedIn session past) (courseFrom session past later) (after (after h₀ es) later) a random d r (here .1),
+    let p : Progress session width past (after h₀ es) = progress-all session es [] h₀ sound (progress-fresh id secret width held) in
+    let a : Along (keysIn session past) (expectedIn session past) (courseFrom session width past later) (after (after h₀ es) later)
+    = along-all (keysIn session past) (expectedIn session past) later (record { width = width; numbers = acceptedIn past; shut = false }) (after h₀ es) (along-open session past (after h₀ es) p is-open) go in (
+      due-exactly (keysIn session past) (expectedIn session past) (courseFrom session width past later) (after (after h₀ es) later) a random d r (here .1),
+      due-handed (keysIn session past) (expectedIn session past) (courseFrom session width past later) (after (after h₀ es) later) a random d r (here .1),
     )
 
 -- ---- once
@@ -495,19 +495,19 @@ ongoing-front (starting ∷ es) fs g = absurd g
 
 pub handed-once : HandedOnce
 unfolding HandedOnce HandedOut courseOf
-handed-once id secret es sound is-open later between sl sb random d r random′ d′ r′ here there go x y same =
-    let h₀ : Handshake = freshWith id secret in
+handed-once id secret width held es sound is-open later between sl sb random d r random′ d′ r′ here there go x y same =
+    let h₀ : Handshake = freshWith id secret width in
     let session : Session = sessionOf id secret in
     let past : List Happened = history h₀ es [] in
     let k : Keys = keysIn session past in
     let expected : List ℕ = expectedIn session past in
-    let first = handed-out id secret es sound is-open later sl (ongoing-front later (took random d r ∷ between) go) random d r here .0 .0 x in
-    let second = handed-out id secret es sound is-open (later ++ (took random d r ∷ between)) (sound-more later (took random d r ∷ between) sl (here, sb)) go random′ d′ r′ there .0 .0 y in
-    let held : Held (courseFrom session past later .width)
-    = subst Held (sym (width-stays k expected later (record { width = windowWidth; numbers = acceptedIn past; shut = false }))) held-ours in
-    let used : accepted (withRecord k expected (courseFrom session past later) d r .numbers) (r .number) ≡ true
-    = due-used k expected (courseFrom session past later) held d r (first .0) (first .1) in
-    let still : accepted (courseFrom session past (later ++ (took random d r ∷ between)) .numbers) (r .number) ≡ true
-    = ap (λ c. accepted (c .numbers) (r .number)) (course-more k expected later (took random d r ∷ between) (record { width = windowWidth; numbers = acceptedIn past; shut = false }))
-    ∙ grows k expected (r .number) between (withRecord k expected (courseFrom session past later) d r) used in
-    true-false (accepted (courseFrom session past (later ++ (took random d r ∷ between)) .numbers) (r′ .number)) (ap (accepted (courseFrom session past (later ++ (took random d r ∷ between)) .numbers)) (sym same) ∙ still) (second .1 .not-before)
+    let first = handed-out id secret width held es sound is-open later sl (ongoing-front later (took random d r ∷ between) go) random d r here .0 .0 x in
+    let second = handed-out id secret width held es sound is-open (later ++ (took random d r ∷ between)) (sound-more later (took random d r ∷ between) sl (here, sb)) go random′ d′ r′ there .0 .0 y in
+    let still-held : Held (courseFrom session width past later .width)
+    = subst Held (sym (width-stays k expected later (record { width = width; numbers = acceptedIn past; shut = false }))) held in
+    let used : accepted (withRecord k expected (courseFrom session width past later) d r .numbers) (r .number) ≡ true
+    = due-used k expected (courseFrom session width past later) still-held d r (first .0) (first .1) in
+    let still : accepted (courseFrom session width past (later ++ (took random d r ∷ between)) .numbers) (r .number) ≡ true
+    = ap (λ c. accepted (c .numbers) (r .number)) (course-more k expected later (took random d r ∷ between) (record { width = width; numbers = acceptedIn past; shut = false }))
+    ∙ grows k expected (r .number) between (withRecord k expected (courseFrom session width past later) d r) used in
+    true-false (accepted (courseFrom session width past (later ++ (took random d r ∷ between)) .numbers) (r′ .number)) (ap (accepted (courseFrom session width past (later ++ (took random d r ∷ between)) .numbers)) (sym same) ∙ still) (second .1 .not-before)

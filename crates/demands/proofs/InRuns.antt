@@ -10,13 +10,13 @@ use lib.ListN.{length}
 use lib.Dec.{lit<, leb}
 use borrow.Author.Tests.{le-leb, lt-leb, leb-true, leb-false}
 use Rattle.digest.specs.Pick.{pick}
-use Rattle.record.specs.Window.{acceptOf, tooOld, windowWidth}
+use Rattle.record.specs.Window.{acceptOf, tooOld}
 use Rattle.record.specs.History.{windowOf, accepted, highestOf, judgedOf as judgedIn}
 use Rattle.record.specs.declared.header.Content.the-variants as C
 use Rattle.record.specs.declared.reader.Record.{Record}
 use Rattle.record.specs.declared.window.Acceptance.{Acceptance}
 use Rattle.record.specs.declared.window.Acceptance.the-variants as A
-use Rattle.record.proofs.Histories.{highest-in, accepted-le, old-means, old-when, repeated-means, repeated-when, all-below, below-all, held-ours, held-some}
+use Rattle.record.proofs.Histories.{highest-in, accepted-le, old-means, old-when, repeated-means, repeated-when, all-below, below-all, held-some}
 use Rattle.message.specs.Alert.{alertOf}
 use Rattle.message.specs.Finished.{judgedOf}
 use Rattle.message.specs.declared.alert.Alert.{Alert}
@@ -131,7 +131,7 @@ for-old width numbers s o = reached (o .n) (highestOf numbers) (o .far) (accepte
     reached : (n m : ℕ) → s + width ≤ n → n ≤ m → s + width ≤ m
     reached n m a b = omega arith
 
-module _ (session : Session) (past : List Happened) (h : Handshake) (p : Progress session past h) (random d : List ℕ) (r : Record) where
+module _ (session : Session) {width : ℕ} (past : List Happened) (h : Handshake) (p : Progress session width past h) (random d : List ℕ) (r : Record) where
   module _ (at : RecordOf d r) (g : Guarded h r) where
     l : barredIn past ≡ false
     l = live session past h (p .kept) (sealed-live (h .state) (r .content) (g .kind))
@@ -142,8 +142,8 @@ module _ (session : Session) (past : List Happened) (h : Handshake) (p : Progres
     of-history : (c : List ℕ) → Genuine (keysIn session past) d r c → Sealed (keysOf h) d r c
     of-history c s = subst (λ k. Sealed k d r c) (sym (keys-are session past h p l)) (s .is-sealed)
 
-    window-at : acceptOf (h .protection .window) (r .number) ≡ judgedIn windowWidth (acceptedIn past) (r .number)
-    window-at = ap (λ w. acceptOf w (r .number)) (p .kept .window-is) ∙ by-history windowWidth held-ours (acceptedIn past) (r .number)
+    window-at : acceptOf (h .protection .window) (r .number) ≡ judgedIn width (acceptedIn past) (r .number)
+    window-at = ap (λ w. acceptOf w (r .number)) (p .kept .window-is) ∙ by-history width (p .kept .held) (acceptedIn past) (r .number)
 
     nine : (judgedRecord h random d r .answer ≡ W.Refused X.Forged) ↔ ((c : List ℕ) → Genuine (keysIn session past) d r c → ⊥)
     nine = (
@@ -151,34 +151,34 @@ module _ (session : Session) (past : List Happened) (h : Handshake) (p : Progres
       λ f. ap (λ j. j .answer) (row-is h random d r (row-forged g (λ c s. f c (to-history c s)))),
     )
 
-    ten : (judgedRecord h random d r .answer ≡ W.Refused X.TooOld) ↔ (((c : List ℕ) × Genuine (keysIn session past) d r c) × TooOldFor windowWidth (acceptedIn past) (r .number))
+    ten : (judgedRecord h random d r .answer ≡ W.Refused X.TooOld) ↔ (((c : List ℕ) × Genuine (keysIn session past) d r c) × TooOldFor width (acceptedIn past) (r .number))
     ten = (
       λ e. let q = told h random d r X.TooOld e in (
         (q .1 .0, to-history (q .1 .0) (q .1 .1)),
-        old-for windowWidth (held-some windowWidth held-ours) (acceptedIn past) (r .number) (old-means windowWidth (acceptedIn past) (r .number) (sym window-at ∙ q .0)),
+        old-for width (held-some width (p .kept .held)) (acceptedIn past) (r .number) (old-means width (acceptedIn past) (r .number) (sym window-at ∙ q .0)),
       ),
       λ q. ap (λ j. j .answer)
           (row-is h random d r
           (row-old (q .0 .0) g (of-history (q .0 .0) (q .0 .1))
-          (window-at ∙ old-when windowWidth (acceptedIn past) (r .number) (for-old windowWidth (acceptedIn past) (r .number) (q .1))))),
+          (window-at ∙ old-when width (acceptedIn past) (r .number) (for-old width (acceptedIn past) (r .number) (q .1))))),
     )
 
-    eleven : (judgedRecord h random d r .answer ≡ W.Refused X.Repeated) ↔ (((c : List ℕ) × Genuine (keysIn session past) d r c) × RepeatedIn windowWidth (acceptedIn past) (r .number))
+    eleven : (judgedRecord h random d r .answer ≡ W.Refused X.Repeated) ↔ (((c : List ℕ) × Genuine (keysIn session past) d r c) × RepeatedIn width (acceptedIn past) (r .number))
     eleven = (
       λ e. let q = told h random d r X.Repeated e in
-          let t = repeated-means windowWidth (acceptedIn past) (r .number) (sym window-at ∙ q .0) in (
+          let t = repeated-means width (acceptedIn past) (r .number) (sym window-at ∙ q .0) in (
             (q .1 .0, to-history (q .1 .0) (q .1 .1)),
-            record { was-accepted = t .1; recent = all-below windowWidth (acceptedIn past) (r .number) (t .0) },
+            record { was-accepted = t .1; recent = all-below width (acceptedIn past) (r .number) (t .0) },
           ),
       λ q. ap (λ j. j .answer)
           (row-is h random d r
           (row-repeated (q .0 .0) g (of-history (q .0 .0) (q .0 .1))
           (window-at
-          ∙ repeated-when windowWidth (acceptedIn past) (r .number)
-          (below-all windowWidth (held-some windowWidth held-ours) (acceptedIn past) (r .number) (q .1 .recent)) (q .1 .was-accepted)))),
+          ∙ repeated-when width (acceptedIn past) (r .number)
+          (below-all width (held-some width (p .kept .held)) (acceptedIn past) (r .number) (q .1 .recent)) (q .1 .was-accepted)))),
     )
 
-    protected-exactly : ProtectedExactly session past d r (judgedRecord h random d r .answer)
+    protected-exactly : ProtectedExactly session width past d r (judgedRecord h random d r .answer)
     protected-exactly = record { exactly-9 = nine; exactly-10 = ten; exactly-11 = eleven }
 
   one-alert : (a b : Alert) (x : Reading) → x ≡ R.WellFormed a → x ≡ R.WellFormed b → a ≡ b
@@ -214,30 +214,30 @@ module _ (session : Session) (past : List Happened) (h : Handshake) (p : Progres
 
 pub protected-in-runs : ProtectedInRuns
 unfolding ProtectedInRuns
-protected-in-runs id secret es sound random d r at g =
-    let h₀ : Handshake = freshWith id secret in
-    protected-exactly (sessionOf id secret) (history h₀ es []) (after h₀ es) (progress-all (sessionOf id secret) es [] h₀ sound (progress-fresh id secret)) random d r at g
+protected-in-runs id secret width held es sound random d r at g =
+    let h₀ : Handshake = freshWith id secret width in
+    protected-exactly (sessionOf id secret) (history h₀ es []) (after h₀ es) (progress-all (sessionOf id secret) es [] h₀ sound (progress-fresh id secret width held)) random d r at g
 
 pub checksum-in-runs : ChecksumInRuns
 unfolding ChecksumInRuns
-checksum-in-runs id secret es sound random d r a s q c e =
-    let h₀ : Handshake = freshWith id secret in
-    fourteen (sessionOf id secret) (history h₀ es []) (after h₀ es) (progress-all (sessionOf id secret) es [] h₀ sound (progress-fresh id secret)) random d r a s q c e
+checksum-in-runs id secret width held es sound random d r a s q c e =
+    let h₀ : Handshake = freshWith id secret width in
+    fourteen (sessionOf id secret) (history h₀ es []) (after h₀ es) (progress-all (sessionOf id secret) es [] h₀ sound (progress-fresh id secret width held)) random d r a s q c e
 
 pub wrong-finished-in-runs : WrongFinishedInRuns
 unfolding WrongFinishedInRuns
-wrong-finished-in-runs id secret es sound random d r at e =
-    let h₀ : Handshake = freshWith id secret in
+wrong-finished-in-runs id secret width held es sound random d r at e =
+    let h₀ : Handshake = freshWith id secret width in
     let past : List Happened = history h₀ es [] in
-    let p : Progress (sessionOf id secret) past (after h₀ es) = progress-all (sessionOf id secret) es [] h₀ sound (progress-fresh id secret) in
+    let p : Progress (sessionOf id secret) width past (after h₀ es) = progress-all (sessionOf id secret) es [] h₀ sound (progress-fresh id secret width held) in
     seventeen (sessionOf id secret) past (after h₀ es) p random d r at (not-barred (sessionOf id secret) past (after h₀ es) p random d r (barredIn past) refl e) e
 
 pub leaves-out-of-runs : LeavesOutOfRuns
 unfolding LeavesOutOfRuns LeavesOut
-leaves-out-of-runs id secret es sound is-open calls rest =
-    let h₀ : Handshake = freshWith id secret in
+leaves-out-of-runs id secret width held es sound is-open calls rest =
+    let h₀ : Handshake = freshWith id secret width in
     let past : List Happened = history h₀ es [] in
     let h : Handshake = after h₀ es in
-    let p : Progress (sessionOf id secret) past h = progress-all (sessionOf id secret) es [] h₀ sound (progress-fresh id secret) in
+    let p : Progress (sessionOf id secret) width past h = progress-all (sessionOf id secret) es [] h₀ sound (progress-fresh id secret width held) in
     let same : keysOf h ≡ keysIn (sessionOf id secret) past = keys-are (sessionOf id secret) past h p (live (sessionOf id secret) past h (p .kept) (ap ended is-open)) in
     subst (λ k. (out : LeftOut k calls rest) → SameWithout stepOf k (connectionOf h) calls rest out) same (leaves-out (connectionOf h) is-open calls rest)

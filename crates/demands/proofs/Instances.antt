@@ -34,18 +34,18 @@ use Rattle.demands.specs.Events.{Event, took, Sound, AllSound, connectio
 use Rattle.demands.specs.Past.{isData}
 use Rattle.demands.specs.LeftOut.{NoneGenuine}
 use Rattle.demands.specs.Traps.{lastSealed, JustOpen}
-use Rattle.demands.specs.Example.{exampleId, exampleSecret, exampleRandom, exampleOut, exampleData}
+use Rattle.demands.specs.Example.{exampleId, exampleSecret, exampleWidth, exampleRandom, exampleOut, exampleData}
 use Rattle.demands.specs.Instances.{exampleFresh, OpenRun, Instances}
 use Rattle.demands.proofs.Genuine.{true-false}
 use Rattle.demands.proofs.Table.{row-is}
 use Rattle.demands.proofs.Calls.{call-is}
 use Rattle.demands.proofs.Refusals.{outcomeIn}
 use Rattle.demands.proofs.Works.{Walk}
-use Rattle.demands.proofs.Example.{example-heard, example-walk, opening, opening-sound, opening-leaves, opening-open}
+use Rattle.demands.proofs.Example.{example-heard, example-held, example-walk, opening, opening-sound, opening-leaves, opening-open}
 use Rattle.demands.proofs.Gateways.{two, one-of-two, two-of-two, two-framed}
 use Rattle.demands.proofs.Traps.{w₀, w₇, new-7, alone, alone-framed, alone-sealed}
 
-abbrev w : Walk exampleId exampleSecret exampleRandom exampleData
+abbrev w : Walk exampleId exampleSecret exampleWidth exampleRandom exampleData
 w = example-walk
 
 run : List Event
@@ -82,11 +82,11 @@ fatal-datagram = lastSealed (keysOf (w .h₃)) C.Alert 7 fatal-alert
 abbrev fatal-record : Record
 fatal-record = alone (keysOf (w .h₃)) C.Alert 7 (lit≤ tt) fatal-alert
 
-fatal-row : Row (w .h₃) exampleRandom fatal-datagram fatal-record (judged (W.Barred D.SessionCloseNotify) (barred (withWindow (w .h₃) w₇)))
+fatal-row : Row (w .h₃) exampleRandom fatal-datagram fatal-record (judged (W.Barred D.SessionCloseNotify) (barred (withWindow (w .h₃) (w₇ exampleWidth))))
 unfolding fatal-alert alone w₀
 fatal-row =
-    row-barred fatal-alert w₇ (record { level = L.Fatal; description = D.SessionCloseNotify; checksum = 0 })
-    (new-7 (w .h₃) (w .open-is) (w .window-is) fatal-datagram fatal-record fatal-alert refl (alone-sealed (keysOf (w .h₃)) C.Alert 7 (lit≤ tt) fatal-alert)) refl
+    row-barred fatal-alert (w₇ exampleWidth) (record { level = L.Fatal; description = D.SessionCloseNotify; checksum = 0 })
+    (new-7 (w .h₃) (w .open-is) exampleWidth example-held (w .window-is) fatal-datagram fatal-record fatal-alert refl (alone-sealed (keysOf (w .h₃)) C.Alert 7 (lit≤ tt) fatal-alert)) refl
     (alert-back L.Fatal D.SessionCloseNotify 0 (omega arith)) refl
 
 fatal-framed : framingOf fatal-datagram ≡ framed (fatal-record ∷ [])
@@ -114,7 +114,7 @@ instances =
         es = run;
         sound = opening-sound exampleId exampleSecret exampleRandom exampleData refl example-walk;
         is-open = opening-open exampleId exampleSecret exampleRandom exampleData refl example-walk;
-        just-open = record { is-open = opening-open exampleId exampleSecret exampleRandom exampleData refl example-walk; window-is = ap (λ x. x .protection .window) run-leaves ∙ w .window-is };
+        just-open = record { is-open = opening-open exampleId exampleSecret exampleRandom exampleData refl example-walk; width = exampleWidth; held = example-held; window-is = ap (λ x. x .protection .window) run-leaves ∙ w .window-is };
         random = exampleRandom;
         d = w .d₄;
         r = w .r₄;

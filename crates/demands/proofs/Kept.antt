@@ -11,7 +11,7 @@ use lib.Dec.{lit<}
 use lib.Seq.{take-at}
 use Rattle.digest.specs.Pick.{pick}
 use Rattle.digest.specs.Bytes.{laidOver}
-use Rattle.record.specs.Window.{acceptOf, tooOld, windowWidth, emptied, Held}
+use Rattle.record.specs.Window.{acceptOf, tooOld, emptied, Held}
 use Rattle.record.specs.History.{windowOf, arrivedOf, accepted, highestOf, judgedOf}
 use Rattle.record.specs.declared.header.Content.{Content}
 use Rattle.record.specs.declared.header.Content.the-variants as C
@@ -19,7 +19,7 @@ use Rattle.record.specs.declared.reader.Record.{Record}
 use Rattle.record.specs.declared.window.Window.{Window}
 use Rattle.record.specs.declared.window.Acceptance.{Acceptance}
 use Rattle.record.specs.declared.window.Acceptance.the-variants as A
-use Rattle.record.proofs.Histories.{meaning, fresh-means, new-means, held-ours}
+use Rattle.record.proofs.Histories.{meaning, fresh-means, new-means}
 use Rattle.message.specs.Acceptance.{heardOf}
 use Rattle.message.specs.declared.alert.Description.{Description}
 use Rattle.message.specs.declared.acceptance.Plan.{Plan}
@@ -97,7 +97,7 @@ record Sending : Type 0 where
 abbrev sendingOf : Handshake → Sending
 sendingOf h = record { protected = h .protection .protected; clear = h .protection .clear; sent = h .sent }
 
-module _ (session : Session) (past : List Happened) (h : Handshake) (k : KeptAs session past h) where
+module _ (session : Session) {width : ℕ} (past : List Happened) (h : Handshake) (k : KeptAs session width past h) where
   -- a connection that is not ended was not barred
   pub live : ended (h .state) ≡ false → barredIn past ≡ false
   live e = by-bar (barredIn past) refl
@@ -109,8 +109,8 @@ module _ (session : Session) (past : List Happened) (h : Handshake) (k : KeptAs 
   module _ (random d : List ℕ) (r : Record) where
     -- an answer that is no reply and bars nothing
     kept-by : (x : Handshake) (a : Answer) → isReply a ≡ false → isBarred a ≡ false → planted x ≡ planted h → agreedOf x ≡ agreedOf h
-        → x .kept ≡ h .kept → sendingOf x ≡ sendingOf h → x .protection .window ≡ windowOf windowWidth (acceptedIn (answered random d r a ∷ past))
-        → (barredIn past ≡ true → x .state ≡ S.Barred) → KeptAs session (answered random d r a ∷ past) x
+        → x .kept ≡ h .kept → sendingOf x ≡ sendingOf h → x .protection .window ≡ windowOf width (acceptedIn (answered random d r a ∷ past))
+        → (barredIn past ≡ true → x .state ≡ S.Barred) → KeptAs session width (answered random d r a ∷ past) x
     unfolding lastReply keptGreeting nextSealed nextClearNumber sentSince barredIn
     kept-by x a nr nb es ea ek en ew st =
         let bar : pick (isBarred a) true (barredIn past) ≡ barredIn past = ap (λ b. pick b true (barredIn past)) nb in
@@ -124,6 +124,7 @@ module _ (session : Session) (past : List Happened) (h : Handshake) (k : KeptAs 
           sent-is = ap (λ y. sumsOf (y .sent)) en ∙ k .sent-is
               ∙ sym (ap (λ b. map sumOf (take 8 (pick b (recordsHeard session random (fragmentOf d r) (heardOf (fragmentOf d r) (session .id)) ++ sentSince session past) (sentSince session past)))) nr);
           window-is = ew;
+          held = k .held;
           barred-is = λ f. (
             st (sym bar ∙ f),
             es ∙ k .barred-is (sym bar ∙ f) .1,
@@ -154,32 +155,32 @@ module _ (session : Session) (past : List Happened) (h : Handshake) (k : KeptAs 
         ∙ ap₂ (λ b c. pick (pick b c false) (r .number ∷ acceptedIn past) (acceptedIn past)) p m
 
     -- nothing changed
-    refused-by : (x : Refusal) → marks (W.Refused x) ≡ false → KeptAs session (answered random d r (W.Refused x) ∷ past) h
+    refused-by : (x : Refusal) → marks (W.Refused x) ≡ false → KeptAs session width (answered random d r (W.Refused x) ∷ past) h
     refused-by x m =
-        kept-by h (W.Refused x) refl refl refl refl refl refl (k .window-is ∙ sym (ap (windowOf windowWidth) (accepted-unmarked (W.Refused x) refl m))) (λ f. k .barred-is f .0)
+        kept-by h (W.Refused x) refl refl refl refl refl refl (k .window-is ∙ sym (ap (windowOf width) (accepted-unmarked (W.Refused x) refl m))) (λ f. k .barred-is f .0)
 
     clear-by : (a : Answer) (x : Handshake) → isReply a ≡ false → isBarred a ≡ false → isSpec a ≡ false → r .protected ≡ false
         → planted x ≡ planted h → agreedOf x ≡ agreedOf h → x .kept ≡ h .kept → sendingOf x ≡ sendingOf h → x .protection .window ≡ h .protection .window
-        → ended (h .state) ≡ false → KeptAs session (answered random d r a ∷ past) x
+        → ended (h .state) ≡ false → KeptAs session width (answered random d r a ∷ past) x
     clear-by a x nr nb ns p es ea ek en ew l =
-        kept-by x a nr nb es ea ek en (ew ∙ k .window-is ∙ sym (ap (windowOf windowWidth) (accepted-clear a ns p)))
+        kept-by x a nr nb es ea ek en (ew ∙ k .window-is ∙ sym (ap (windowOf width) (accepted-clear a ns p)))
         (λ f. true-false (barredIn past) f (live l))
 
     -- the mark of a new number
     window-marked : (c : List ℕ) (w : Window) → New h d r c w → (a : Answer) → isSpec a ≡ false → marks a ≡ true
-        → w ≡ windowOf windowWidth (acceptedIn (answered random d r a ∷ past))
+        → w ≡ windowOf width (acceptedIn (answered random d r a ∷ past))
     window-marked c w n a ns m =
-        window-more windowWidth held-ours (acceptedIn past) (r .number) w (n .arrived) (sym (ap (λ y. acceptOf y (r .number)) (k .window-is)) ∙ n .accepted)
-        ∙ sym (ap (windowOf windowWidth) (accepted-marked a ns m (n .guarded .protection)))
+        window-more width (k .held) (acceptedIn past) (r .number) w (n .arrived) (sym (ap (λ y. acceptOf y (r .number)) (k .window-is)) ∙ n .accepted)
+        ∙ sym (ap (windowOf width) (accepted-marked a ns m (n .guarded .protection)))
 
     marked-by : (c : List ℕ) (w : Window) → New h d r c w → (a : Answer) (s : State) → isReply a ≡ false → isBarred a ≡ false → isSpec a ≡ false
-        → marks a ≡ true → KeptAs session (answered random d r a ∷ past) (withState (withWindow h w) s)
+        → marks a ≡ true → KeptAs session width (answered random d r a ∷ past) (withState (withWindow h w) s)
     marked-by c w n a s nr nb ns m =
         kept-by (withState (withWindow h w) s) a nr nb refl refl refl refl (window-marked c w n a ns m)
         (λ f. true-false (barredIn past) f (live (sealed-live (h .state) (r .content) (n .guarded .kind))))
 
     replied : (plan : Plan) → Greets h d r → heardOf (fragmentOf d r) (h .id) ≡ H.Accepted plan
-        → KeptAs session (answered random d r (W.Reply (length (replyTo (planted h) random (fragmentOf d r) plan))) ∷ past) (answeredWith h random (fragmentOf d r) plan)
+        → KeptAs session width (answered random d r (W.Reply (length (replyTo (planted h) random (fragmentOf d r) plan))) ∷ past) (answeredWith h random (fragmentOf d r) plan)
     unfolding answeredWith lastReply keptGreeting nextSealed nextClearNumber sentSince barredIn
     replied plan g e =
         let m : List ℕ = fragmentOf d r in
@@ -198,12 +199,13 @@ module _ (session : Session) (past : List Happened) (h : Handshake) (k : KeptAs 
               (lastOf (planted h) random m plan) (k .sent-is)
               ∙ ap (λ x. map sumOf (take 8 (recordsHeard (planted h) random m x ++ sentSince session past))) (sym e)
               ∙ ap (λ s. map sumOf (take 8 (recordsHeard s random m (heardOf m (s .id)) ++ sentSince session past))) es;
-          window-is = k .window-is ∙ sym (ap (windowOf windowWidth) (accepted-unmarked (W.Reply (length reply)) refl refl));
+          window-is = k .window-is ∙ sym (ap (windowOf width) (accepted-unmarked (W.Reply (length reply)) refl refl));
+          held = k .held;
           barred-is = λ f. true-false (barredIn past) f l;
         }
 
     barred-by : (c : List ℕ) (w : Window) → New h d r c w → (x : Description)
-        → KeptAs session (answered random d r (W.Barred x) ∷ past) (barred (withWindow h w))
+        → KeptAs session width (answered random d r (W.Barred x) ∷ past) (barred (withWindow h w))
     unfolding nextSealed nextClearNumber sentSince barredIn nothingAgreed noSession
     barred-by c w n x =
         record {
@@ -215,15 +217,16 @@ module _ (session : Session) (past : List Happened) (h : Handshake) (k : KeptAs 
           clear-is = k .clear-is;
           sent-is = k .sent-is;
           window-is = window-marked c w n (W.Barred x) refl refl;
+          held = k .held;
           barred-is = λ f. (refl, refl, refl, refl);
         }
 
-    fresh-again : emptied (h .protection .window) ≡ windowOf windowWidth (acceptedIn (answered random d r W.Spec ∷ past))
+    fresh-again : emptied (h .protection .window) ≡ windowOf width (acceptedIn (answered random d r W.Spec ∷ past))
     unfolding acceptedIn
-    fresh-again = ap emptied (k .window-is) ∙ fresh-means windowWidth
+    fresh-again = ap emptied (k .window-is) ∙ fresh-means width
 
     -- the rows
-    pub by-row : {j : Judged} → Row h random d r j → KeptAs session (answered random d r (j .answer) ∷ past) (j .handshake)
+    pub by-row : {j : Judged} → Row h random d r j → KeptAs session width (answered random d r (j .answer) ∷ past) (j .handshake)
     by-row (row-ended e) = refused-by X.Ended refl
     by-row (row-hello-while-open e) = refused-by X.HelloWhileOpen refl
     by-row (row-not-allowed e o a) = refused-by X.NotAllowed refl
@@ -257,7 +260,7 @@ module _ (session : Session) (past : List Happened) (h : Handshake) (k : KeptAs 
     by-row (row-wrong-finished c w n e m) = marked-by c w n (W.Refused X.WrongFinished) S.Closed refl refl refl refl
 
   -- a call that is refused
-  refused-more : KeptAs session (refused ∷ past) h
+  refused-more : KeptAs session width (refused ∷ past) h
   unfolding lastReply keptGreeting nextSealed nextClearNumber sentSince acceptedIn barredIn
   refused-more =
       record {
@@ -269,11 +272,12 @@ module _ (session : Session) (past : List Happened) (h : Handshake) (k : KeptAs 
         clear-is = k .clear-is;
         sent-is = k .sent-is;
         window-is = k .window-is;
+        held = k .held;
         barred-is = k .barred-is;
       }
 
   -- a record of ours
-  wrote-more : (sealed : Bool) (bytes front : List ℕ) → front ≡ bytes → KeptAs session (wrote sealed front ∷ past) (afterAlert sealed h bytes)
+  wrote-more : (sealed : Bool) (bytes front : List ℕ) → front ≡ bytes → KeptAs session width (wrote sealed front ∷ past) (afterAlert sealed h bytes)
   unfolding lastReply keptGreeting nextSealed nextClearNumber sentSince acceptedIn barredIn
   wrote-more true bytes front e =
       record {
@@ -285,6 +289,7 @@ module _ (session : Session) (past : List Happened) (h : Handshake) (k : KeptAs 
         clear-is = k .clear-is;
         sent-is = record-sums (h .sent) (sentSince session past) bytes (k .sent-is) ∙ ap (λ b. map sumOf (take 8 (b ∷ sentSince session past))) (sym e);
         window-is = k .window-is;
+        held = k .held;
         barred-is = k .barred-is;
       }
   wrote-more false bytes front e =
@@ -297,10 +302,11 @@ module _ (session : Session) (past : List Happened) (h : Handshake) (k : KeptAs 
         clear-is = ap (λ n. n + 1) (k .clear-is);
         sent-is = record-sums (h .sent) (sentSince session past) bytes (k .sent-is) ∙ ap (λ b. map sumOf (take 8 (b ∷ sentSince session past))) (sym e);
         window-is = k .window-is;
+        held = k .held;
         barred-is = k .barred-is;
       }
 
-  closed-more : barredIn past ≡ false → KeptAs session (closed ∷ past) (withState h S.Closed)
+  closed-more : barredIn past ≡ false → KeptAs session width (closed ∷ past) (withState h S.Closed)
   unfolding lastReply keptGreeting nextSealed nextClearNumber sentSince acceptedIn barredIn
   closed-more l =
       record {
@@ -312,10 +318,11 @@ module _ (session : Session) (past : List Happened) (h : Handshake) (k : KeptAs 
         clear-is = k .clear-is;
         sent-is = k .sent-is;
         window-is = k .window-is;
+        held = k .held;
         barred-is = λ f. true-false (barredIn past) f l;
       }
 
-  started-more : barredIn past ≡ false → KeptAs session (started ∷ past) (reopened h)
+  started-more : barredIn past ≡ false → KeptAs session width (started ∷ past) (reopened h)
   unfolding lastReply keptGreeting nextSealed nextClearNumber sentSince acceptedIn barredIn nothingKept
   started-more l =
       record {
@@ -326,7 +333,8 @@ module _ (session : Session) (past : List Happened) (h : Handshake) (k : KeptAs 
         sealed-is = k .sealed-is;
         clear-is = k .clear-is;
         sent-is = refl;
-        window-is = ap emptied (k .window-is) ∙ fresh-means windowWidth;
+        window-is = ap emptied (k .window-is) ∙ fresh-means width;
+        held = k .held;
         barred-is = λ f. true-false (barredIn past) f l;
       }
 
@@ -335,7 +343,7 @@ module _ (session : Session) (past : List Happened) (h : Handshake) (k : KeptAs 
   not-barred n true f = absurd (n (k .barred-is f .0))
 
   by-data : (bytes out : List ℕ) {s : Step} → CallRow (connectionOf h) (send-data bytes out) s
-      → KeptAs session (ifDone (outcomeIn (s .result)) (wrote true (take (writtenBy (s .result)) (s .output))) ∷ past) (s .connection .handshake)
+      → KeptAs session width (ifDone (outcomeIn (s .result)) (wrote true (take (writtenBy (s .result)) (s .output))) ∷ past) (s .connection .handshake)
   by-data bytes out (data-16 b) = refused-more
   by-data bytes out (data-7 g e) = refused-more
   by-data bytes out (data-8 g e n) = refused-more
@@ -345,7 +353,7 @@ module _ (session : Session) (past : List Happened) (h : Handshake) (k : KeptAs 
       let b : List ℕ = nextProtected h C.Data bytes in wrote-more true b (take (length b) (laidOver out 0 b)) (laid-front out b)
 
   by-alert : (sealed : Bool) (level description : ℕ) (lent out : List ℕ) {s : Step} → CallRow (connectionOf h) (send-alert sealed level description lent out) s
-      → KeptAs session (ifDone (outcomeIn (s .result)) (wrote sealed (take (writtenBy (s .result)) (s .output))) ∷ past) (s .connection .handshake)
+      → KeptAs session width (ifDone (outcomeIn (s .result)) (wrote sealed (take (writtenBy (s .result)) (s .output))) ∷ past) (s .connection .handshake)
   by-alert sealed level description lent out (alert-16 b) = refused-more
   by-alert sealed level description lent out (alert-7 g e) = refused-more
   by-alert sealed level description lent out (alert-8 g e f) = refused-more
@@ -354,11 +362,11 @@ module _ (session : Session) (past : List Happened) (h : Handshake) (k : KeptAs 
   by-alert sealed level description lent out (alert-sent {l = v} {k = m} g e n l) =
       let b : List ℕ = nextAlert sealed h (alertBody v m lent) in wrote-more sealed b (take (length b) (laidOver out 0 b)) (laid-front out b)
 
-  by-close : {s : Step} → CallRow (connectionOf h) close s → KeptAs session (ifDone (outcomeIn (s .result)) closed ∷ past) (s .connection .handshake)
+  by-close : {s : Step} → CallRow (connectionOf h) close s → KeptAs session width (ifDone (outcomeIn (s .result)) closed ∷ past) (s .connection .handshake)
   by-close (close-7 e) = refused-more
   by-close (close-done n) = closed-more (not-barred n (barredIn past) refl)
 
-  by-start : {s : Step} → CallRow (connectionOf h) start s → KeptAs session (ifDone (outcomeIn (s .result)) started ∷ past) (s .connection .handshake)
+  by-start : {s : Step} → CallRow (connectionOf h) start s → KeptAs session width (ifDone (outcomeIn (s .result)) started ∷ past) (s .connection .handshake)
   by-start (start-7 e) = refused-more
   by-start (start-8 n m) = refused-more
   by-start (start-done e) = started-more (live-closed (barredIn past) refl)
@@ -368,7 +376,7 @@ module _ (session : Session) (past : List Happened) (h : Handshake) (k : KeptAs 
       live-closed true f =
           let z : S.Closed ≡ S.Barred = sym e ∙ k .barred-is f .0 in let w : _≡_ {A = ℕ} 0 1 = cc in absurd (omega arith)
 
-  pub kept-more : (e : Event) → KeptAs session (happening h e ∷ past) (next h e)
+  pub kept-more : (e : Event) → KeptAs session width (happening h e ∷ past) (next h e)
   unfolding stepOf
   kept-more (took random d r) = by-row random d r (row-of h random d r)
   kept-more (sending bytes out) = by-data bytes out (call-of (connectionOf h) (send-data bytes out))
@@ -379,15 +387,15 @@ module _ (session : Session) (past : List Happened) (h : Handshake) (k : KeptAs 
 
 -- ---- a whole run
 
-pub kept-all : (session : Session) (es : List Event) (past : List Happened) (h : Handshake) → KeptAs session past h
-    → KeptAs session (history h es past) (after h es)
+pub kept-all : (session : Session) {width : ℕ} (es : List Event) (past : List Happened) (h : Handshake) → KeptAs session width past h
+    → KeptAs session width (history h es past) (after h es)
 unfolding history after
 kept-all session [] past h k = k
 kept-all session (e ∷ es) past h k = kept-all session es (happening h e ∷ past) (next h e) (kept-more session past h k e)
 
-pub kept-fresh : (id secret : List ℕ) → KeptAs (sessionOf id secret) [] (freshWith id secret)
+pub kept-fresh : (id secret : List ℕ) (width : ℕ) → Held width → KeptAs (sessionOf id secret) width [] (freshWith id secret width)
 unfolding lastReply keptGreeting nextSealed nextClearNumber sentSince acceptedIn barredIn nothingKept nothingAgreed
-kept-fresh id secret =
+kept-fresh id secret width held =
     record {
       session-is = λ f. refl;
       agreed-is = λ f. refl;
@@ -396,11 +404,12 @@ kept-fresh id secret =
       sealed-is = refl;
       clear-is = refl;
       sent-is = refl;
-      window-is = fresh-means windowWidth;
+      window-is = fresh-means width;
+      held = held;
       barred-is = λ f. true-false false f refl;
     }
 
 pub kept-is-what-happened : KeptIsWhatHappened
 unfolding KeptIsWhatHappened
-kept-is-what-happened id secret es =
-    kept-all (sessionOf id secret) es [] (freshWith id secret) (kept-fresh id secret)
+kept-is-what-happened id secret width held es =
+    kept-all (sessionOf id secret) es [] (freshWith id secret width) (kept-fresh id secret width held)

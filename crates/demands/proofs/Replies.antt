@@ -42,7 +42,7 @@ take-taken zero l = refl
 take-taken (suc n) [] = refl
 take-taken (suc n) (x ∷ l) = ap (λ t. x ∷ t) (take-taken n l)
 
-module _ (session : Session) (past : List Happened) (h : Handshake) (k : KeptAs session past h) (random d : List ℕ) (r : Record) where
+module _ (session : Session) {width : ℕ} (past : List Happened) (h : Handshake) (k : KeptAs session width past h) (random d : List ℕ) (r : Record) where
   abbrev Sent : Judged → Type 0
   Sent j =
       (bytes : List ℕ) × Sends session past random (fragmentOf d r) bytes (j .answer) × (sentBy j ≡ bytes)
@@ -95,10 +95,10 @@ module _ (session : Session) (past : List Happened) (h : Handshake) (k : KeptAs 
 
 pub replies-right : RepliesRight
 unfolding RepliesRight firstReply
-replies-right id secret es d random out r rs e l f =
-    let past : List Happened = history (freshWith id secret) es [] in
-    let h : Handshake = after (freshWith id secret) es in
-    let k : KeptAs (sessionOf id secret) past h = kept-all (sessionOf id secret) es [] (freshWith id secret) (kept-fresh id secret) in
+replies-right id secret width held es d random out r rs e l f =
+    let past : List Happened = history (freshWith id secret width) es [] in
+    let h : Handshake = after (freshWith id secret width) es in
+    let k : KeptAs (sessionOf id secret) width past h = kept-all (sessionOf id secret) es [] (freshWith id secret width) (kept-fresh id secret width held) in
     let q = by-row (sessionOf id secret) past h k random d r (row-of h random d r) in
     let is = call-is (connectionOf h) (receive-records {out = out} e l f (chain-of random d h (r ∷ rs))) in (
       q .0,

@@ -92,7 +92,7 @@ one-level l v g e f = cc
 one-description : (k m : Description) (s : Sorted) → s ≡ D.Assigned k → s ≡ D.Assigned m → m ≡ k
 one-description k m s e f = cc
 
-module _ (session : Session) (past : List Happened) (h : Handshake) (p : Progress session past h) where
+module _ (session : Session) {width : ℕ} (past : List Happened) (h : Handshake) (p : Progress session width past h) where
   sealed-by : (content : Content) (body : List ℕ) → h .protection .protected ≤ 65535 → ended (h .state) ≡ false
       → SealedRecord (keysIn session past) content (nextSealed past) body (nextProtected h content body)
   unfolding nextProtected recordUnder
@@ -139,14 +139,14 @@ module _ (session : Session) (past : List Happened) (h : Handshake) (p : Progres
 
 pub data-sent-right : DataSentRight
 unfolding DataSentRight stepOf
-data-sent-right id secret es sound bytes out x =
-    let h₀ : Handshake = freshWith id secret in
-    data-by (sessionOf id secret) (history h₀ es []) (after h₀ es) (progress-all (sessionOf id secret) es [] h₀ sound (progress-fresh id secret)) bytes out
+data-sent-right id secret width held es sound bytes out x =
+    let h₀ : Handshake = freshWith id secret width in
+    data-by (sessionOf id secret) (history h₀ es []) (after h₀ es) (progress-all (sessionOf id secret) es [] h₀ sound (progress-fresh id secret width held)) bytes out
     (call-of (connectionOf (after h₀ es)) (send-data bytes out)) x
 
 pub alert-sent-right : AlertSentRight
 unfolding AlertSentRight stepOf
-alert-sent-right id secret es sound sealed level description l k lent out el ek x =
-    let h₀ : Handshake = freshWith id secret in
-    alert-by (sessionOf id secret) (history h₀ es []) (after h₀ es) (progress-all (sessionOf id secret) es [] h₀ sound (progress-fresh id secret)) sealed level description l k lent out el ek
+alert-sent-right id secret width held es sound sealed level description l k lent out el ek x =
+    let h₀ : Handshake = freshWith id secret width in
+    alert-by (sessionOf id secret) (history h₀ es []) (after h₀ es) (progress-all (sessionOf id secret) es [] h₀ sound (progress-fresh id secret width held)) sealed level description l k lent out el ek
     (call-of (connectionOf (after h₀ es)) (send-alert sealed level description lent out)) x

@@ -1,14 +1,14 @@
--- The small cases of demand 3. Each datagram is made of records that are read back as they were made (`Wire`); the window computes.
+-- The small cases of demand 3. Each datagram is made of records that are read back as they were made (`Wire`); the window answers by its history.
 use mathlib.Core.Path.{_≡_, refl, sym, _∙_, ap, ap₂, subst}
 use mathlib.Core.Bool.{Bool, true, false}
 use mathlib.Core.List.{List, [], _∷_, _++_, append-assoc}
 use Prim.Native.Nat.{ℕ, suc, _+_, _-_, _≤_, _<_}
 use native.Mathlib.Omega.{arith}
-use lib.Count.{ones}
 use lib.ListN.{length, take, drop, length-append}
 use Rattle.digest.specs.Hmac.{hmac}
 use Rattle.digest.specs.Mac.{sizeOf}
-use Rattle.record.specs.Window.{acceptOf, acceptBy, windowWidth, heldWidth}
+use Rattle.record.specs.Window.{acceptOf, Held}
+use Rattle.record.specs.History.{accepted, highestOf, windowOf, arrivedOf}
 use Rattle.record.specs.Code.{protectedBy}
 use Rattle.record.specs.Datagram.{Framing, framed, after, placedAt, framingFrom, framingOf}
 use Rattle.record.specs.declared.header.Content.{Content}
@@ -16,6 +16,7 @@ use Rattle.record.specs.declared.header.Content.the-variants as C
 use Rattle.record.specs.declared.reader.Record.{Record}
 use Rattle.record.specs.declared.window.Window.{Window}
 use Rattle.record.specs.declared.window.Acceptance.the-variants as A
+use Rattle.record.proofs.Histories.{meaning, new-when, repeated-when}
 use Rattle.record.proofs.RoundTrip.{readBack}
 use Rattle.record.proofs.Sealed.{size-most}
 use Rattle.message.specs.Alert.{alertBytes}
@@ -64,46 +65,52 @@ left-by c d random out r rs j answers last e l f row more =
     ap (λ s. s .connection) (call-is c (receive-records {out = out} e l f (chain-more row more)))
 
 -- the windows
-unfoldable pub w₀ : Window
-w₀ = record { width = windowWidth; highest = 0; marks = 1 }
+unfoldable pub w₀ : ℕ → Window
+w₀ width = windowOf width (0 ∷ [])
 
-unfoldable pub w₇ : Window
-w₇ = record { width = windowWidth; highest = 7; marks = 129 }
+unfoldable pub w₇ : ℕ → Window
+w₇ width = windowOf width (7 ∷ 0 ∷ [])
 
-unfoldable pub w₈ : Window
-w₈ = record { width = windowWidth; highest = 8; marks = 259 }
+unfoldable pub w₈ : ℕ → Window
+w₈ width = windowOf width (8 ∷ 7 ∷ 0 ∷ [])
 
-takes-7 : acceptOf w₀ 7 ≡ A.New w₇ 2
-unfolding w₀ w₇ acceptBy heldWidth ones
-takes-7 = refl
+takes-7 : (width : ℕ) → Held width → acceptOf (w₀ width) 7 ≡ A.New (w₇ width) (arrivedOf width (7 ∷ 0 ∷ []))
+unfolding w₀ w₇ highestOf accepted
+takes-7 width held = meaning width held (0 ∷ []) 7 ∙ new-when width (0 ∷ []) 7 (omega (arith, held .0)) refl
 
-again-7 : acceptOf w₇ 7 ≡ A.Repeated
-unfolding w₇ acceptBy heldWidth ones
-again-7 = refl
+again-7 : (width : ℕ) → Held width → acceptOf (w₇ width) 7 ≡ A.Repeated
+unfolding w₇ highestOf accepted
+again-7 width held = meaning width held (7 ∷ 0 ∷ []) 7 ∙ repeated-when width (7 ∷ 0 ∷ []) 7 (omega (arith, held .0)) refl
 
-takes-8 : acceptOf w₇ 8 ≡ A.New w₈ 3
-unfolding w₇ w₈ acceptBy heldWidth ones
-takes-8 = refl
+takes-8 : (width : ℕ) → Held width → acceptOf (w₇ width) 8 ≡ A.New (w₈ width) (arrivedOf width (8 ∷ 7 ∷ 0 ∷ []))
+unfolding w₇ w₈ highestOf accepted
+takes-8 width held = meaning width held (7 ∷ 0 ∷ []) 8 ∙ new-when width (7 ∷ 0 ∷ []) 8 (omega (arith, held .0)) refl
 
-module _ (h : Handshake) (is-open : h .state ≡ S.Open) (window-is : h .protection .window ≡ w₀) where
+module _ (h : Handshake) (is-open : h .state ≡ S.Open) (width : ℕ) (held : Held width) (window-is : h .protection .window ≡ w₀ width) where
   guarded : (x : Window) (r : Record) → r .protected ≡ true → Guarded (withWindow h x) r
   guarded x r p = record { protection = p; kind = ap (λ s. sealedAllowed s (r .content)) is-open }
 
-  pub new-7 : (d : List ℕ) (r : Record) (c : List ℕ) → r .number ≡ 7 → Sealed (keysOf h) d r c → New h d r c w₇
+  pub new-7 : (d : List ℕ) (r : Record) (c : List ℕ) → r .number ≡ 7 → Sealed (keysOf h) d r c → New h d r c (w₇ width)
   new-7 d r c e s =
       record {
         guarded = record { protection = s .is-protected; kind = ap (λ x. sealedAllowed x (r .content)) is-open };
         coded = s;
-        arrived = 2;
-        accepted = ap₂ (λ w n. acceptOf w n) window-is e ∙ takes-7;
+        arrived = arrivedOf width (7 ∷ 0 ∷ []);
+        accepted = ap₂ (λ w n. acceptOf w n) window-is e ∙ takes-7 width held;
       }
 
-  new-8 : (d : List ℕ) (r : Record) (c : List ℕ) → r .number ≡ 8 → Sealed (keysOf h) d r c → New (withWindow h w₇) d r c w₈
-  new-8 d r c e s = record { guarded = guarded w₇ r (s .is-protected); coded = s; arrived = 3; accepted = ap (acceptOf w₇) e ∙ takes-8 }
+  new-8 : (d : List ℕ) (r : Record) (c : List ℕ) → r .number ≡ 8 → Sealed (keysOf h) d r c → New (withWindow h (w₇ width)) d r c (w₈ width)
+  new-8 d r c e s =
+      record {
+        guarded = guarded (w₇ width) r (s .is-protected);
+        coded = s;
+        arrived = arrivedOf width (8 ∷ 7 ∷ 0 ∷ []);
+        accepted = ap (acceptOf (w₇ width)) e ∙ takes-8 width held;
+      }
 
   repeated-7 : (random d : List ℕ) (r : Record) (c : List ℕ) → r .number ≡ 7 → Sealed (keysOf h) d r c
-      → Row (withWindow h w₇) random d r (refusing X.Repeated (withWindow h w₇))
-  repeated-7 random d r c e s = row-repeated c (guarded w₇ r (s .is-protected)) s (ap (acceptOf w₇) e ∙ again-7)
+      → Row (withWindow h (w₇ width)) random d r (refusing X.Repeated (withWindow h (w₇ width)))
+  repeated-7 random d r c e s = row-repeated c (guarded (w₇ width) r (s .is-protected)) s (ap (acceptOf (w₇ width)) e ∙ again-7 width held)
 
 -- ---- a record alone in its datagram
 
@@ -128,14 +135,14 @@ empty-then-data c o random out bytes lr lo most =
     let e : List ℕ = lastSealed k C.Data 7 bytes in
     let r : Record = alone k C.Data 7 (omega arith) [] in
     let q : Record = alone k C.Data 7 (omega arith) bytes in
-    let row : Row h random d r (refusing X.Malformed (withWindow h w₇))
-    = row-malformed [] w₇ (new-7 h (o .is-open) (o .window-is) d r [] refl (alone-sealed k C.Data 7 (omega arith) [])) refl in
-    let again : Row (withWindow h w₇) random e q (refusing X.Repeated (withWindow h w₇))
-    = repeated-7 h (o .is-open) (o .window-is) random e q bytes refl (alone-sealed k C.Data 7 (omega arith) bytes) in
+    let row : Row h random d r (refusing X.Malformed (withWindow h (w₇ (o .width))))
+    = row-malformed [] (w₇ (o .width)) (new-7 h (o .is-open) (o .width) (o .held) (o .window-is) d r [] refl (alone-sealed k C.Data 7 (omega arith) [])) refl in
+    let again : Row (withWindow h (w₇ (o .width))) random e q (refusing X.Repeated (withWindow h (w₇ (o .width))))
+    = repeated-7 h (o .is-open) (o .width) (o .held) (o .window-is) random e q bytes refl (alone-sealed k C.Data 7 (omega arith) bytes) in
     let f = alone-framed k C.Data 7 (omega arith) [] (omega arith) in (
-      result-by c d random out r [] (refusing X.Malformed (withWindow h w₇)) [] (withWindow h w₇) lr lo f row refl chain-end,
-      ap (λ x. stepOf x (receive e random out) .result) (left-by c d random out r [] (refusing X.Malformed (withWindow h w₇)) [] (withWindow h w₇) lr lo f row chain-end)
-          ∙ result-by (connectionOf (withWindow h w₇)) e random out q [] (refusing X.Repeated (withWindow h w₇)) [] (withWindow h w₇) lr lo (alone-framed k C.Data 7 (omega arith) bytes most) again refl chain-end,
+      result-by c d random out r [] (refusing X.Malformed (withWindow h (w₇ (o .width)))) [] (withWindow h (w₇ (o .width))) lr lo f row refl chain-end,
+      ap (λ x. stepOf x (receive e random out) .result) (left-by c d random out r [] (refusing X.Malformed (withWindow h (w₇ (o .width)))) [] (withWindow h (w₇ (o .width))) lr lo f row chain-end)
+          ∙ result-by (connectionOf (withWindow h (w₇ (o .width)))) e random out q [] (refusing X.Repeated (withWindow h (w₇ (o .width)))) [] (withWindow h (w₇ (o .width))) lr lo (alone-framed k C.Data 7 (omega arith) bytes most) again refl chain-end,
     )
 
 -- ---- records one behind the other
@@ -204,11 +211,11 @@ twice-in-one c o random out one two lr lo some most most′ =
     let nonempty : 1 ≤ length d = omega (arith, length-append a b, long-size C.Data 7 i (unitKey k 7) (k .mac) one) in
     let f : framingOf d ≡ framed (r ∷ q ∷ [])
     = sized d nonempty size ∙ front-by k C.Data C.Data 7 7 i i one two b most 7 0 ∙ ap (after (r ∷ [])) (end-by k C.Data 7 i two 6 n) in
-    let first : Row h random d r (judged (W.Data 7 5 (length one)) (withWindow h w₇))
-    = row-data one w₇ (new-7 h (o .is-open) (o .window-is) d r one refl (front-sealed k C.Data C.Data 7 7 i i one two b most)) refl some in
-    let second : Row (withWindow h w₇) random d q (refusing X.Repeated (withWindow h w₇))
-    = repeated-7 h (o .is-open) (o .window-is) random d q two refl (end-sealed k C.Data 7 i two a n at) in
-    result-by c d random out r (q ∷ []) (judged (W.Data 7 5 (length one)) (withWindow h w₇)) (W.Refused X.Repeated ∷ []) (withWindow h w₇) lr lo f first refl (chain-more second chain-end)
+    let first : Row h random d r (judged (W.Data 7 5 (length one)) (withWindow h (w₇ (o .width))))
+    = row-data one (w₇ (o .width)) (new-7 h (o .is-open) (o .width) (o .held) (o .window-is) d r one refl (front-sealed k C.Data C.Data 7 7 i i one two b most)) refl some in
+    let second : Row (withWindow h (w₇ (o .width))) random d q (refusing X.Repeated (withWindow h (w₇ (o .width))))
+    = repeated-7 h (o .is-open) (o .width) (o .held) (o .window-is) random d q two refl (end-sealed k C.Data 7 i two a n at) in
+    result-by c d random out r (q ∷ []) (judged (W.Data 7 5 (length one)) (withWindow h (w₇ (o .width)))) (W.Refused X.Repeated ∷ []) (withWindow h (w₇ (o .width))) lr lo f first refl (chain-more second chain-end)
 
 pub closed-between : ClosedBetween stepOf
 unfolding ClosedBetween at-front at-end w₀
@@ -234,10 +241,10 @@ closed-between c o random out one two description checksum lr lo some most most�
     let f : framingOf d ≡ framed (r ∷ q ∷ p ∷ [])
     = sized d nonempty size ∙ front-by k C.Data C.Data 7 7 i₇ i₇ one two (b ++ e) most 7 0
     ∙ ap (after (r ∷ [])) (front-by k C.Alert C.Data 8 9 i₈ i₉ alert two e (omega arith) 6 n ∙ ap (after (q ∷ [])) (end-by k C.Data 9 i₉ two 5 m)) in
-    let first : Row h random d r (judged (W.Data 7 5 (length one)) (withWindow h w₇))
-    = row-data one w₇ (new-7 h (o .is-open) (o .window-is) d r one refl (front-sealed k C.Data C.Data 7 7 i₇ i₇ one two (b ++ e) most)) refl some in
-    let second : Row (withWindow h w₇) random d q (judged (W.Critical description) (withState (withWindow h w₈) S.Closed))
-    = row-critical alert w₈ (record { level = L.Critical; description = description; checksum = checksum }) (new-8 h (o .is-open) (o .window-is) d q alert refl (mid-sealed k C.Alert 8 i₈ alert e a n at)) refl (alert-back L.Critical description checksum small) refl in
-    let third : Row (withState (withWindow h w₈) S.Closed) random d p (refusing X.Ended (withState (withWindow h w₈) S.Closed)) = row-ended refl in
-    result-by c d random out r (q ∷ p ∷ []) (judged (W.Data 7 5 (length one)) (withWindow h w₇)) (W.Critical description ∷ W.Refused X.Ended ∷ []) (withState (withWindow h w₈) S.Closed) lr lo f first refl
+    let first : Row h random d r (judged (W.Data 7 5 (length one)) (withWindow h (w₇ (o .width))))
+    = row-data one (w₇ (o .width)) (new-7 h (o .is-open) (o .width) (o .held) (o .window-is) d r one refl (front-sealed k C.Data C.Data 7 7 i₇ i₇ one two (b ++ e) most)) refl some in
+    let second : Row (withWindow h (w₇ (o .width))) random d q (judged (W.Critical description) (withState (withWindow h (w₈ (o .width))) S.Closed))
+    = row-critical alert (w₈ (o .width)) (record { level = L.Critical; description = description; checksum = checksum }) (new-8 h (o .is-open) (o .width) (o .held) (o .window-is) d q alert refl (mid-sealed k C.Alert 8 i₈ alert e a n at)) refl (alert-back L.Critical description checksum small) refl in
+    let third : Row (withState (withWindow h (w₈ (o .width))) S.Closed) random d p (refusing X.Ended (withState (withWindow h (w₈ (o .width))) S.Closed)) = row-ended refl in
+    result-by c d random out r (q ∷ p ∷ []) (judged (W.Data 7 5 (length one)) (withWindow h (w₇ (o .width)))) (W.Critical description ∷ W.Refused X.Ended ∷ []) (withState (withWindow h (w₈ (o .width))) S.Closed) lr lo f first refl
     (chain-more second (chain-more third chain-end))

@@ -8,7 +8,6 @@ use Prim.Native.Nat.{ℕ, _+_, _-_, _≤_, _<_}
 use native.Mathlib.Omega.{arith}
 use lib.ListN.{length, take, drop, getD, replicate}
 use lib.Seq.{take-at, length-take-le}
-use lib.Count.{ones}
 use lib.Dec.{eqb}
 use borrow.Author.Tests.{eq-eqb}
 use Rattle.digest.specs.Pick.{pick}
@@ -18,7 +17,8 @@ use Rattle.digest.specs.Sha1.{sha1}
 use Rattle.digest.specs.Expansion.{prf, expansion, terms, chain}
 use Rattle.digest.specs.Mac.{sizeOf}
 use Rattle.digest.proofs.Codes.{length-hmac}
-use Rattle.record.specs.Window.{acceptOf, acceptBy, windowWidth, emptied, heldWidth}
+use Rattle.record.specs.Window.{acceptOf, Held, freshWindow, emptied}
+use Rattle.record.specs.History.{accepted, highestOf, windowOf, arrivedOf}
 use Rattle.record.specs.Written.{recordOf, byteFor}
 use Rattle.record.specs.Code.{protectedBy}
 use Rattle.record.specs.Datagram.{framed, framingOf}
@@ -27,6 +27,7 @@ use Rattle.record.specs.declared.header.Content.the-variants as C
 use Rattle.record.specs.declared.reader.Record.{Record}
 use Rattle.record.specs.declared.window.Window.{Window}
 use Rattle.record.specs.declared.window.Acceptance.the-variants as A
+use Rattle.record.proofs.Histories.{meaning, fresh-means, new-when}
 use Rattle.record.proofs.RoundTrip.{readBack}
 use Rattle.record.proofs.Sealed.{size-most}
 use Rattle.message.specs.Acceptance.{heardOf, heardAs}
@@ -118,10 +119,20 @@ unfolding expectedOf clientVerify
 expected-size session random m plan =
     verify-size (session .secret) clientLabel (sha1 (m ++ ourHello session random plan ++ ourFinished session random m plan))
 
+-- the window takes the Finished, which has number 0, and the data behind it
+takes-0 : (width : ℕ) → Held width → acceptOf (freshWindow width) 0 ≡ A.New (windowOf width (0 ∷ [])) (arrivedOf width (0 ∷ []))
+unfolding highestOf accepted
+takes-0 width held =
+    ap (λ w. acceptOf w 0) (fresh-means width) ∙ meaning width held [] 0 ∙ new-when width [] 0 (omega (arith, held .0)) refl
+
+takes-1 : (width : ℕ) → Held width → acceptOf (windowOf width (0 ∷ [])) 1 ≡ A.New (windowOf width (1 ∷ 0 ∷ [])) (arrivedOf width (1 ∷ 0 ∷ []))
+unfolding highestOf accepted
+takes-1 width held = meaning width held (0 ∷ []) 1 ∙ new-when width (0 ∷ []) 1 (omega (arith, held .0)) refl
+
 -- ---- the four datagrams
 
 -- a handshake and one data record, as the table takes them
-pub record Walk (id secret random bytes : List ℕ) : Type 0 where
+pub record Walk (id secret : List ℕ) (width : ℕ) (random bytes : List ℕ) : Type 0 where
   pub d₁ : List ℕ
   pub d₂ : List ℕ
   pub d₃ : List ℕ
@@ -139,17 +150,17 @@ pub record Walk (id secret random bytes : List ℕ) : Type 0 where
   pub framed₂ : framingOf d₂ ≡ framed (r₂ ∷ [])
   pub framed₃ : framingOf d₃ ≡ framed (r₃ ∷ [])
   pub framed₄ : framingOf d₄ ≡ framed (r₄ ∷ [])
-  pub row₁ : Row (freshWith id secret) random d₁ r₁ (judged (W.Reply reply) h₁)
+  pub row₁ : Row (freshWith id secret width) random d₁ r₁ (judged (W.Reply reply) h₁)
   pub row₂ : Row h₁ random d₂ r₂ (judged W.Spec h₂)
   pub row₃ : Row h₂ random d₃ r₃ (judged W.Open h₃)
   pub row₄ : Row h₃ random d₄ r₄ (judged (W.Data 1 3 (length bytes)) h₄)
   pub replied-is : h₁ .state ≡ S.Replied
   pub spec-is : h₂ .state ≡ S.Spec
   pub open-is : h₃ .state ≡ S.Open
-  pub window-is : h₃ .protection .window ≡ record { width = windowWidth; highest = 0; marks = 1 }
+  pub window-is : h₃ .protection .window ≡ windowOf width (0 ∷ [])
   pub next-is : h₃ .protection .protected ≡ 1
 
-module _ (id secret m random out bytes : List ℕ) (plan : Plan) (lr : length random ≡ 16) (lo : 128 ≤ length out) (e : heardOf m id ≡ H.Accepted plan) (some : 1 ≤ length bytes) (most : length bytes ≤ 1300) where
+module _ (id secret : List ℕ) (width : ℕ) (held : Held width) (m random out bytes : List ℕ) (plan : Plan) (lr : length random ≡ 16) (lo : 128 ≤ length out) (e : heardOf m id ≡ H.Accepted plan) (some : 1 ≤ length bytes) (most : length bytes ≤ 1300) where
   abbrev session : Session
   session = sessionOf id secret
 
@@ -173,7 +184,7 @@ module _ (id secret m random out bytes : List ℕ) (plan : Plan) (lr : length ra
   r₁ = readBack false false C.Handshake 0 (length m)
 
   h₁ : Handshake
-  h₁ = answeredWith (freshWith id secret) random m plan
+  h₁ = answeredWith (freshWith id secret width) random m plan
 
   fragment₁ : fragmentOf d₁ r₁ ≡ m
   unfolding d₁ r₁
@@ -183,17 +194,17 @@ module _ (id secret m random out bytes : List ℕ) (plan : Plan) (lr : length ra
   unfolding r₁
   hello₁ = eq-eqb (getD (fragmentOf d₁ r₁) 0 0) 1 (ap (λ f. getD f 0 0) fragment₁ ∙ begins m id plan e)
 
-  row₁ : Row (freshWith id secret) random d₁ r₁ (judged (W.Reply (length (replyTo session random m plan))) h₁)
+  row₁ : Row (freshWith id secret width) random d₁ r₁ (judged (W.Reply (length (replyTo session random m plan))) h₁)
   unfolding h₁ r₁
   row₁ =
-      subst (λ f. Row (freshWith id secret) random d₁ r₁ (judged (W.Reply (length (replyTo session random f plan))) (answeredWith (freshWith id secret) random f plan))) fragment₁
+      subst (λ f. Row (freshWith id secret width) random d₁ r₁ (judged (W.Reply (length (replyTo session random f plan))) (answeredWith (freshWith id secret width) random f plan))) fragment₁
       (row-reply plan (record { hello = hello₁; first = refl; another = inl refl }) (ap (λ f. heardOf f id) fragment₁ ∙ e))
 
   sent₁ : sentBy (judged (W.Reply (length (replyTo session random m plan))) h₁) ≡ replyTo session random m plan
   unfolding h₁ answeredWith
   sent₁ = take-at (replyTo session random m plan) (replicate (84 - length (replyTo session random m plan)) 0) (length (replyTo session random m plan)) refl
 
-  replied : stepOf (connectionOf (freshWith id secret)) (receive (clearDatagram C.Handshake 0 m) random out)
+  replied : stepOf (connectionOf (freshWith id secret width)) (receive (clearDatagram C.Handshake 0 m) random out)
       ≡ record {
         result = oneAnswer (W.Reply (length (replyTo session random m plan))) (length (replyTo session random m plan));
         output = laidOver out 0 (replyTo session random m plan);
@@ -201,7 +212,7 @@ module _ (id secret m random out bytes : List ℕ) (plan : Plan) (lr : length ra
       }
   unfolding d₁ r₁
   replied =
-      one-record (connectionOf (freshWith id secret)) d₁ random out r₁ (judged (W.Reply (length (replyTo session random m plan))) h₁) lr lo (clear-framed C.Handshake 0 (omega arith) m hello-some hello-most) row₁
+      one-record (connectionOf (freshWith id secret width)) d₁ random out r₁ (judged (W.Reply (length (replyTo session random m plan))) h₁) lr lo (clear-framed C.Handshake 0 (omega arith) m hello-some hello-most) row₁
       ∙ λ i. record { result = oneAnswer (W.Reply (length (replyTo session random m plan))) (length (sent₁ i)); output = laidOver out 0 (sent₁ i); connection = connectionOf h₁ }
 
   -- change cipher spec
@@ -235,7 +246,7 @@ module _ (id secret m random out bytes : List ℕ) (plan : Plan) (lr : length ra
   r₃ = readBack false true C.Handshake 0 (length (finishedOf expected) + sizeOf (plan .mac))
 
   w₃ : Window
-  w₃ = record { width = windowWidth; highest = 0; marks = 1 }
+  w₃ = windowOf width (0 ∷ [])
 
   h₃ : Handshake
   h₃ = withState (withWindow h₂ w₃) S.Open
@@ -246,10 +257,10 @@ module _ (id secret m random out bytes : List ℕ) (plan : Plan) (lr : length ra
       record { is-protected = refl; is-coded = sealed-fragment C.Handshake 0 (omega arith) (unitKey k 0) (plan .mac) (finishedOf expected) }
 
   row₃ : Row h₂ random d₃ r₃ (judged W.Open h₃)
-  unfolding h₁ answeredWith h₂ h₃ r₃ w₃ acceptBy heldWidth ones
+  unfolding h₁ answeredWith h₂ h₃ r₃ w₃
   row₃ =
       row-open (finishedOf expected) w₃
-      (record { guarded = record { protection = refl; kind = refl }; coded = sealed₃; arrived = 1; accepted = refl }) refl refl (finished-right expected (expected-size session random m plan))
+      (record { guarded = record { protection = refl; kind = refl }; coded = sealed₃; arrived = arrivedOf width (0 ∷ []); accepted = takes-0 width held }) refl refl (finished-right expected (expected-size session random m plan))
 
   opened : stepOf (connectionOf h₂) (receive (sealedDatagram k C.Handshake 0 (finishedOf expected)) random out) ≡ record { result = oneAnswer W.Open 0; output = out; connection = connectionOf h₃ }
   unfolding d₃ r₃
@@ -265,7 +276,7 @@ module _ (id secret m random out bytes : List ℕ) (plan : Plan) (lr : length ra
   r₄ = readBack false true C.Data 1 (length bytes + sizeOf (plan .mac))
 
   w₄ : Window
-  w₄ = record { width = windowWidth; highest = 1; marks = 3 }
+  w₄ = windowOf width (1 ∷ 0 ∷ [])
 
   h₄ : Handshake
   h₄ = withWindow h₃ w₄
@@ -275,9 +286,9 @@ module _ (id secret m random out bytes : List ℕ) (plan : Plan) (lr : length ra
   sealed₄ = record { is-protected = refl; is-coded = sealed-fragment C.Data 1 (omega arith) (unitKey k 1) (plan .mac) bytes }
 
   row₄ : Row h₃ random d₄ r₄ (judged (W.Data 1 3 (length bytes)) h₄)
-  unfolding h₁ answeredWith h₂ h₃ h₄ r₄ w₃ w₄ acceptBy heldWidth ones
+  unfolding h₁ answeredWith h₂ h₃ h₄ r₄ w₃ w₄
   row₄ =
-      row-data bytes w₄ (record { guarded = record { protection = refl; kind = refl }; coded = sealed₄; arrived = 2; accepted = refl }) refl some
+      row-data bytes w₄ (record { guarded = record { protection = refl; kind = refl }; coded = sealed₄; arrived = arrivedOf width (1 ∷ 0 ∷ []); accepted = takes-1 width held }) refl some
 
   handed : stepOf (connectionOf h₃) (receive (sealedDatagram k C.Data 1 bytes) random out) ≡ record { result = oneAnswer (W.Data 1 3 (length bytes)) 0; output = out; connection = connectionOf h₄ }
   unfolding d₄ r₄
@@ -290,7 +301,7 @@ module _ (id secret m random out bytes : List ℕ) (plan : Plan) (lr : length ra
   as-sent = handed-part k d₄ r₄ bytes some sealed₄
 
   -- the datagrams, the records in them, and what each leaves
-  pub walk : Walk id secret random bytes
+  pub walk : Walk id secret width random bytes
   unfolding d₁ d₂ d₃ d₄ r₁ r₂ r₃ r₄ h₁ answeredWith h₂ h₃ w₃
   walk =
       record {
@@ -322,7 +333,7 @@ module _ (id secret m random out bytes : List ℕ) (plan : Plan) (lr : length ra
         next-is = refl;
       }
 
-  pub worked : Worked stepOf id secret m random out bytes plan
+  pub worked : Worked stepOf id secret width m random out bytes plan
   worked =
       record {
         c₁ = connectionOf h₁;
@@ -338,4 +349,4 @@ module _ (id secret m random out bytes : List ℕ) (plan : Plan) (lr : length ra
 
 pub it-works : Works stepOf
 unfolding Works
-it-works id secret m random out bytes plan lr lo e some most = worked id secret m random out bytes plan lr lo e some most
+it-works id secret width held m random out bytes plan lr lo e some most = worked id secret width held m random out bytes plan lr lo e some most

@@ -11,6 +11,7 @@ use lib.ListN.{length}
 use Rattle.digest.specs.Bytes.{laidOver}
 use Rattle.digest.specs.Mac.{sizeOf}
 use Rattle.record.specs.Datagram.{framed, faulty, framingOf}
+use Rattle.record.specs.Window.{Held}
 use Rattle.record.specs.declared.header.Content.the-variants as C
 use Rattle.record.specs.declared.reader.Fault.{Fault}
 use Rattle.record.specs.declared.reader.Record.{Record}
@@ -174,13 +175,16 @@ pub data CallRow (c : Connection) : Call → Step → Type 0 where
   start-8 : c .handshake .state ≢ Barred → c .handshake .state ≢ Closed → CallRow c start (notCalled c X.NotAllowed)
   start-done : c .handshake .state ≡ Closed → CallRow c start (wasCalled (reopened (c .handshake)))
 
--- "Fresh connection: 16 only": "identifier not 8, secret not 20". What stands beside the refusal is blank and Barred.
-pub data FreshRow (id secret : List ℕ) : Called → Type 0 where
-  fresh-16 : (length id ≢ 8) ⊎ (length secret ≢ 20) → FreshRow id secret (leaving (O.Refused X.Argument) blankHandshake)
-  fresh-done : length id ≡ 8 → length secret ≡ 20 → FreshRow id secret (leaving O.Done (freshWith id secret))
+-- "Fresh connection: 16 only": "identifier not 8, secret not 20", and 02, P1: "width outside 32 to 64". What stands
+-- beside the refusal is blank and Barred.
+pub data FreshRow (id secret : List ℕ) (width : ℕ) : Called → Type 0 where
+  fresh-16 : (length id ≢ 8) ⊎ (length secret ≢ 20) ⊎ (width < 32) ⊎ (64 < width)
+      → FreshRow id secret width (leaving (O.Refused X.Argument) blankHandshake)
+  fresh-done : length id ≡ 8 → length secret ≡ 20 → Held width
+      → FreshRow id secret width (leaving O.Done (freshWith id secret width))
 
 unfoldable pub FreshHolds : Type 0
-FreshHolds = (id secret : List ℕ) (s : Called) → (freshOf id secret ≡ s) ↔ FreshRow id secret s
+FreshHolds = (id secret : List ℕ) (width : ℕ) (s : Called) → (freshOf id secret width ≡ s) ↔ FreshRow id secret width s
 
 -- a call gives this exactly if there is a row that says so
 unfoldable pub CallsHold : Type 0

@@ -97,7 +97,7 @@ Ongoing (closing ∷ es) = ⊥
 Ongoing (starting ∷ es) = ⊥
 
 -- "Each genuine data record of at least one byte, whose number was not accepted before and is above the highest
--- accepted less 32": what is to be handed out at this place of the course, with the content c
+-- accepted less 32", now "less the width": what is to be handed out at this place of the course, with the content c
 pub record Due (k : Keys) (course : Course) (d : List ℕ) (r : Record) (c : List ℕ) : Type 0 where
   pub not-shut : course .shut ≡ false
   pub genuine : Genuine k d r c

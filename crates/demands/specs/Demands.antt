@@ -62,7 +62,7 @@ pub record Third : Type 0 where
   pub left-out : LeavesOut stepOf
   pub left-out-of-runs : LeavesOutOfRuns
   -- "Each genuine data record of at least one byte, whose number was not accepted before and is above the highest
-  -- accepted less 32, is handed out by that very call, once, as sent."
+  -- accepted less 32, is handed out by that very call, once, as sent." 02, P1: "Demand 3 reads 'less the width'".
   pub handed-out : HandedOut
   pub handed-once : HandedOnce
   pub empty-then-data : EmptyThenData stepOf

@@ -11,6 +11,9 @@ exampleId = 0xa0 ∷ 0xa1 ∷ 0xa2 ∷ 0xa3 ∷ 0xa4 ∷ 0xa5 ∷ 0xa6 ∷ 0xa7 
 abbrev pub exampleSecret : List ℕ
 exampleSecret = replicate 20 0x42
 
+abbrev pub exampleWidth : ℕ
+exampleWidth = 64
+
 -- version 1, its random, the identifier, no keys, null cipher with SHA_80, null compression, explicit numbering,
 -- refresh 3
 abbrev pub exampleHello : List ℕ

@@ -18,6 +18,7 @@ use Rattle.connection.specs.declared.handshake.Session.{Session}
 use Rattle.demands.specs.Genuine.{Genuine}
 use Rattle.demands.specs.Events.{Event, took, Sound, AllSound, Happened, answered, wrote, closed, started, refused, after, history}
 use Rattle.demands.specs.Past.{Greeting, greeting, lastReply, isReply, isData, shuts, keysIn}
+use Rattle.record.specs.Window.{Held}
 use Rattle.demands.specs.Runs.{freshWith}
 
 -- no new reply, no closing and no start
@@ -50,7 +51,7 @@ pub record Verified (session : Session) (past : List Happened) : Type 0 where
 
 unfoldable pub OnlyAfterFinished : Type 0
 OnlyAfterFinished =
-    (id secret : List ℕ) (es : List Event) → AllSound es
+    (id secret : List ℕ) (width : ℕ) → Held width → (es : List Event) → AllSound es
     → (random d : List ℕ) (r : Record) → Sound (took random d r)
-    → isData (judgedRecord (after (freshWith id secret) es) random d r .answer) ≡ true
-    → Verified (sessionOf id secret) (history (freshWith id secret) es [])
+    → isData (judgedRecord (after (freshWith id secret width) es) random d r .answer) ≡ true
+    → Verified (sessionOf id secret) (history (freshWith id secret width) es [])

@@ -28,6 +28,7 @@ use Rattle.demands.specs.Calls.{Chain, CallRow, notTaken, notSent, notCa
 use Rattle.demands.specs.Refusals.{lentBy}
 use Rattle.demands.specs.Events.{Event, took, AllSound, eventsOf, connectionOf, after, history}
 use Rattle.demands.specs.Past.{isData, keysIn}
+use Rattle.record.specs.Window.{Held}
 use Rattle.demands.specs.Runs.{freshWith}
 use Rattle.demands.specs.LeftOut.{LeavesOut, answersIn}
 use Rattle.demands.specs.Course.{Ongoing, Due}
@@ -59,15 +60,15 @@ Demand2Settles = (g : Gateway) → Demand2 g → (c : Connection) (call : Call) 
 -- Demand 3, the handing out: from an open connection, with its past, by the calls of the gateway itself
 unfoldable pub HandsOut : Gateway → Type 0
 HandsOut g =
-    (id secret : List ℕ) (es : List Event) → AllSound es
-    → after (freshWith id secret) es .state ≡ Open → (calls : List Call) → Ongoing (eventsOf calls)
+    (id secret : List ℕ) (width : ℕ) → Held width → (es : List Event) → AllSound es
+    → after (freshWith id secret width) es .state ≡ Open → (calls : List Call) → Ongoing (eventsOf calls)
     → (d random out : List ℕ) (before : List Record) (r : Record) (behind : List Record) → length random ≡ 16
     → 128 ≤ length out
     → framingOf d ≡ framed (before ++ (r ∷ behind))
-    → let past = history (freshWith id secret) es [] in
+    → let past = history (freshWith id secret width) es [] in
     let session = sessionOf id secret in
-    let course = courseFrom session past (eventsOf calls ++ map (took random d) before) in
-    let answer = answerOf g (finalOf g (connectionOf (after (freshWith id secret) es)) calls) d random out before in
+    let course = courseFrom session width past (eventsOf calls ++ map (took random d) before) in
+    let answer = answerOf g (finalOf g (connectionOf (after (freshWith id secret width) es)) calls) d random out before in
     ((isData answer ≡ true) ↔ ((c : List ℕ) × Due (keysIn session past) course d r c))
     × ((c : List ℕ) → Due (keysIn session past) course d r c → handedOf d answer ≡ c)
 

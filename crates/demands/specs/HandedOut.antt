@@ -1,12 +1,12 @@
 -- Demand 3: "Each genuine data record of at least one byte, whose number was not accepted before and is above the
--- highest accepted less 32, is handed out by that very call, once, as sent."
+-- highest accepted less 32, is handed out by that very call, once, as sent." Since 02, P1: "less the width".
 use mathlib.Core.Path.{_≡_}
 use mathlib.Core.Logic.{_↔_, _≢_}
 use mathlib.Core.Bool.{Bool, true, false}
 use mathlib.Core.List.{List, [], _∷_, _++_}
 use Prim.Native.Nat.{ℕ}
 use lib.ListN.{length}
-use Rattle.record.specs.Window.{windowWidth}
+use Rattle.record.specs.Window.{Held}
 use Rattle.record.specs.declared.reader.Record.{Record}
 use Rattle.connection.specs.Answer.{handedOf}
 use Rattle.connection.specs.Calls.{sessionOf}
@@ -20,10 +20,10 @@ use Rattle.demands.specs.Past.{isData, keysIn, expectedIn, acceptedIn}
 use Rattle.demands.specs.Course.{Course, courseOf, Ongoing, Due}
 use Rattle.demands.specs.Runs.{freshWith}
 
--- the course from a place of a run on: the numbers accepted up to there, and nothing closed
-abbrev pub courseFrom : Session → List Happened → List Event → Course
-courseFrom session past es =
-    courseOf (keysIn session past) (expectedIn session past) (record { width = windowWidth; numbers = acceptedIn past; shut = false }) es
+-- the course from a place of a run on: the width, the numbers accepted up to there, and nothing closed
+abbrev pub courseFrom : Session → ℕ → List Happened → List Event → Course
+courseFrom session width past es =
+    courseOf (keysIn session past) (expectedIn session past) (record { width = width; numbers = acceptedIn past; shut = false }) es
 
 -- the answer to a record at a place of a run
 abbrev pub answerAt : Handshake → List ℕ → List ℕ → Record → Answer
@@ -33,25 +33,25 @@ answerAt h random d r = judgedRecord h random d r .answer
 -- with data exactly if it is due, and what is handed out is its content.
 unfoldable pub HandedOut : Type 0
 HandedOut =
-    (id secret : List ℕ) (es : List Event) → AllSound es
-    → after (freshWith id secret) es .state ≡ Open → (later : List Event) → AllSound later → Ongoing later
+    (id secret : List ℕ) (width : ℕ) → Held width → (es : List Event) → AllSound es
+    → after (freshWith id secret width) es .state ≡ Open → (later : List Event) → AllSound later → Ongoing later
     → (random d : List ℕ) (r : Record) → Sound (took random d r)
-    → let past = history (freshWith id secret) es [] in
+    → let past = history (freshWith id secret width) es [] in
     let session = sessionOf id secret in
-    let course = courseFrom session past later in
-    let answer = answerAt (after (after (freshWith id secret) es) later) random d r in
+    let course = courseFrom session width past later in
+    let answer = answerAt (after (after (freshWith id secret width) es) later) random d r in
     ((isData answer ≡ true) ↔ ((c : List ℕ) × Due (keysIn session past) course d r c))
     × ((c : List ℕ) → Due (keysIn session past) course d r c → handedOf d answer ≡ c)
 
 -- "once": two records that are both handed out have different numbers
 unfoldable pub HandedOnce : Type 0
 HandedOnce =
-    (id secret : List ℕ) (es : List Event) → AllSound es
-    → after (freshWith id secret) es .state ≡ Open → (later between : List Event) → AllSound later → AllSound between
+    (id secret : List ℕ) (width : ℕ) → Held width → (es : List Event) → AllSound es
+    → after (freshWith id secret width) es .state ≡ Open → (later between : List Event) → AllSound later → AllSound between
     → (random d : List ℕ) (r : Record) (random′ d′ : List ℕ) (r′ : Record) → Sound (took random d r)
     → Sound (took random′ d′ r′)
     → Ongoing (later ++ (took random d r ∷ between))
-    → isData (answerAt (after (after (freshWith id secret) es) later) random d r) ≡ true
-    → isData (answerAt (after (after (freshWith id secret) es) (later ++ (took random d r ∷ between))) random′ d′ r′)
+    → isData (answerAt (after (after (freshWith id secret width) es) later) random d r) ≡ true
+    → isData (answerAt (after (after (freshWith id secret width) es) (later ++ (took random d r ∷ between))) random′ d′ r′)
     ≡ true
     → r .number ≢ r′ .number

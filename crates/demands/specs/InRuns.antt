@@ -28,9 +28,9 @@ use Rattle.demands.specs.Table.{Guarded, Hears}
 use Rattle.demands.specs.Events.{Event, AllSound, Happened, connectionOf, after, history}
 use Rattle.demands.specs.Past.{keysIn, expectedIn, acceptedIn, sentSince, MatchesNone}
 use Rattle.demands.specs.LeftOut.{LeftOut, SameWithout}
-use Rattle.record.specs.Window.{windowWidth}
+use Rattle.record.specs.Window.{Held}
 
--- "a number at most n - 32 is too old", with n an accepted number
+-- "a number at most n - 32 is too old", with n an accepted number: less the width (02, P1)
 pub record TooOldFor (width : ℕ) (numbers : List ℕ) (s : ℕ) : Type 0 where
   pub n : ℕ
   pub was-accepted : accepted numbers n ≡ true
@@ -42,45 +42,45 @@ pub record RepeatedIn (width : ℕ) (numbers : List ℕ) (s : ℕ) : Type 0 wher
   pub recent : (n : ℕ) → accepted numbers n ≡ true → n < s + width
 
 -- a protected record of an allowed kind, by its history
-pub record ProtectedExactly (session : Session) (past : List Happened) (d : List ℕ) (r : Record)
+pub record ProtectedExactly (session : Session) (width : ℕ) (past : List Happened) (d : List ℕ) (r : Record)
     (answer : Answer) : Type 0 where
   pub exactly-9 : (answer ≡ Refused X.Forged) ↔ ((c : List ℕ) → Genuine (keysIn session past) d r c → ⊥)
   pub exactly-10 : (answer ≡ Refused X.TooOld)
-      ↔ (((c : List ℕ) × Genuine (keysIn session past) d r c) × TooOldFor windowWidth (acceptedIn past) (r .number))
+      ↔ (((c : List ℕ) × Genuine (keysIn session past) d r c) × TooOldFor width (acceptedIn past) (r .number))
   pub exactly-11 : (answer ≡ Refused X.Repeated)
-      ↔ (((c : List ℕ) × Genuine (keysIn session past) d r c) × RepeatedIn windowWidth (acceptedIn past) (r .number))
+      ↔ (((c : List ℕ) × Genuine (keysIn session past) d r c) × RepeatedIn width (acceptedIn past) (r .number))
 
 unfoldable pub ProtectedInRuns : Type 0
 ProtectedInRuns =
-    (id secret : List ℕ) (es : List Event) → AllSound es → (random d : List ℕ) (r : Record) → RecordOf d r
-    → Guarded (after (freshWith id secret) es) r
-    → ProtectedExactly (sessionOf id secret) (history (freshWith id secret) es []) d r
-    (judgedRecord (after (freshWith id secret) es) random d r .answer)
+    (id secret : List ℕ) (width : ℕ) → Held width → (es : List Event) → AllSound es → (random d : List ℕ) (r : Record) → RecordOf d r
+    → Guarded (after (freshWith id secret width) es) r
+    → ProtectedExactly (sessionOf id secret) width (history (freshWith id secret width) es []) d r
+    (judgedRecord (after (freshWith id secret width) es) random d r .answer)
 
 -- 14: a clear alert is good "if it matches any of the last eight records that we sent since the last start, fewer if fewer
 -- were sent" (02)
 unfoldable pub ChecksumInRuns : Type 0
 ChecksumInRuns =
-    (id secret : List ℕ) (es : List Event) → AllSound es → (random d : List ℕ) (r : Record) (a : Alert)
-    → Hears (after (freshWith id secret) es .state) → r .protected ≡ false → r .content ≡ C.Alert
+    (id secret : List ℕ) (width : ℕ) → Held width → (es : List Event) → AllSound es → (random d : List ℕ) (r : Record) (a : Alert)
+    → Hears (after (freshWith id secret width) es .state) → r .protected ≡ false → r .content ≡ C.Alert
     → alertOf (fragmentOf d r) ≡ R.WellFormed a
-    → (judgedRecord (after (freshWith id secret) es) random d r .answer ≡ Refused X.Checksum)
-    ↔ MatchesNone (a .checksum) (sentSince (sessionOf id secret) (history (freshWith id secret) es []))
+    → (judgedRecord (after (freshWith id secret width) es) random d r .answer ≡ Refused X.Checksum)
+    ↔ MatchesNone (a .checksum) (sentSince (sessionOf id secret) (history (freshWith id secret width) es []))
 
 -- 17: a genuine Finished that is answered so has other contents than the PRF over the messages of this run
 unfoldable pub WrongFinishedInRuns : Type 0
 WrongFinishedInRuns =
-    (id secret : List ℕ) (es : List Event) → AllSound es → (random d : List ℕ) (r : Record) → RecordOf d r
-    → judgedRecord (after (freshWith id secret) es) random d r .answer ≡ Refused X.WrongFinished
-    → (c : List ℕ) × Genuine (keysIn (sessionOf id secret) (history (freshWith id secret) es [])) d r c
+    (id secret : List ℕ) (width : ℕ) → Held width → (es : List Event) → AllSound es → (random d : List ℕ) (r : Record) → RecordOf d r
+    → judgedRecord (after (freshWith id secret width) es) random d r .answer ≡ Refused X.WrongFinished
+    → (c : List ℕ) × Genuine (keysIn (sessionOf id secret) (history (freshWith id secret width) es [])) d r c
     × (r .content ≡ C.Handshake)
-    × (judgedOf c (expectedIn (sessionOf id secret) (history (freshWith id secret) es [])) ≡ F.Wrong)
+    × (judgedOf c (expectedIn (sessionOf id secret) (history (freshWith id secret width) es [])) ≡ F.Wrong)
 
 -- demand 3, first half, from an open place of a run: genuine under the keys of its last new reply
 unfoldable pub LeavesOutOfRuns : Type 0
 LeavesOutOfRuns =
-    (id secret : List ℕ) (es : List Event) → AllSound es → after (freshWith id secret) es .state ≡ Open
+    (id secret : List ℕ) (width : ℕ) → Held width → (es : List Event) → AllSound es → after (freshWith id secret width) es .state ≡ Open
     → (calls rest : List Call)
-    (out : LeftOut (keysIn (sessionOf id secret) (history (freshWith id secret) es [])) calls rest)
-    → SameWithout stepOf (keysIn (sessionOf id secret) (history (freshWith id secret) es []))
-    (connectionOf (after (freshWith id secret) es)) calls rest out
+    (out : LeftOut (keysIn (sessionOf id secret) (history (freshWith id secret width) es [])) calls rest)
+    → SameWithout stepOf (keysIn (sessionOf id secret) (history (freshWith id secret width) es []))
+    (connectionOf (after (freshWith id secret width) es)) calls rest out

@@ -21,10 +21,10 @@ use Rattle.demands.specs.Events.{Event, took, Sound, AllSound, connectio
 use Rattle.demands.specs.Past.{isData}
 use Rattle.demands.specs.LeftOut.{NoneGenuine}
 use Rattle.demands.specs.Traps.{JustOpen}
-use Rattle.demands.specs.Example.{exampleId, exampleSecret, exampleHello, examplePlan}
+use Rattle.demands.specs.Example.{exampleId, exampleSecret, exampleWidth, exampleHello, examplePlan}
 
 abbrev pub exampleFresh : Handshake
-exampleFresh = freshWith exampleId exampleSecret
+exampleFresh = freshWith exampleId exampleSecret exampleWidth
 
 -- a run from fresh that is Open, and a record that is answered with data there
 pub record OpenRun : Type 0 where

@@ -16,9 +16,9 @@ use Rattle.connection.specs.declared.handshake.Session.{Session}
 use Rattle.connection.specs.declared.state.State.the-variants.{Barred}
 use Rattle.demands.specs.Events.{Event, Happened, after, history}
 use Rattle.demands.specs.Past.{lastReply, keptGreeting, agreedFor, helloAs, replyFor, nextSealed, nextClearNumber, sentSince, acceptedIn, barredIn, agreedOf, nothingAgreed, Agreed}
-use Rattle.record.specs.Window.{windowWidth}
+use Rattle.record.specs.Window.{Held}
 
-pub record KeptAs (session : Session) (past : List Happened) (h : Handshake) : Type 0 where
+pub record KeptAs (session : Session) (width : ℕ) (past : List Happened) (h : Handshake) : Type 0 where
   -- the session is the planted one, until it is barred
   pub session-is : barredIn past ≡ false → planted h ≡ session
   -- randoms, MAC kind, refresh and expected Finished are those of the last new reply
@@ -31,13 +31,15 @@ pub record KeptAs (session : Session) (past : List Happened) (h : Handshake) : T
   pub clear-is : h .protection .clear ≡ nextClearNumber past
   -- the checksums of "the last eight records that we sent since the last start, fewer if fewer were sent"
   pub sent-is : sumsOf (h .sent) ≡ map sumOf (take recordsKept (sentSince session past))
-  -- the window holds exactly the numbers accepted since the last change cipher spec that was taken
-  pub window-is : h .protection .window ≡ windowOf windowWidth (acceptedIn past)
+  -- the window has the width that was given to fresh, 32 to 64, and holds exactly the numbers accepted since the last
+  -- change cipher spec that was taken
+  pub held : Held width
+  pub window-is : h .protection .window ≡ windowOf width (acceptedIn past)
   -- "required to forget any session identifiers, keys, and secrets" (002 10.2.2)
   pub barred-is : barredIn past ≡ true
       → (h .state ≡ Barred) × (planted h ≡ noSession) × (h .kept ≡ nothingKept) × (agreedOf h ≡ nothingAgreed (h .protection .keys .mac) (h .protection .keys .refresh))
 
 unfoldable pub KeptIsWhatHappened : Type 0
 KeptIsWhatHappened =
-    (id secret : List ℕ) (es : List Event)
-    → KeptAs (sessionOf id secret) (history (freshWith id secret) es []) (after (freshWith id secret) es)
+    (id secret : List ℕ) (width : ℕ) → Held width → (es : List Event)
+    → KeptAs (sessionOf id secret) width (history (freshWith id secret width) es []) (after (freshWith id secret width) es)

@@ -16,6 +16,7 @@ use Rattle.connection.specs.Reply.{replyTo}
 use Rattle.connection.specs.declared.answer.Answer.{Answer}
 use Rattle.connection.specs.declared.answer.Answer.the-variants.{Nothing, Reply, Resent, Spec, Open, Again, Data, Warning, Critical, Fatal, Barred, Refused}
 use Rattle.connection.specs.declared.handshake.Session.{Session}
+use Rattle.record.specs.Window.{Held}
 use Rattle.demands.specs.Runs.{receive, stepOf, freshWith}
 use Rattle.demands.specs.Events.{Event, Happened, connectionOf, after, history}
 use Rattle.demands.specs.Past.{keptGreeting, replyFor}
@@ -43,11 +44,11 @@ Sends session past random m bytes (Refused refusal) = bytes ≡ []
 -- in any run from fresh, what a receive writes
 unfoldable pub RepliesRight : Type 0
 RepliesRight =
-    (id secret : List ℕ) (es : List Event) (d random out : List ℕ) (r : Record) (rs : List Record)
+    (id secret : List ℕ) (width : ℕ) → Held width → (es : List Event) (d random out : List ℕ) (r : Record) (rs : List Record)
     → length random ≡ 16 → 128 ≤ length out
     → framingOf d ≡ framed (r ∷ rs)
-    → let past = history (freshWith id secret) es [] in
-    let h = after (freshWith id secret) es in
+    → let past = history (freshWith id secret width) es [] in
+    let h = after (freshWith id secret width) es in
     let answer = judgedRecord h random d r .answer in
     (bytes : List ℕ) × Sends (sessionOf id secret) past random (fragmentOf d r) bytes answer
     × (stepOf (connectionOf h) (receive d random out) .output ≡ laidOver out 0 bytes)

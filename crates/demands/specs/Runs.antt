@@ -72,6 +72,6 @@ unfoldable pub finalOf : Gateway → Connection → List Call → Connection
 finalOf g c [] = c
 finalOf g c (call ∷ calls) = finalOf g (g c call .connection) calls
 
--- a connection fresh from a planted session
-abbrev pub freshWith : List ℕ → List ℕ → Handshake
-freshWith id secret = newHandshake (sessionOf id secret) Idle
+-- a connection fresh from a planted session, with a window of this width
+abbrev pub freshWith : List ℕ → List ℕ → ℕ → Handshake
+freshWith id secret width = newHandshake (sessionOf id secret) width Idle

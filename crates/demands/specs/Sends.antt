@@ -26,6 +26,7 @@ use Rattle.connection.specs.declared.calls.Outcome.the-variants as O
 use Rattle.record.specs.declared.keys.Keys.{Keys}
 use Rattle.demands.specs.Events.{Event, AllSound, Happened, connectionOf, after, history}
 use Rattle.demands.specs.Past.{keysIn, nextSealed, nextClearNumber}
+use Rattle.record.specs.Window.{Held}
 use Rattle.demands.specs.Runs.{freshWith}
 
 -- our MAC secret for number s
@@ -59,9 +60,9 @@ pub record ClearRecord (s : ℕ) (body bytes : List ℕ) : Type 0 where
 -- in any run from fresh, what a send writes at the front of the output
 unfoldable pub DataSentRight : Type 0
 DataSentRight =
-    (id secret : List ℕ) (es : List Event) → AllSound es → (bytes out : List ℕ)
-    → let c = connectionOf (after (freshWith id secret) es) in
-    let past = history (freshWith id secret) es [] in
+    (id secret : List ℕ) (width : ℕ) → Held width → (es : List Event) → AllSound es → (bytes out : List ℕ)
+    → let c = connectionOf (after (freshWith id secret width) es) in
+    let past = history (freshWith id secret width) es [] in
     dataSent c bytes (length out) .outcome ≡ O.Done
     → SealedRecord (keysIn (sessionOf id secret) past) C.Data (nextSealed past) bytes
     (take (dataSent c bytes (length out) .written) (dataOutput c bytes out))
@@ -73,11 +74,11 @@ AlertRecord false k past body bytes = ClearRecord (nextClearNumber past) body by
 
 unfoldable pub AlertSentRight : Type 0
 AlertSentRight =
-    (id secret : List ℕ) (es : List Event) → AllSound es
+    (id secret : List ℕ) (width : ℕ) → Held width → (es : List Event) → AllSound es
     → (sealed : Bool) (level description : ℕ) (l : Level) (k : Description) (answered out : List ℕ)
     → levelOf level ≡ G.Is l → sortedOf description ≡ D.Assigned k
-    → let c = connectionOf (after (freshWith id secret) es) in
-    let past = history (freshWith id secret) es [] in
+    → let c = connectionOf (after (freshWith id secret width) es) in
+    let past = history (freshWith id secret width) es [] in
     alertSent c sealed level description answered (length out) .outcome ≡ O.Done
     → AlertRecord sealed (keysIn (sessionOf id secret) past) past (alertBody l k answered)
     (take (alertSent c sealed level description answered (length out) .written)

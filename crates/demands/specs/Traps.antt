@@ -28,7 +28,8 @@ use Rattle.demands.specs.Runs.{receive, Result, received, Gateway}
 use Rattle.record.specs.declared.keys.Keys.{Keys}
 use Rattle.demands.specs.Genuine.{unitKey, keysOf}
 use Rattle.record.specs.declared.window.Window.{Window}
-use Rattle.record.specs.Window.{windowWidth}
+use Rattle.record.specs.Window.{Held}
+use Rattle.record.specs.History.{windowOf}
 
 -- a protected record of the unit with a length, so that another may stand behind it; and one without
 abbrev pub longSealed : Keys → Content → ℕ → List ℕ → List ℕ
@@ -37,10 +38,12 @@ longSealed k content s body = protectedBy (hmac (unitKey k s)) (sizeOf (k .mac))
 abbrev pub lastSealed : Keys → Content → ℕ → List ℕ → List ℕ
 lastSealed k content s body = protectedBy (hmac (unitKey k s)) (sizeOf (k .mac)) false content s body
 
--- an Open connection behind the unit's Finished, whose number was 0
+-- an Open connection of any width behind the unit's Finished, whose number was 0
 pub record JustOpen (c : Connection) : Type 0 where
   pub is-open : c .handshake .state ≡ Open
-  pub window-is : c .handshake .protection .window ≡ record { width = windowWidth; highest = 0; marks = 1 }
+  pub width : ℕ
+  pub held : Held width
+  pub window-is : c .handshake .protection .window ≡ windowOf width (0 ∷ [])
 
 -- empty data 7, then data 7: 12, 11
 unfoldable pub EmptyThenData : Gateway → Type 0

@@ -1,4 +1,4 @@
--- It works: for every session, acceptable hello and random there is the reply; then change cipher spec, the Finished
+-- It works: for every session, width, acceptable hello and random there is the reply; then change cipher spec, the Finished
 -- that the definitions give, and data of at least one byte are answered spec, open, data. So that no premise of the
 -- other statements is empty.
 use mathlib.Core.Path.{_≡_}
@@ -31,6 +31,7 @@ use Rattle.record.specs.declared.keys.Keys.{Keys}
 use Rattle.demands.specs.Genuine.{unitKey}
 use Rattle.demands.specs.Events.{connectionOf}
 use Rattle.demands.specs.Runs.{freshWith}
+use Rattle.record.specs.Window.{Held}
 
 -- what the unit sends: each a datagram of one record without a length
 abbrev pub clearDatagram : Content → ℕ → List ℕ → List ℕ
@@ -47,12 +48,12 @@ keysAfter secret random m plan =
 abbrev pub oneAnswer : Answer → ℕ → Result
 oneAnswer a written = received (T.Records 1) (slotsOf (a ∷ [])) written
 
-pub record Worked (g : Gateway) (id secret m random out bytes : List ℕ) (plan : Plan) : Type 0 where
+pub record Worked (g : Gateway) (id secret : List ℕ) (width : ℕ) (m random out bytes : List ℕ) (plan : Plan) : Type 0 where
   pub c₁ : Connection
   pub c₂ : Connection
   pub c₃ : Connection
   pub c₄ : Connection
-  pub replied : g (connectionOf (freshWith id secret)) (receive (clearDatagram C.Handshake 0 m) random out)
+  pub replied : g (connectionOf (freshWith id secret width)) (receive (clearDatagram C.Handshake 0 m) random out)
       ≡ record {
         result = oneAnswer (W.Reply (length (replyTo (sessionOf id secret) random m plan)))
             (length (replyTo (sessionOf id secret) random m plan));
@@ -72,5 +73,6 @@ pub record Worked (g : Gateway) (id secret m random out bytes : List ℕ) (plan 
 
 unfoldable pub Works : Gateway → Type 0
 Works g =
-    (id secret m random out bytes : List ℕ) (plan : Plan) → length random ≡ 16 → 128 ≤ length out
-    → heardOf m id ≡ Accepted plan → 1 ≤ length bytes → length bytes ≤ 1300 → Worked g id secret m random out bytes plan
+    (id secret : List ℕ) (width : ℕ) → Held width → (m random out bytes : List ℕ) (plan : Plan) → length random ≡ 16 → 128 ≤ length out
+    → heardOf m id ≡ Accepted plan → 1 ≤ length bytes → length bytes ≤ 1300
+    → Worked g id secret width m random out bytes plan

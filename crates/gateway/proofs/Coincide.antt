@@ -1,7 +1,7 @@
 -- Two outcomes that meet the contract of one exported call are the same. Each contract is that of the call of its name in `lent`, so
 -- each theorem is, too.
 use Rattle.digest.specs.Determined.{OneOutcome}
-use Rattle.lent.proofs.Coincide.{fresh-one, receive-one, send-data-one, send-alert-one, close-one, start-one, state-one}
+use Rattle.lent.proofs.Coincide.{fresh-one, receive-one, send-data-one, send-alert-one, close-one, start-one, state-one, arrived-one, width-one}
 use Rattle.gateway.proofs.gateway_fresh as gateway-fresh
 use Rattle.gateway.proofs.gateway_receive as gateway-receive
 use Rattle.gateway.proofs.gateway_send_data as gateway-send-data
@@ -9,6 +9,8 @@ use Rattle.gateway.proofs.gateway_send_alert as gateway-send-alert
 use Rattle.gateway.proofs.gateway_close as gateway-close
 use Rattle.gateway.proofs.gateway_start as gateway-start
 use Rattle.gateway.proofs.gateway_state as gateway-state
+use Rattle.gateway.proofs.gateway_arrived as gateway-arrived
+use Rattle.gateway.proofs.gateway_width as gateway-width
 
 pub gateway-fresh-one : OneOutcome gateway-fresh.ended gateway-fresh.Reads.Learnt
 gateway-fresh-one = fresh-one
@@ -30,3 +32,9 @@ gateway-start-one = start-one
 
 pub gateway-state-one : OneOutcome gateway-state.ended gateway-state.Reads.Learnt
 gateway-state-one = state-one
+
+pub gateway-arrived-one : OneOutcome gateway-arrived.ended gateway-arrived.Reads.Learnt
+gateway-arrived-one = arrived-one
+
+pub gateway-width-one : OneOutcome gateway-width.ended gateway-width.Reads.Learnt
+gateway-width-one = width-one

@@ -3,21 +3,22 @@
 ghost use mathlib.Core.Path.{_≡_};
 ghost use lib.ListN.{length};
 ghost use Rattle.lent.specs.Calls.{freshResult, freshState, closeResult, closeState, startResult, startState};
-ghost use Rattle.lent.specs.Calls.{stateResult, freshLoads, closeLoads, startLoads, dataLoads, alertLoads, receiveLoads};
+ghost use Rattle.lent.specs.Calls.{stateResult, arrivedResult, widthResult};
+ghost use Rattle.lent.specs.Calls.{freshLoads, closeLoads, startLoads, dataLoads, alertLoads, receiveLoads};
 ghost use Rattle.lent.specs.Saved.{loaded};
 ghost use Rattle.lent.specs.Calls.{dataResult, dataState, dataOut, alertResult, alertState, alertOut};
 ghost use Rattle.lent.specs.Calls.{receiveResult, receiveState, receiveTally, receiveAnswers, receiveOut};
 
-// A fresh connection of a planted session, in 490 bytes. Refusal: 16.
+// A fresh connection of a planted session, with a window of this width, 32 to 64, in 490 bytes. Refusal: 16.
 #[no_mangle]
-pub extern "C" fn gateway_fresh(id: &[u8], secret: &[u8], state: &mut [u8]) -> u64
-    ensures exact { λ r. ⌜ r ≡ freshResult (now (id .entry)) (now (secret .entry)) (length (now (state .entry))) ⌝ }
-    ensures bytes { λ _. ⌜ now (state .exit) ≡ freshState (now (id .entry)) (now (secret .entry))
+pub extern "C" fn gateway_fresh(id: &[u8], secret: &[u8], width: u32, state: &mut [u8]) -> u64
+    ensures exact { λ r. ⌜ r ≡ freshResult (now (id .entry)) (now (secret .entry)) width (length (now (state .entry))) ⌝ }
+    ensures bytes { λ _. ⌜ now (state .exit) ≡ freshState (now (id .entry)) (now (secret .entry)) width
         (now (state .entry)) ⌝ }
-    ensures loads { λ _. ⌜ loaded (now (state .exit)) ≡ freshLoads (now (id .entry)) (now (secret .entry))
+    ensures loads { λ _. ⌜ loaded (now (state .exit)) ≡ freshLoads (now (id .entry)) (now (secret .entry)) width
         (now (state .entry)) ⌝ }
 {
-    lent::fresh(id, secret, state)
+    lent::fresh(id, secret, width, state)
 }
 
 // Takes a datagram, our random for a new reply, and room of at least 128 bytes for it. Afterwards the first bytes of
@@ -110,4 +111,21 @@ pub extern "C" fn gateway_state(state: &[u8]) -> u64
     ensures exact { λ r. ⌜ r ≡ stateResult (now (state .entry)) ⌝ }
 {
     lent::state(state)
+}
+
+// The arrival report: how many of the newest numbers have arrived, as many as the width says. Refusal: 16, where the
+// bytes are no saved connection.
+#[no_mangle]
+pub extern "C" fn gateway_arrived(state: &[u8]) -> u64
+    ensures exact { λ r. ⌜ r ≡ arrivedResult (now (state .entry)) ⌝ }
+{
+    lent::arrived(state)
+}
+
+// The width of the connection's window. Refusal: 16, where the bytes are no saved connection.
+#[no_mangle]
+pub extern "C" fn gateway_width(state: &[u8]) -> u64
+    ensures exact { λ r. ⌜ r ≡ widthResult (now (state .entry)) ⌝ }
+{
+    lent::width(state)
 }

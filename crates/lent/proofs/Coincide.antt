@@ -10,11 +10,13 @@ use Rattle.lent.proofs.send_alert as send-alert
 use Rattle.lent.proofs.close as close
 use Rattle.lent.proofs.start as start
 use Rattle.lent.proofs.state as state
+use Rattle.lent.proofs.arrived as arrived
+use Rattle.lent.proofs.width as width
 
 pub fresh-one : OneOutcome fresh.ended fresh.Reads.Learnt
 fresh-one κs a x y s u e f = (
   e .0 ∙ sym (f .0),
-  λ i. (tt, (tt, ((e .1 .0 ∙ sym (f .1 .0)) i, tt))),
+  λ i. (tt, (tt, (tt, ((e .1 .0 ∙ sym (f .1 .0)) i, tt)))),
 )
 
 pub receive-one : OneOutcome receive.ended receive.Reads.Learnt
@@ -49,3 +51,9 @@ start-one κs a x y s u e f = (
 
 pub state-one : OneOutcome state.ended state.Reads.Learnt
 state-one κs a x y s u e f = (e ∙ sym f, refl)
+
+pub arrived-one : OneOutcome arrived.ended arrived.Reads.Learnt
+arrived-one κs a x y s u e f = (e ∙ sym f, refl)
+
+pub width-one : OneOutcome width.ended width.Reads.Learnt
+width-one κs a x y s u e f = (e ∙ sym f, refl)

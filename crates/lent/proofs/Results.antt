@@ -73,10 +73,11 @@ left-alone false o c b w h = refl
 
 -- ---- a refused call touches nothing
 
-pub fresh-refused : (id secret state : List ℕ) → IsRefused (freshResult id secret (length state)) → freshState id secret state ≡ state
+pub fresh-refused : (id secret : List ℕ) (width : ℕ) (state : List ℕ) → IsRefused (freshResult id secret width (length state))
+    → freshState id secret width state ≡ state
 unfolding freshResult freshState
-fresh-refused id secret state h =
-    left-alone (eqb (length state) stateSize) (freshOf id secret .outcome) (freshOf id secret .connection) state 0 h
+fresh-refused id secret width state h =
+    left-alone (eqb (length state) stateSize) (freshOf id secret width .outcome) (freshOf id secret width .connection) state 0 h
 
 called-refused : (call : Connection → Called) (state : List ℕ) → IsRefused (calledResult call state) → calledState call state ≡ state
 called-refused call state h =

@@ -7,6 +7,7 @@ use Prim.Native.Nat.{ℕ, _+_, _*_, _/_, _%_}
 use lib.ListN.{length, getD}
 use lib.Dec.{eqb}
 use Rattle.digest.specs.Pick.{pick}
+use Rattle.record.specs.Window.{arrivalOf}
 use Rattle.connection.specs.Refusal.{refusalNumber}
 use Rattle.connection.specs.Calls.{freshOf, closedOf, startedOf}
 use Rattle.connection.specs.Receive.{receivedOf, outputOf}
@@ -59,17 +60,20 @@ leftLoaded state c Done = Is c
 leftLoaded state c (Refused refusal) = loaded state
 
 -- fresh: in 490 bytes, whatever they hold
-unfoldable pub freshResult : List ℕ → List ℕ → ℕ → ℕ
-freshResult id secret room = pick (eqb room stateSize) (resultOf (refusalIn (freshOf id secret .outcome)) 0 0) notTaken
+unfoldable pub freshResult : List ℕ → List ℕ → ℕ → ℕ → ℕ
+freshResult id secret width room =
+    pick (eqb room stateSize) (resultOf (refusalIn (freshOf id secret width .outcome)) 0 0) notTaken
 
-unfoldable pub freshState : List ℕ → List ℕ → List ℕ → List ℕ
-freshState id secret state =
-    pick (eqb (length state) stateSize) (leftIn state (freshOf id secret .connection) (freshOf id secret .outcome)) state
-
-unfoldable pub freshLoads : List ℕ → List ℕ → List ℕ → Loaded
-freshLoads id secret state =
+unfoldable pub freshState : List ℕ → List ℕ → ℕ → List ℕ → List ℕ
+freshState id secret width state =
     pick (eqb (length state) stateSize)
-    (leftLoaded state (freshOf id secret .connection) (freshOf id secret .outcome))
+    (leftIn state (freshOf id secret width .connection) (freshOf id secret width .outcome))
+    state
+
+unfoldable pub freshLoads : List ℕ → List ℕ → ℕ → List ℕ → Loaded
+freshLoads id secret width state =
+    pick (eqb (length state) stateSize)
+    (leftLoaded state (freshOf id secret width .connection) (freshOf id secret width .outcome))
     (loaded state)
 
 -- close and start again, each as what it does with a connection
@@ -109,6 +113,16 @@ startLoads state = calledLoads startedOf state
 -- the state's number, as the count
 unfoldable pub stateResult : List ℕ → ℕ
 stateResult state = pick (isSaved state) (resultOf 0 0 (getD state 4 0)) notTaken
+
+-- the arrival report (02, P1: "the arrival report counts over the width"), and the width that it counts over, each as
+-- the count
+unfoldable pub arrivedResult : List ℕ → ℕ
+arrivedResult state =
+    pick (isSaved state) (resultOf 0 0 (arrivalOf (connectionIn state .handshake .protection .window))) notTaken
+
+unfoldable pub widthResult : List ℕ → ℕ
+widthResult state =
+    pick (isSaved state) (resultOf 0 0 (connectionIn state .handshake .protection .window .width)) notTaken
 
 -- a send, as what it does with a connection: its answer, the connection that it leaves, and the output
 abbrev pub sentResult : Sent → ℕ

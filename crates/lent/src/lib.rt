@@ -4,7 +4,8 @@
 ghost use mathlib.Core.Path.{_≡_};
 ghost use lib.ListN.{length};
 ghost use Rattle.lent.specs.Calls.{freshResult, freshState, closeResult, closeState, startResult, startState};
-ghost use Rattle.lent.specs.Calls.{stateResult, freshLoads, closeLoads, startLoads, dataLoads, alertLoads, receiveLoads};
+ghost use Rattle.lent.specs.Calls.{stateResult, arrivedResult, widthResult};
+ghost use Rattle.lent.specs.Calls.{freshLoads, closeLoads, startLoads, dataLoads, alertLoads, receiveLoads};
 ghost use Rattle.lent.specs.Saved.{loaded};
 ghost use Rattle.lent.specs.Calls.{dataResult, dataState, dataOut, alertResult, alertState, alertOut};
 ghost use Rattle.lent.specs.Calls.{receiveResult, receiveState, receiveTally, receiveAnswers, receiveOut};
@@ -26,22 +27,23 @@ use leave::leave_sent;
 use load::connection_in;
 use load::is_saved;
 use load::lent_for;
+use load::window_in;
 use result::not_taken;
 use result::result_of;
 use save::SIZE;
 
-// A fresh connection of a planted session, in 490 bytes. Refusal: 16.
-pub fn fresh(id: &[u8], secret: &[u8], state: &mut [u8]) -> u64
-    ensures exact { λ r. ⌜ r ≡ freshResult (now (id .entry)) (now (secret .entry)) (length (now (state .entry))) ⌝ }
-    ensures bytes { λ _. ⌜ now (state .exit) ≡ freshState (now (id .entry)) (now (secret .entry))
+// A fresh connection of a planted session, with a window of this width, 32 to 64, in 490 bytes. Refusal: 16.
+pub fn fresh(id: &[u8], secret: &[u8], width: u32, state: &mut [u8]) -> u64
+    ensures exact { λ r. ⌜ r ≡ freshResult (now (id .entry)) (now (secret .entry)) width (length (now (state .entry))) ⌝ }
+    ensures bytes { λ _. ⌜ now (state .exit) ≡ freshState (now (id .entry)) (now (secret .entry)) width
         (now (state .entry)) ⌝ }
-    ensures loads { λ _. ⌜ loaded (now (state .exit)) ≡ freshLoads (now (id .entry)) (now (secret .entry))
+    ensures loads { λ _. ⌜ loaded (now (state .exit)) ≡ freshLoads (now (id .entry)) (now (secret .entry)) width
         (now (state .entry)) ⌝ }
 {
     if state.len() != SIZE {
         return not_taken();
     }
-    leave_called(calls::fresh(id, secret), state)
+    leave_called(calls::fresh(id, secret, width), state)
 }
 
 // Takes a datagram, our random for a new reply, and room of at least 128 bytes for it. Afterwards the first bytes of
@@ -164,6 +166,29 @@ pub fn state(state: &[u8]) -> u64
     if is_saved(state) {
         let number = state[4];
         return result_of(0, 0, number as usize);
+    }
+    not_taken()
+}
+
+// The arrival report: how many of the newest numbers have arrived, as many as the width says. Refusal: 16, where the
+// bytes are no saved connection.
+pub fn arrived(state: &[u8]) -> u64
+    ensures exact { λ r. ⌜ r ≡ arrivedResult (now (state .entry)) ⌝ }
+{
+    if is_saved(state) {
+        let window = window_in(state);
+        return result_of(0, 0, window.arrival() as usize);
+    }
+    not_taken()
+}
+
+// The width of the connection's window. Refusal: 16, where the bytes are no saved connection.
+pub fn width(state: &[u8]) -> u64
+    ensures exact { λ r. ⌜ r ≡ widthResult (now (state .entry)) ⌝ }
+{
+    if is_saved(state) {
+        let window = window_in(state);
+        return result_of(0, 0, window.width as usize);
     }
     not_taken()
 }

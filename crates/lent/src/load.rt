@@ -156,7 +156,7 @@ fn kept_in(b: &[u8]) -> Kept
     }
 }
 
-fn window_in(b: &[u8]) -> Window
+pub(crate) fn window_in(b: &[u8]) -> Window
     requires { ⌜ length (now b) ≡ stateSize ⌝ }
     ensures { λ r. ⌜ r ≡ windowIn (now (b .entry)) ⌝ }
 {

@@ -13,6 +13,7 @@ use Rattle.record.proofs.reader.fault_number as reader-fault-number
 use Rattle.record.proofs.reader.read as reader-read
 use Rattle.record.proofs.datagram.walked as datagram-walked
 use Rattle.record.proofs.window.Window.fresh as window-window-fresh
+use Rattle.record.proofs.window.Window.arrival as window-window-arrival
 use Rattle.record.proofs.window.Window.emptied as window-window-emptied
 use Rattle.record.proofs.window.Window.accept as window-window-accept
 use Rattle.record.proofs.keys.Keys.key as keys-keys-key
@@ -60,6 +61,9 @@ window-window-fresh-one κs a x y s u e f = (e .0 ∙ sym (f .0), refl)
 
 pub window-window-emptied-one : OneOutcome window-window-emptied.ended window-window-emptied.Reads.Learnt
 window-window-emptied-one κs a x y s u e f = (e ∙ sym f, refl)
+
+pub window-window-arrival-one : OneOutcome window-window-arrival.ended window-window-arrival.Reads.Learnt
+window-window-arrival-one κs a x y s u e f = (e .0 ∙ sym (f .0), refl)
 
 pub window-window-accept-one : OneOutcome window-window-accept.ended window-window-accept.Reads.Learnt
 window-window-accept-one κs a x y s u e f = (e .0 ∙ sym (f .0), refl)

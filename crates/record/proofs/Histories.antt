@@ -13,7 +13,7 @@ use lib.Dec.{lit<, lit≤, eqb, leb, ltb}
 use lib.Pow.{shr-shr, shl-shr, mod-pow-add}
 use borrow.Author.Tests.{eq-eqb, ne-eqb, le-leb, lt-leb, le-ltb, eqb-true, leb-true, leb-false, ltb-true, ltb-false}
 use Rattle.digest.specs.Pick.{pick}
-use Rattle.record.specs.Window.{windowWidth, Held, heldWidth, freshWindow, acceptBy, acceptWithin, acceptOf, arrivedAt}
+use Rattle.record.specs.Window.{windowWidth, Held, heldWidth, freshWindow, acceptBy, acceptWithin, acceptOf, arrivedAt, arrivalOf}
 use Rattle.record.specs.History.{accepted, highestOf, markOf, marksFrom, countFrom, windowOf, arrivedOf, judgedOf}
 use Rattle.record.specs.declared.window.Window.{Window}
 use Rattle.record.specs.declared.window.Acceptance.the-variants.{New, TooOld, Repeated}
@@ -322,6 +322,15 @@ held-some w k = omega (arith, k .0)
 pub meaning : (w : ℕ) → Held w → (h : List ℕ) (s : ℕ) → acceptOf (windowOf w h) s ≡ judgedOf w h s
 meaning w k h s = ap (λ (v : ℕ). acceptWithin v (windowOf w h) s) (held-is w k) ∙ within-means w (held-some w k) h s
 
+-- the arrival report of the window of a history: how many of its newest numbers have arrived
+pub arrival-means : (w : ℕ) → Held w → (h : List ℕ) → arrivalOf (windowOf w h) ≡ arrivedOf w h
+unfolding arrivalOf
+arrival-means w k h =
+    let m : ℕ = marksFrom h (highestOf h) w 0 in
+    ap (λ (v : ℕ). ones (m % 2 ^ v)) (held-is w k)
+    ∙ ap (λ (x : ℕ). ones x) (mod-eq-of-lt (marks-lt h (highestOf h) w 0))
+    ∙ marks-ones h (highestOf h) w 0
+
 -- a fresh window is that of no number
 pub fresh-means : (w : ℕ) → freshWindow w ≡ windowOf w []
 fresh-means w =
@@ -330,7 +339,7 @@ fresh-means w =
     (λ i l. decide (leb i 0) (λ e. mark-in [] 0 i false (leb-true i 0 e) (none (0 - i))) (λ e. mark-out [] 0 i (leb-false i 0 e))) in
     rw (lowest, m)
 
--- our width is one that a window may have
+-- the narrowest width is one that a window may have
 pub held-ours : Held windowWidth
 held-ours = (lit≤ tt, lit≤ tt)
 

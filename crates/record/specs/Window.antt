@@ -14,7 +14,7 @@ acceptanceNumber (New window arrived) = 0
 acceptanceNumber TooOld = 10
 acceptanceNumber Repeated = 11
 
--- how many of the newest numbers have a mark: "at most n - 32 is too old"
+-- the width where no caller gives one: "at most n - 32 is too old"
 abbrev pub windowWidth : ℕ
 windowWidth = 32
 
@@ -37,6 +37,10 @@ emptied w = freshWindow (w .width)
 -- the window with these marks, and "how many of those have arrived"
 abbrev pub arrivedAt : ℕ → ℕ → ℕ → Acceptance
 arrivedAt width highest marks = New (record { width = width; highest = highest; marks = marks }) (ones marks)
+
+-- the arrival report of a window: "how many of those have arrived", over its width
+unfoldable pub arrivalOf : Window → ℕ
+arrivalOf w = ones (w .marks % 2 ^ heldWidth (w .width))
 
 -- "a number at most n - W is too old", said without a difference
 abbrev pub tooOld : ℕ → ℕ → ℕ → Bool

@@ -3,10 +3,10 @@
 ghost use mathlib.Core.Path.{_≡_};
 ghost use mathlib.Core.List.{List, []};
 ghost use Prim.Native.Nat.{ℕ, _+_, _*_, _/_, _%_, _^_, _≤_, _<_};
-ghost use Rattle.record.specs.Window.{windowWidth, heldWidth, Held, freshWindow, emptied, acceptWithin, acceptOf, arrivedAt};
-ghost use Rattle.record.specs.History.{windowOf, judgedOf};
+ghost use Rattle.record.specs.Window.{heldWidth, Held, freshWindow, emptied, acceptWithin, acceptOf, arrivedAt, arrivalOf};
+ghost use Rattle.record.specs.History.{windowOf, judgedOf, arrivedOf};
 
-// How many of the newest numbers have a mark.
+// The width where no caller gives one, which is the narrowest.
 pub const WIDTH: u8 = 32;
 
 // The mark of the highest number is the lowest bit, and the mark of the number j below it is bit j.
@@ -27,13 +27,13 @@ pub enum Acceptance {
 }
 
 impl Window {
-    // A window in which any number is new.
-    pub fn fresh() -> Window
-        ensures exact { λ r. ⌜ r ≡ freshWindow windowWidth ⌝ }
-        ensures meaning { λ r. ⌜ r ≡ windowOf windowWidth [] ⌝ }
+    // A window of this width in which any number is new.
+    pub fn fresh(width: u8) -> Window
+        ensures exact { λ r. ⌜ r ≡ freshWindow width ⌝ }
+        ensures meaning { λ r. ⌜ r ≡ windowOf width [] ⌝ }
     {
         Window {
-            width: WIDTH,
+            width,
             highest: 0,
             marks: 0,
         }
@@ -57,6 +57,15 @@ impl Window {
         ensures meaning { λ r. ⌜ ((width : ℕ) (h : List ℕ) → Held width → self ≡ windowOf width h → r ≡ judgedOf width h number) ⌝ }
     {
         self.accept_within(held(self.width), number)
+    }
+
+    // The arrival report: how many of the newest numbers have arrived, as many as the width says. `meaning` for the
+    // window of the numbers h that were accepted since it was fresh, at any width from 32 to 64.
+    pub fn arrival(self) -> u32
+        ensures exact { λ r. ⌜ r ≡ arrivalOf self ⌝ }
+        ensures meaning { λ r. ⌜ ((width : ℕ) (h : List ℕ) → Held width → self ≡ windowOf width h → r ≡ arrivedOf width h) ⌝ }
+    {
+        u64::count_ones(cut(self.marks, held(self.width)))
     }
 
     // The number in a window of this width.

@@ -37,10 +37,11 @@ pub struct Refused {
 }
 
 impl Connection {
-    /// A fresh connection of a planted session: an identifier of 8 bytes and a master secret of 20.
-    pub fn fresh(id: &[u8], secret: &[u8]) -> Result<Connection, Refusal> {
+    /// A fresh connection of a planted session: an identifier of 8 bytes, a master secret of 20, and the width of its window,
+    /// 32 to 64, which stays.
+    pub fn fresh(id: &[u8], secret: &[u8], width: u32) -> Result<Connection, Refusal> {
         let mut state = [0; STATE_SIZE];
-        done(raw::fresh(id, secret, &mut state))?;
+        done(raw::fresh(id, secret, width, &mut state))?;
         Ok(Connection { state })
     }
 
@@ -66,6 +67,16 @@ impl Connection {
             4 => State::Closed,
             _ => State::Barred,
         }
+    }
+
+    /// How many of the newest numbers have arrived, as many of them as the width says.
+    pub fn arrived(&self) -> usize {
+        raw::arrived(&self.state).count
+    }
+
+    /// The width of the window.
+    pub fn width(&self) -> usize {
+        raw::width(&self.state).count
     }
 
     /// Takes a datagram. `random` is 16 fresh bytes for a new reply, `out` has room of at least 128 bytes for one.

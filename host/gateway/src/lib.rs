@@ -6,7 +6,7 @@
 //! ```
 //! use gateway::{Answer, Connection, Tally};
 //!
-//! let mut connection = Connection::fresh(&[7; 8], &[9; 20])?;
+//! let mut connection = Connection::fresh(&[7; 8], &[9; 20], gateway::WIDTH_LEAST)?;
 //! let mut tally = Tally::default();
 //! let mut out = [0; gateway::SEND_ROOM];
 //! let datagram = [0x64, 0x00, 0x01, 0x11]; // protected data, before any handshake
@@ -44,6 +44,9 @@ pub const ANSWERS_SIZE: usize = 192;
 pub const ID_SIZE: usize = 8;
 pub const SECRET_SIZE: usize = 20;
 pub const RANDOM_SIZE: usize = 16;
+/// The widths that a window may have.
+pub const WIDTH_LEAST: u32 = 32;
+pub const WIDTH_MOST: u32 = 64;
 /// The least room that a receive needs for a reply.
 pub const REPLY_ROOM: usize = 128;
 pub const DATAGRAM_MOST: usize = 1400;

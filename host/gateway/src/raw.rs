@@ -11,6 +11,7 @@ mod exported {
             id_size: usize,
             secret: *const u8,
             secret_size: usize,
+            width: u32,
             state: *mut u8,
             state_size: usize,
         ) -> u64;
@@ -50,6 +51,8 @@ mod exported {
         pub fn gateway_close(state: *mut u8, state_size: usize) -> u64;
         pub fn gateway_start(state: *mut u8, state_size: usize) -> u64;
         pub fn gateway_state(state: *const u8, state_size: usize) -> u64;
+        pub fn gateway_arrived(state: *const u8, state_size: usize) -> u64;
+        pub fn gateway_width(state: *const u8, state_size: usize) -> u64;
     }
 }
 
@@ -74,7 +77,7 @@ impl Result {
     }
 }
 
-pub fn fresh(id: &[u8], secret: &[u8], state: &mut [u8]) -> Result {
+pub fn fresh(id: &[u8], secret: &[u8], width: u32, state: &mut [u8]) -> Result {
     // Safety: each pointer is that of a slice, beside its length.
     Result::of(unsafe {
         exported::gateway_fresh(
@@ -82,6 +85,7 @@ pub fn fresh(id: &[u8], secret: &[u8], state: &mut [u8]) -> Result {
             id.len(),
             secret.as_ptr(),
             secret.len(),
+            width,
             state.as_mut_ptr(),
             state.len(),
         )
@@ -166,4 +170,14 @@ pub fn start(state: &mut [u8]) -> Result {
 pub fn state(state: &[u8]) -> Result {
     // Safety: the pointer is that of a slice, beside its length.
     Result::of(unsafe { exported::gateway_state(state.as_ptr(), state.len()) })
+}
+
+pub fn arrived(state: &[u8]) -> Result {
+    // Safety: the pointer is that of a slice, beside its length.
+    Result::of(unsafe { exported::gateway_arrived(state.as_ptr(), state.len()) })
+}
+
+pub fn width(state: &[u8]) -> Result {
+    // Safety: the pointer is that of a slice, beside its length.
+    Result::of(unsafe { exported::gateway_width(state.as_ptr(), state.len()) })
 }

@@ -3,7 +3,7 @@
 use gateway::{Connection, Refusal, Tally};
 
 fn fresh() -> Connection {
-    Connection::fresh(&[7; 8], &[9; 20]).expect("the sizes are right")
+    Connection::fresh(&[7; 8], &[9; 20], 32).expect("the sizes are right")
 }
 
 #[test]
@@ -26,7 +26,10 @@ fn refused_datagrams() {
 
 #[test]
 fn stored_bytes() {
-    assert_eq!(Connection::fresh(&[7; 9], &[9; 20]), Err(Refusal::Argument));
+    assert_eq!(Connection::fresh(&[7; 9], &[9; 20], 32), Err(Refusal::Argument));
+    for width in [0, 31, 65, 288, u32::MAX] {
+        assert_eq!(Connection::fresh(&[7; 8], &[9; 20], width), Err(Refusal::Argument));
+    }
     assert_eq!(Connection::load(&[]), Err(Refusal::Argument));
     let mut saved = *fresh().save();
     assert_eq!(Connection::load(&saved), Ok(fresh()));

@@ -16,7 +16,7 @@ fn refusals_print_their_number_and_meaning() {
 
 #[test]
 fn a_framing_fault_prints_its_offset() {
-    let mut connection = Connection::fresh(&[1; 8], &[2; 20]).unwrap();
+    let mut connection = Connection::fresh(&[1; 8], &[2; 20], 32).unwrap();
     let (mut tally, mut out) = (Tally::default(), [0; 128]);
     let datagram = [0xc4, 0, 0, 0, 1, 7, 0x64, 0, 1];
     let refused = connection.receive(&mut tally, &datagram, &[3; 16], &mut out).unwrap_err();
@@ -32,7 +32,7 @@ fn a_framing_fault_prints_its_offset() {
 fn what_is_no_saved_connection_does_not_load() {
     assert_eq!(Connection::load(&[0; 490]), Err(Refusal::Argument));
     assert_eq!(Connection::load(&[]), Err(Refusal::Argument));
-    let mut connection = Connection::fresh(&[1; 8], &[2; 20]).unwrap();
+    let mut connection = Connection::fresh(&[1; 8], &[2; 20], 32).unwrap();
     connection.close().unwrap();
     let loaded = Connection::load(connection.save()).unwrap();
     assert_eq!((loaded.state(), &loaded), (State::Closed, &connection));
@@ -42,7 +42,7 @@ fn what_is_no_saved_connection_does_not_load() {
 
 #[test]
 fn answers_come_in_order() {
-    let mut connection = Connection::fresh(&[1; 8], &[2; 20]).unwrap();
+    let mut connection = Connection::fresh(&[1; 8], &[2; 20], 32).unwrap();
     let (mut tally, mut out) = (Tally::default(), [0; 128]);
     let datagram = [0xc1, 0, 0, 0, 1, 1].repeat(3);
     let received = connection.receive(&mut tally, &datagram, &[3; 16], &mut out).unwrap();

@@ -215,12 +215,12 @@ fn states(fleet: &Fleet) -> String {
     format!("{} ships, {open} open, {barred} barred", fleet.ships.len())
 }
 
-/// The tally of each ship, one to a line.
+/// The tally of each ship, one to a line, and how many of the newest numbers had arrived.
 struct Tallies<'a>(&'a Fleet);
 
 impl fmt::Display for Tallies<'_> {
     fn fmt(&self, f: &mut fmt::Formatter) -> fmt::Result {
-        writeln!(f, "handed out\tforged\ttoo old\trepeated\tstate\tship")?;
+        writeln!(f, "handed out\tforged\ttoo old\trepeated\tarrived\tstate\tship")?;
         for ship in &self.0.ships {
             let tally = &ship.tally;
             let state = match ship.connection.state() {
@@ -231,11 +231,13 @@ impl fmt::Display for Tallies<'_> {
             };
             writeln!(
                 f,
-                "{}\t{}\t{}\t{}\t{state}\t{}",
+                "{}\t{}\t{}\t{}\t{} of {}\t{state}\t{}",
                 tally.handed_out(),
                 tally.forged(),
                 tally.too_old(),
                 tally.repeated(),
+                ship.connection.arrived(),
+                ship.connection.width(),
                 ship.session.ship
             )?;
         }

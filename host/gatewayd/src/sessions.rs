@@ -1,6 +1,7 @@
 //! The sessions file: which sessions are planted. One to a line: identifier (16 hexadecimal
-//! digits), master secret (40), and the ship's name, which is the rest of the line. Empty lines and
-//! lines that begin with `#` are skipped.
+//! digits), master secret (40), if wanted the width of the ship's window (`width=` and 32 to 64,
+//! else it is 32), and the ship's name, which is the rest of the line. Empty lines and lines that
+//! begin with `#` are skipped.
 
 use crate::hex;
 use crate::signals;
@@ -18,6 +19,8 @@ pub type Secret = [u8; 20];
 pub struct Session {
     pub id: Identifier,
     pub secret: Secret,
+    /// How many of the newest numbers are marked; a report further behind is too old.
+    pub width: u32,
     pub ship: String,
 }
 
@@ -29,6 +32,8 @@ pub struct Fault {
     pub what: String,
 }
 
+const WIDTH: &str = "width=";
+const WIDTHS: std::ops::RangeInclusive<u32> = gateway::WIDTH_LEAST..=gateway::WIDTH_MOST;
 const LARGEST_NAME: usize = 64;
 const LARGEST_FILE: u64 = 16 << 20;
 
@@ -96,6 +101,7 @@ fn read_line(line: &str) -> Result<Session, (usize, String)> {
     let mut words = Words { line, column: 1 };
     let id = words.bytes::<8>("the identifier")?;
     let secret = words.bytes::<20>("the secret")?;
+    let width = words.width()?;
     let (column, ship) = words.rest();
     let ship = ship.trim_end();
     if ship.is_empty() {
@@ -107,7 +113,7 @@ fn read_line(line: &str) -> Result<Session, (usize, String)> {
     if let Some(place) = ship.chars().position(char::is_control) {
         return Err((column + place, "a control character in the ship's name".to_string()));
     }
-    Ok(Session { id, secret, ship: ship.to_string() })
+    Ok(Session { id, secret, width, ship: ship.to_string() })
 }
 
 /// Two sessions with one identifier could not be told apart on the wire, and two ships with one
@@ -156,6 +162,21 @@ impl<'a> Words<'a> {
     fn rest(&mut self) -> (usize, &'a str) {
         self.skip_blanks();
         (self.column, self.line)
+    }
+
+    /// The width, where the next word says one; a name cannot begin with `width=`.
+    fn width(&mut self) -> Result<u32, (usize, String)> {
+        self.skip_blanks();
+        if !self.line.starts_with(WIDTH) {
+            return Ok(gateway::WIDTH_LEAST);
+        }
+        let (column, word) = self.word();
+        let digits = &word[WIDTH.len()..];
+        let plain = digits.len() == 2 && digits.bytes().all(|digit| digit.is_ascii_digit());
+        match digits.parse() {
+            Ok(width) if plain && WIDTHS.contains(&width) => Ok(width),
+            _ => Err((column, format!("the width is {digits:?}, not a number from 32 to 64"))),
+        }
     }
 
     fn bytes<const N: usize>(&mut self, what: &str) -> Result<[u8; N], (usize, String)> {
@@ -234,6 +255,27 @@ mod tests {
             fault("é1"),
             (1, 1, "the identifier has a character that is no hexadecimal digit".to_string())
         );
+    }
+
+    #[test]
+    fn widths() {
+        let width = |word: &str| {
+            let text = format!("{ID} {SECRET} {word} Sea Star");
+            let session = read(text.as_bytes()).unwrap().remove(0);
+            (session.width, session.ship)
+        };
+        assert_eq!(width(""), (32, "Sea Star".to_string()));
+        for given in 32..=64 {
+            assert_eq!(width(&format!("width={given}")), (given, "Sea Star".to_string()));
+        }
+        assert_eq!(width("Width=64"), (32, "Width=64 Sea Star".to_string()));
+        for bad in ["31", "65", "", "0", "064", "6 4", "+4", "x", "4294967328", "64x"] {
+            let digits = bad.split(' ').next().unwrap();
+            let what = format!("the width is {digits:?}, not a number from 32 to 64");
+            assert_eq!(fault(&format!("\n{ID} {SECRET}  width={bad} A")), (2, 60, what), "{bad}");
+        }
+        let nameless = (1, 68, "the ship's name is missing".to_string());
+        assert_eq!(fault(&format!("{ID} {SECRET} width=40 ")), nameless);
     }
 
     #[test]

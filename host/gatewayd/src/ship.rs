@@ -54,7 +54,7 @@ const HELLOS_FROM_ITS_HOST: u32 = 10;
 
 impl Ship {
     pub fn fresh(session: Session, now: Instant) -> Result<Ship, String> {
-        let connection = Connection::fresh(&session.id, &session.secret)
+        let connection = Connection::fresh(&session.id, &session.secret, session.width)
             .map_err(|refusal| format!("{session:?}: {refusal}"))?;
         Ok(Ship {
             planting: planting(&session),
@@ -85,12 +85,15 @@ impl Ship {
         self.recent.truncate(RECENT);
     }
 
-    /// The connection on which a new handshake starts: the one that is there, if it is Idle, or
-    /// another one of the same session beside it.
+    /// The connection on which a new handshake starts: the one that is there, if it is Idle and of
+    /// the width that the sessions file says, or another one of the same session beside it.
     pub fn base(&self) -> Option<Connection> {
+        let Session { id, secret, width, .. } = &self.session;
         match self.connection.state() {
-            State::Idle => Some(self.connection.clone()),
-            _ => Connection::fresh(&self.session.id, &self.session.secret).ok(),
+            State::Idle if self.connection.width() == *width as usize => {
+                Some(self.connection.clone())
+            }
+            _ => Connection::fresh(id, secret, *width).ok(),
         }
     }
 }
@@ -117,4 +120,21 @@ impl Handshake {
 
 fn planting(session: &Session) -> [u8; 20] {
     sha1(&[b"planting", &session.id, &session.secret])
+}
+
+#[cfg(test)]
+mod tests {
+    use super::*;
+
+    /// The open connection keeps its width; a new handshake has the one that the file says now.
+    #[test]
+    fn another_width_comes_with_the_next_handshake() {
+        let session = Session { id: [1; 8], secret: [2; 20], width: 32, ship: "A".to_string() };
+        let mut ship = Ship::fresh(session, Instant::now()).unwrap();
+        assert_eq!(ship.base().unwrap().width(), 32);
+        ship.session.width = 64;
+        assert_eq!((ship.connection.width(), ship.base().unwrap().width()), (32, 64));
+        ship.connection.close().unwrap();
+        assert_eq!((ship.connection.width(), ship.base().unwrap().width()), (32, 64));
+    }
 }

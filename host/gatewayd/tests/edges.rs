@@ -146,8 +146,8 @@ fn a_new_start() {
     new.send(&new.data(1));
     wait_for("the new ship's report", || place.listed(1).len() == 1);
     let tallies = gatewayd.end();
-    assert!(tallies.contains("3\t0\t0\t0\topen\tship 0\n"), "{tallies}");
-    assert!(tallies.contains("1\t0\t0\t0\topen\tship 1\n"), "{tallies}");
+    assert!(tallies.contains("3\t0\t0\t0\t4 of 32\topen\tship 0\n"), "{tallies}");
+    assert!(tallies.contains("1\t0\t0\t0\t2 of 32\topen\tship 1\n"), "{tallies}");
 }
 
 /// Reports go on, some 500 a second and each sent once, while the gateway is restarted ten times:

@@ -27,7 +27,8 @@ const TIME: Moment = Moment(1_794_731_400_000);
 
 impl World {
     fn open(state: &Path) -> World {
-        let sessions = vec![Session { id: identifier(0), secret: secret(0), ship: name(0) }];
+        let sessions =
+            vec![Session { id: identifier(0), secret: secret(0), width: 32, ship: name(0) }];
         let opened = Store::open(state, &state.join("lists"), sessions).unwrap();
         let rules = Rules {
             reopen_after: Duration::from_secs(5),
@@ -168,7 +169,7 @@ fn damaged_in_the_middle() {
     let mut damaged = after.clone();
     damaged[before.len() - 30] ^= 4;
     lay(&place.state(), [&damaged, b"", b""]);
-    let sessions = vec![Session { id: identifier(0), secret: secret(0), ship: name(0) }];
+    let sessions = vec![Session { id: identifier(0), secret: secret(0), width: 32, ship: name(0) }];
     let opened = Store::open(&place.state(), &place.state().join("lists"), sessions);
     assert!(opened.is_err_and(|what| what.contains("damaged")));
 }

@@ -219,7 +219,7 @@ fn no_clean_end() {
     assert_eq!(gatewayd.child.wait().unwrap().code(), Some(6));
     fs::remove_dir(&in_the_way).unwrap();
     let tallies = Gatewayd::start(&place, ANY, &[]).end();
-    assert!(tallies.contains("1\t0\t0\t0\topen\tship 0"), "{tallies}");
+    assert!(tallies.contains("1\t0\t0\t0\t2 of 32\topen\tship 0"), "{tallies}");
     assert_eq!(place.listed(0).len(), 1);
 }
 

@@ -37,8 +37,12 @@ impl World {
 
     fn with(ships: usize, reopen_after: u64, hint_every: Option<u64>) -> World {
         let start = Instant::now();
-        let session =
-            |ship| Session { id: identifier(ship), secret: secret(ship), ship: name(ship) };
+        let session = |ship| Session {
+            id: identifier(ship),
+            secret: secret(ship),
+            width: 32,
+            ship: name(ship),
+        };
         let ships =
             (0..ships).map(|ship| gatewayd::ship::Ship::fresh(session(ship), start).unwrap());
         let rules = Rules {
@@ -635,8 +639,12 @@ fn a_closed_connection_is_started_again() {
 fn a_barred_session_stays_out() {
     let place = Place::in_memory("barred");
     let open = |secrets: fn(usize) -> [u8; 20]| {
-        let session =
-            |ship| Session { id: identifier(ship), secret: secrets(ship), ship: name(ship) };
+        let session = |ship| Session {
+            id: identifier(ship),
+            secret: secrets(ship),
+            width: 32,
+            ship: name(ship),
+        };
         Store::open(&place.state(), &place.path.join("lists"), vec![session(0), session(1)])
             .unwrap()
     };

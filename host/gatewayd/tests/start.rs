@@ -136,7 +136,7 @@ fn both_signals_end_it_with_the_tallies() {
     let place = Place::new("signals");
     place.plant(2);
     let tallies = Gatewayd::start(&place, ANY, &[]).end();
-    assert!(tallies.contains("0\t0\t0\t0\tidle\tship 1\n"), "{tallies}");
+    assert!(tallies.contains("0\t0\t0\t0\t0 of 32\tidle\tship 1\n"), "{tallies}");
     let mut running = Gatewayd::start(&place, ANY, &[]);
     signal(&running.child, "INT");
     assert_eq!(running.child.wait().unwrap().code(), Some(0));

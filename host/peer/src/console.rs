@@ -8,6 +8,8 @@ use crate::shore::{Answer, Judged, Received, Refusal, Shore, State, Tally};
 
 const LONGEST_LINE: usize = 8192;
 const MOST_ROOM: usize = 2048;
+/// Nine digits.
+const MOST_NUMBER: usize = 999_999_999;
 
 #[derive(Default)]
 pub struct Console {
@@ -17,7 +19,7 @@ pub struct Console {
 
 /// A line that could be read.
 enum Call {
-    Fresh { identifier: Vec<u8>, secret: Vec<u8> },
+    Fresh { identifier: Vec<u8>, secret: Vec<u8>, width: u32 },
     Receive { datagram: Vec<u8>, random: Vec<u8>, room: usize },
     Send { data: Vec<u8>, room: usize },
     Alert { protected: bool, level: u8, description: u8, record: Vec<u8>, room: usize },
@@ -47,8 +49,8 @@ impl Console {
     pub fn line(&mut self, line: &[u8]) -> Vec<String> {
         let Some(call) = read(line) else { return bad_line() };
         let mut lines = Vec::new();
-        if let Call::Fresh { identifier, secret } = call {
-            lines.push(self.fresh(&identifier, &secret));
+        if let Call::Fresh { identifier, secret, width } = call {
+            lines.push(self.fresh(&identifier, &secret, width));
         } else if let Call::Mac { edition, number } = call {
             lines.push(mac(edition, number));
         } else {
@@ -68,8 +70,8 @@ impl Console {
     }
 
     /// A refused fresh leaves connection and tally as they were.
-    fn fresh(&mut self, identifier: &[u8], secret: &[u8]) -> String {
-        match Shore::fresh(identifier, secret) {
+    fn fresh(&mut self, identifier: &[u8], secret: &[u8], width: u32) -> String {
+        match Shore::fresh(identifier, secret, width) {
             Ok(shore) => {
                 self.shore = Some(shore);
                 self.tally = Tally::default();
@@ -81,12 +83,13 @@ impl Console {
 
     fn state_line(&self) -> String {
         let Some(shore) = &self.shore else {
-            return "state None n=- marks=00000000 arrived=0 sent=-,- checksum=00000000 \
+            return "state None n=- marks=0000000000000000 arrived=0 sent=-,- checksum=00000000 \
                     tally=0,0,0,0"
                 .to_string();
         };
         let newest = shore.window().newest();
-        let mask: u32 = (0..32).filter(|i| newest[*i as usize]).map(|i| 2u32.pow(i)).sum();
+        let mask: u64 =
+            newest.iter().zip(0u32..).filter(|(mark, _)| **mark).map(|(_, i)| 2u64.pow(i)).sum();
         let arrived = newest.iter().filter(|mark| **mark).count();
         let highest = shore.window().highest().map_or("-".to_string(), |n| n.to_string());
         let sent = match shore.next_numbers() {
@@ -95,7 +98,7 @@ impl Console {
         };
         let Tally { handed_out, forged, too_old, repeated } = self.tally;
         format!(
-            "state {:?} n={highest} marks={mask:08x} arrived={arrived} sent={sent} checksum={} \
+            "state {:?} n={highest} marks={mask:016x} arrived={arrived} sent={sent} checksum={} \
              tally={handed_out},{forged},{too_old},{repeated}",
             shore.state(),
             hex::write(&shore.last_checksum())
@@ -195,9 +198,11 @@ fn read(line: &[u8]) -> Option<Call> {
     }
     let words: Vec<&[u8]> = line.split(|byte| *byte == b' ').collect();
     match words[..] {
-        [b"fresh", identifier, secret] => {
-            Some(Call::Fresh { identifier: bytes(identifier)?, secret: bytes(secret)? })
-        }
+        [b"fresh", identifier, secret, width] => Some(Call::Fresh {
+            identifier: bytes(identifier)?,
+            secret: bytes(secret)?,
+            width: number(width, MOST_NUMBER)? as u32,
+        }),
         [b"receive", datagram, random, room] => Some(Call::Receive {
             datagram: bytes(datagram)?,
             random: bytes(random)?,
@@ -306,9 +311,10 @@ mod tests {
         assert_eq!(run_text("\n"), "bad line\n");
         assert_eq!(run_text("close"), "bad line\n");
         assert_eq!(run_text("close\n\nstart"), "bad line\nbad line\nbad line\n");
-        assert!(run_text("fresh - -").starts_with("fresh refused 16\nstate None n=- "));
-        let long = |count: usize| format!("fresh {} -", "0".repeat(count));
-        assert!(run_text(&long(8184)).starts_with("fresh refused 16\n"));
+        assert!(run_text("fresh - - 32").starts_with("fresh refused 16\nstate None n=- "));
+        assert_eq!(run_text("fresh - -"), "bad line\n");
+        let long = |count: usize| format!("fresh {} - 32", "0".repeat(count));
+        assert!(run_text(&long(8180)).starts_with("fresh refused 16\n"));
         assert_eq!(run_text(&long(8186)), "bad line\n");
     }
 }

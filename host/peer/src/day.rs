@@ -257,15 +257,27 @@ impl<'a> Day<'a> {
 impl Day<'_> {
     fn fresh(&mut self) {
         self.in_step = false;
-        let line = format!("fresh {} {}", word(&self.session), word(&self.secret));
+        let any = self.rng.between(32, 64);
+        let width = self.rng.weigh(&[(1, 32), (1, 64), (4, any)]);
+        let line = format!("fresh {} {} {width}", word(&self.session), word(&self.secret));
         self.call(line.into_bytes());
     }
 
-    /// A fresh that is refused: the connection goes on.
+    /// A fresh that is refused, by its width or by its sizes: the connection goes on.
     fn wrong_fresh(&mut self) {
-        let (identifier, secret) =
-            self.rng.pick(&[(8, 19), (8, 21), (7, 20), (9, 20), (0, 0), (20, 8)]);
-        let line = format!("fresh {} {}", word(&vec![1; identifier]), word(&vec![2; secret]));
+        let (identifier, secret, width) = match self.rng.percent(50) {
+            true => {
+                let far = self.rng.pick(&[0, 1, 16, 66, 128, 255, 256, 288, 65568, 999_999_999]);
+                (8, 20, self.rng.weigh(&[(1, 31), (1, 65), (2, far)]))
+            }
+            false => {
+                let sizes = [(8, 19), (8, 21), (7, 20), (9, 20), (0, 0), (20, 8)];
+                let (identifier, secret) = self.rng.pick(&sizes);
+                (identifier, secret, self.rng.pick(&[32, 64, 45, 31]))
+            }
+        };
+        let (identifier, secret) = (vec![1; identifier], vec![2; secret]);
+        let line = format!("fresh {} {} {width}", word(&identifier), word(&secret));
         self.call(line.into_bytes());
     }
 

@@ -111,7 +111,7 @@ fn protection(
 /// The datagrams as a unit and a shore exchange them.
 fn datagrams(kind: Kind) -> Vec<(&'static str, Vec<u8>)> {
     let mut unit = Unit::new(&session(), &secret());
-    let mut shore = Shore::fresh(&session(), &secret()).expect("the sizes are right");
+    let mut shore = Shore::fresh(&session(), &secret(), 32).expect("the sizes are right");
     let message = Hello::plain(&client_random(), &session(), kind, 3).message();
     let hello = unit.say_hello(&message);
     let received = shore.receive(&hello, &server_random(), 128, &mut Tally::default());

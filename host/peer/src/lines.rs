@@ -12,7 +12,7 @@ pub fn odd(rng: &mut Rng, good: &[u8]) -> Vec<u8> {
     }
 }
 
-const FIXED: [&str; 30] = [
+const FIXED: [&str; 37] = [
     "",
     " ",
     "-",
@@ -27,12 +27,19 @@ const FIXED: [&str; 30] = [
     "start 0",
     "fresh",
     "fresh -",
+    "fresh - -",
     "fresh - - -",
-    "fresh  - -",
-    "fresh -- -",
-    "fresh 0 -",
-    "fresh 0A -",
-    "fresh 00 0g",
+    "fresh - - 32 -",
+    "fresh  - - 32",
+    "fresh -- - 32",
+    "fresh 0 - 32",
+    "fresh 0A - 32",
+    "fresh 00 0g 32",
+    "fresh - - ",
+    "fresh - - 032",
+    "fresh - - 1000000000",
+    "fresh - - 20 ",
+    "fresh - -  32",
     "send 00",
     "send 00 14 14",
     "send  14",
@@ -51,7 +58,7 @@ fn at_the_limit(rng: &mut Rng) -> Vec<u8> {
     let (front, back) = match rng.under(4) {
         0 => ("receive ", " 808182838485868788898a8b8c8d8e8f 128"),
         1 => ("receive ", " 808182838485868788898a8b8c8d8e8f 2048"),
-        2 => ("fresh ", " -"),
+        2 => ("fresh ", " - 32"),
         _ => ("send ", " 2048"),
     };
     let middle = "0".repeat(length - front.len() - back.len());
@@ -85,11 +92,12 @@ fn with_number(rng: &mut Rng) -> Vec<u8> {
         "0000000128",
         "",
     ]);
-    match rng.under(5) {
+    match rng.under(6) {
         0 => format!("send 00 {number}"),
         1 => format!("receive 44 808182838485868788898a8b8c8d8e8f {number}"),
         2 => format!("alert clear {number} 0 - 9"),
         3 => format!("alert protected 1 {number} - 30"),
+        4 => format!("fresh - - {number}"),
         _ => format!("alert protected 2 40 - {number}"),
     }
     .into_bytes()

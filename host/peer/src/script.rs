@@ -57,8 +57,13 @@ impl Script {
         self.line(&format!("# {text}"));
     }
 
+    /// A fresh connection of width 32.
     pub fn fresh(&mut self) -> Vec<String> {
-        self.line(&format!("fresh {} {}", word(&self.session), word(&self.secret)))
+        self.fresh_of(32)
+    }
+
+    pub fn fresh_of(&mut self, width: u32) -> Vec<String> {
+        self.line(&format!("fresh {} {} {width}", word(&self.session), word(&self.secret)))
     }
 
     /// Lends a datagram with the next random and 128 bytes of room. The unit hears a reply.

@@ -106,16 +106,17 @@ const LARGEST_DATA: usize = 1300;
 const RECORDS_SENT: usize = 8;
 
 impl Shore {
-    /// Fresh connection: 16 only.
-    pub fn fresh(identifier: &[u8], secret: &[u8]) -> Result<Shore, Refusal> {
+    /// Fresh connection: 16 only. The width of its window is fixed here, 32 to 64.
+    pub fn fresh(identifier: &[u8], secret: &[u8], width: u32) -> Result<Shore, Refusal> {
         if identifier.len() != 8 || secret.len() != 20 {
             return Err(Refusal::Argument);
         }
+        let window = Window::fresh(width).ok_or(Refusal::Argument)?;
         Ok(Shore {
             state: State::Idle,
             identifier: identifier.to_vec(),
             secret: secret.to_vec(),
-            window: Window::fresh(),
+            window,
             handshake: None,
             sending: None,
             records_sent: Vec::new(),
@@ -196,14 +197,14 @@ impl Shore {
         Ok(())
     }
 
-    /// Start again: 7 in Barred, 8 anywhere but in Closed. It forgets the window, the kept hello
-    /// and the records sent; the sending numbers stay until the next reply.
+    /// Start again: 7 in Barred, 8 anywhere but in Closed. It forgets the numbers of the window,
+    /// the kept hello and the records sent; the sending numbers stay until the next reply.
     pub fn start(&mut self) -> Result<(), Refusal> {
         match self.state {
             State::Barred => Err(Refusal::Closed),
             State::Closed => {
                 self.state = State::Idle;
-                self.window = Window::fresh();
+                self.window = self.window.emptied();
                 self.handshake = None;
                 self.records_sent.clear();
                 Ok(())
@@ -330,7 +331,7 @@ impl Shore {
             return Err(Refusal::Malformed);
         }
         self.state = State::Spec;
-        self.window = Window::fresh();
+        self.window = self.window.emptied();
         Ok(Answer::Spec)
     }
 

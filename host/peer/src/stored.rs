@@ -51,8 +51,8 @@ fn before_the_connection(day: &mut Script) {
     day.line("send 00 14");
     day.line("receive 44000000 808182838485868788898a8b8c8d8e8f 128");
     day.line("alert clear 1 0 - 9");
-    day.line("fresh a0a1a2a3a4a5a6 303132333435363738393a3b3c3d3e3f40414243");
-    day.line("fresh a0a1a2a3a4a5a6a7 -");
+    day.line("fresh a0a1a2a3a4a5a6 303132333435363738393a3b3c3d3e3f40414243 32");
+    day.line("fresh a0a1a2a3a4a5a6a7 - 32");
 }
 
 fn idle(day: &mut Script) {
@@ -66,7 +66,7 @@ fn idle(day: &mut Script) {
     day.receive(&[0x42, 0, 0, 1, 0, 0, 0, 0, 0]);
     day.receive(&[&[0x63, 0, 0][..], &[7; 25]].concat());
     day.receive(&[0x43, 0, 0, 20, 0, 0]);
-    day.line("fresh a0a1a2a3a4a5a6a7a8 303132333435363738393a3b3c3d3e3f40414243");
+    day.line("fresh a0a1a2a3a4a5a6a7a8 303132333435363738393a3b3c3d3e3f40414243 32");
 }
 
 fn replied(day: &mut Script) {
@@ -445,7 +445,7 @@ fn all_in_one_datagram(day: &mut Script) {
     day.heading("a whole handshake in one datagram");
     let hello = day.hello_datagram(0x27, Kind::Sha, 1);
     let message = day.unit.last_hello().to_vec();
-    let mut rehearsal = Shore::fresh(day.session(), &secret()).expect("sizes");
+    let mut rehearsal = Shore::fresh(day.session(), &secret(), 32).expect("sizes");
     let random = day.next_random();
     let heard = rehearsal.receive(&hello, &random, 128, &mut Tally::default());
     if let Received::Records { out: Some(reply), .. } = heard {
@@ -503,13 +503,38 @@ fn barred(day: &mut Script) {
     day.line("alert clear 1 0 - 9");
     day.line("start");
     day.line("close");
-    day.line("fresh - -");
+    day.line("fresh - - 32");
     day.heading("a fresh connection is the caller's to make");
     day.fresh();
     day.hello(0x28, Kind::Sha80, 0);
     day.flight();
     day.data(1, "good night");
     day.line("close");
+    store_and_forward(day);
+}
+
+/// The other routing: reports come forty places late, and the window is as wide as can be.
+fn store_and_forward(day: &mut Script) {
+    day.heading("widths: 31, 65 and 288 are none, 40 is one, 64 is the widest");
+    for width in [31, 65, 288, 40, 64] {
+        day.fresh_of(width);
+    }
+    day.hello(0x29, Kind::Sha, 2);
+    day.flight();
+    day.heading("41 to 44 before 1 to 4, which come forty places late; 1 again; then 65 and 66, and 2 to 4 again");
+    for number in [41, 42, 43, 44, 1, 2, 3, 4, 1, 65, 66, 2, 3, 4] {
+        day.data(number, "late");
+    }
+    day.heading(
+        "a jump of the width leaves the one mark, and the width stays over close and start again",
+    );
+    day.data(130, "far");
+    day.line("close");
+    day.line("start");
+    day.hello(0x2a, Kind::Sha, 2);
+    day.flight();
+    day.data(63, "new");
+    day.data(0, "again");
 }
 
 /// A day on which first the clear and then the protected sending numbers are spent: 131,000 lines.

@@ -60,7 +60,7 @@ fn the_long_day_spends_both_numbers_and_nothing_closes() {
         .lines()
         .last()
         .unwrap()
-        .contains("state Open n=0 marks=00000001 arrived=1 sent=2,2 "));
+        .contains("state Open n=0 marks=0000000000000001 arrived=1 sent=2,2 "));
 }
 
 fn days(seed: u64, calls: u64, console: &[&str]) -> Output {

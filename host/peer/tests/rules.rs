@@ -40,20 +40,65 @@ fn open(kind: Kind) -> Script {
 #[test]
 fn worked_example() {
     let input = "\
-fresh a0a1a2a3a4a5a6a7 303132333435363738393a3b3c3d3e3f40414243
+fresh a0a1a2a3a4a5a6a7 303132333435363738393a3b3c3d3e3f40414243 32
 receive 43000001002501101112131415161718191a1b1c1d1e1f08a0a1a2a3a4a5a6a70000000002000201000203 808182838485868788898a8b8c8d8e8f 128
 ";
     let expected = "\
 fresh ok
-state Idle n=- marks=00000000 arrived=0 sent=-,- checksum=00000000 tally=0,0,0,0
+state Idle n=- marks=0000000000000000 arrived=0 sent=-,- checksum=00000000 tally=0,0,0,0
 receive records 1
 0 reply 74
 out c30000002302002001808182838485868788898a8b8c8d8e8f08a0a1a2a3a4a5a6a7000002000203c1000100010163000014000cfa4961929527af28decdac18e8e0268c07a8c14188c6
-state Replied n=- marks=00000000 arrived=0 sent=1,2 checksum=e663d639 tally=0,0,0,0
+state Replied n=- marks=0000000000000000 arrived=0 sent=1,2 checksum=e663d639 tally=0,0,0,0
 ";
     let mut output = Vec::new();
     console::run(input.as_bytes(), &mut output).unwrap();
     assert_eq!(String::from_utf8(output).unwrap(), expected);
+}
+
+/// A report that comes forty places late, at width 64.
+#[test]
+fn forty_places_late() {
+    let input = "\
+fresh a0a1a2a3a4a5a6a7 303132333435363738393a3b3c3d3e3f40414243 64
+receive 43000001002501101112131415161718191a1b1c1d1e1f08a0a1a2a3a4a5a6a70000000002000201000203 808182838485868788898a8b8c8d8e8f 128
+receive c1000100010163000014000c04ac9a5ad2e142cb90d95633ccdaaafd3f9109660126 808182838485868788898a8b8c8d8e8f 128
+receive 64003272f9e2aa53987d1074a0ae 808182838485868788898a8b8c8d8e8f 128
+receive 64000a72e478950895c2e7f88ba7 808182838485868788898a8b8c8d8e8f 128
+receive 64000a72e478950895c2e7f88ba7 808182838485868788898a8b8c8d8e8f 128
+fresh a0a1a2a3a4a5a6a7 303132333435363738393a3b3c3d3e3f40414243 65
+";
+    let expected = "\
+0 data 3 1
+state Open n=50 marks=0004000000000001 arrived=2 sent=1,2 checksum=e663d639 tally=1,0,0,0
+receive records 1
+0 data 3 1
+state Open n=50 marks=0004010000000001 arrived=3 sent=1,2 checksum=e663d639 tally=2,0,0,0
+receive records 1
+0 refused 11
+state Open n=50 marks=0004010000000001 arrived=3 sent=1,2 checksum=e663d639 tally=2,0,0,1
+fresh refused 16
+state Open n=50 marks=0004010000000001 arrived=3 sent=1,2 checksum=e663d639 tally=2,0,0,1
+";
+    let mut output = Vec::new();
+    console::run(input.as_bytes(), &mut output).unwrap();
+    let output = String::from_utf8(output).unwrap();
+    assert!(output.ends_with(expected), "{output}");
+}
+
+#[test]
+fn the_width_stays_over_close_and_start_again() {
+    let mut script = Script::new(&session(), &secret());
+    script.fresh_of(40);
+    for first in [0x10, 0x11] {
+        script.hello(first, Kind::Sha80, 3);
+        assert_eq!(answers(&script.flight()), ["spec", "open"]);
+        assert_eq!(answers(&script.data(60, "new")), ["data 3 3"]);
+        assert_eq!(answers(&script.data(21, "late")), ["data 3 4"]);
+        assert_eq!(answers(&script.data(20, "too late")), ["refused 10"]);
+        script.line("close");
+        script.line("start");
+    }
 }
 
 #[test]
@@ -224,7 +269,7 @@ fn starting_again_keeps_the_numbers() {
     let before = script.line("close").pop().unwrap();
     let after = script.line("start").pop().unwrap();
     assert!(before.contains(" sent=2,2 "), "{before}");
-    assert!(after.starts_with("state Idle n=- marks=00000000 arrived=0 sent=2,2 "));
+    assert!(after.starts_with("state Idle n=- marks=0000000000000000 arrived=0 sent=2,2 "));
     assert_eq!(answers(&script.hello(0x10, Kind::Sha80, 3)), ["reply 74"]);
 }
 

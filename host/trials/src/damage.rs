@@ -156,7 +156,7 @@ fn lengths() -> Result<(), String> {
             return Err(format!("trials: {length} bytes lent as a connection: {wrong}"));
         }
         let mut room = vec![0x5a; length];
-        if raw::fresh(&ID, &SECRET, &mut room) != REFUSED || room != vec![0x5a; length] {
+        if raw::fresh(&ID, &SECRET, 64, &mut room) != REFUSED || room != vec![0x5a; length] {
             return Err(format!("trials: a fresh connection in {length} bytes is taken"));
         }
     }

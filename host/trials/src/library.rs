@@ -23,8 +23,8 @@ impl Library {
         let text = String::from_utf8_lossy(line).into_owned();
         let words: Vec<&str> = text.split(' ').collect();
         let mut lines = Vec::new();
-        if let ["fresh", id, secret] = words[..] {
-            lines.push(self.fresh(&bytes(id), &bytes(secret)));
+        if let ["fresh", id, secret, width] = words[..] {
+            lines.push(self.fresh(&bytes(id), &bytes(secret), number(width) as u32));
         } else {
             let Some(connection) = self.connection.clone() else { return lines };
             self.call(connection, &words, &mut lines);
@@ -33,8 +33,8 @@ impl Library {
         lines
     }
 
-    fn fresh(&mut self, id: &[u8], secret: &[u8]) -> String {
-        match Connection::fresh(id, secret) {
+    fn fresh(&mut self, id: &[u8], secret: &[u8], width: u32) -> String {
+        match Connection::fresh(id, secret, width) {
             Ok(connection) => {
                 self.connection = Some(connection);
                 self.tally = Tally::default();
@@ -156,11 +156,11 @@ impl Library {
     /// The state as the bytes of the connection and of the tally show it (crates/lent/specs/Saved.antt has the places).
     fn state_line(&self) -> String {
         let Some(connection) = &self.connection else {
-            return "state None n=- marks=00000000 arrived=0 sent=-,- checksum=00000000 tally=0,0,0,0"
+            return "state None n=- marks=0000000000000000 arrived=0 sent=-,- checksum=00000000 tally=0,0,0,0"
                 .to_string();
         };
         let saved = connection.save();
-        let (highest, marks) = (big(&saved[435..437]), big(&saved[437..445]) as u32);
+        let (highest, marks) = (big(&saved[435..437]), big(&saved[437..445]));
         let (protected, clear) = (big(&saved[445..449]), big(&saved[449..453]));
         let n = if marks == 0 { "-".to_string() } else { highest.to_string() };
         let sent = match protected {
@@ -169,9 +169,9 @@ impl Library {
         };
         let tally = self.tally;
         format!(
-            "state {:?} n={n} marks={marks:08x} arrived={} sent={sent} checksum={} tally={},{},{},{}",
+            "state {:?} n={n} marks={marks:016x} arrived={} sent={sent} checksum={} tally={},{},{},{}",
             connection.state(),
-            marks.count_ones(),
+            connection.arrived(),
             hex(&saved[458..462]),
             tally.handed_out(),
             tally.forged(),

@@ -18,6 +18,7 @@ struct Cases {
 pub fn run() -> Result<String, String> {
     let mut cases = Cases::default();
     cases.fresh();
+    cases.widths();
     for kind in [Kind::Sha80, Kind::Sha] {
         let link = Link::in_state(State::Open, kind);
         cases.receive(&link);
@@ -49,7 +50,7 @@ impl Cases {
             for secret in [0, 1, 8, 19, 20, 21] {
                 for room in [0, 1, 489, 490, 491] {
                     let mut state = vec![0x5a; room];
-                    let given = raw::fresh(&vec![1; id], &vec![2; secret], &mut state);
+                    let given = raw::fresh(&vec![1; id], &vec![2; secret], 45, &mut state);
                     let taken = (id, secret, room) == (8, 20, 490);
                     let right = match taken {
                         true => given.refusal == 0 && raw::state(&state).count == 0,
@@ -58,6 +59,27 @@ impl Cases {
                     let what = format!("fresh with {id}, {secret} and {room} bytes");
                     self.expect(&what, right && (given.written, given.count) == (0, 0), given);
                 }
+            }
+        }
+    }
+
+    /// Every width up to 300, and far ones: 32 to 64 are taken, kept and reported.
+    fn widths(&mut self) {
+        for width in (0..300).chain([65568, 1 << 31, u32::MAX]) {
+            let mut state = vec![0x5a; gateway::STATE_SIZE];
+            let given = raw::fresh(&[1; 8], &[2; 20], width, &mut state);
+            let told = (raw::width(&state).count, raw::arrived(&state).count);
+            let right = match (32..=64).contains(&width) {
+                true => given.refusal == 0 && told == (width as usize, 0),
+                false => given.refusal == 16 && state == vec![0x5a; gateway::STATE_SIZE],
+            };
+            self.expect(&format!("fresh with width {width}"), right, given);
+        }
+        for room in [0, 457, 459] {
+            let state = vec![0x5a; room];
+            for given in [raw::width(&state), raw::arrived(&state)] {
+                let right = (given.refusal, given.written, given.count) == (16, 0, 0);
+                self.expect(&format!("width and arrival of {room} bytes"), right, given);
             }
         }
     }

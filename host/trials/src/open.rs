@@ -19,7 +19,7 @@ pub struct Link {
 impl Link {
     /// A fresh connection, in Idle.
     pub fn new() -> Link {
-        let connection = Connection::fresh(&ID, &SECRET).expect("the session is in range");
+        let connection = Connection::fresh(&ID, &SECRET, 32).expect("the session is in range");
         Link { connection, unit: Unit::new(&ID, &SECRET) }
     }
 

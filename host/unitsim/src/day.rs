@@ -92,6 +92,7 @@ impl Day<'_> {
         let bytes = self.text(index);
         let data =
             self.unit.protect(Content::Data, false, self.number, &bytes).ok_or("no reply yet")?;
+        self.out.forwards = self.confirmed;
         let datagram = if self.confirmed {
             data
         } else {

@@ -1,5 +1,6 @@
-//! A link that loses, repeats, delays, reorders and damages. Its clock is the datagrams that enter
-//! it: a delayed one comes out so many datagrams later. What it does follows from its seed.
+//! A link that loses, repeats, delays, reorders and damages, and a store-and-forward routing beside
+//! it. Its clock is the datagrams that enter it: a delayed one comes out so many datagrams later. What
+//! it does follows from its seed.
 
 use crate::options::Rates;
 use peer::rng::Rng;
@@ -10,6 +11,8 @@ pub struct Link {
     entered: usize,
     /// Datagrams under way, each with the tick at which it comes out.
     under_way: Vec<(usize, Vec<u8>)>,
+    /// Whether datagrams may take the store-and-forward routing now.
+    pub forwards: bool,
     pub did: Did,
 }
 
@@ -21,13 +24,23 @@ pub struct Did {
     pub delayed: usize,
     pub reordered: usize,
     pub damaged: usize,
+    pub forwarded: usize,
 }
 
 const LONGEST_DELAY: usize = 40;
+/// On the store-and-forward routing so many others pass a datagram.
+const PLACES_LATE: usize = 40;
 
 impl Link {
     pub fn new(rates: Rates, seed: u64) -> Link {
-        Link { rates, rng: Rng::new(seed), entered: 0, under_way: Vec::new(), did: Did::default() }
+        Link {
+            rates,
+            rng: Rng::new(seed),
+            entered: 0,
+            under_way: Vec::new(),
+            forwards: false,
+            did: Did::default(),
+        }
     }
 
     /// A datagram enters; those that come out now are given, in their order.
@@ -58,7 +71,10 @@ impl Link {
             datagram[place] ^= 1 << self.rng.under(8);
         }
         let mut due = self.entered;
-        if self.happens(self.rates.delay) {
+        if self.forwards && self.happens(self.rates.forward) {
+            self.did.forwarded += 1;
+            due += PLACES_LATE + 1;
+        } else if self.happens(self.rates.delay) {
             self.did.delayed += 1;
             due += self.rng.between(4, LONGEST_DELAY);
         } else if self.happens(self.rates.reorder) {
@@ -92,6 +108,31 @@ mod tests {
         (out, link)
     }
 
+    /// Each datagram that was forwarded comes out just behind the fortieth after it, or behind those
+    /// before that one where it was forwarded, too.
+    #[test]
+    fn forwarded_are_forty_places_late() {
+        let mut link = Link::new(Rates { forward: 20, ..Rates::default() }, 7);
+        link.forwards = true;
+        let mut out: Vec<Vec<u8>> = (0..200).flat_map(|n| link.pass(vec![n, 0, 0])).collect();
+        assert_eq!(out.len() + link.under_way.len(), 200);
+        let late: Vec<u8> = late_by(&out);
+        assert!(late.len() > 20 && late.iter().all(|places| (32..=40).contains(places)));
+        assert!(late.iter().filter(|places| **places == 40).count() > 20, "{late:?}");
+        out.extend(link.empty());
+        assert_eq!(out.len(), 200);
+    }
+
+    /// How far behind the highest before it each is that comes late.
+    fn late_by(out: &[Vec<u8>]) -> Vec<u8> {
+        let mut highest = 0;
+        let behind = out.iter().map(|datagram| {
+            highest = highest.max(datagram[0]);
+            highest - datagram[0]
+        });
+        behind.filter(|places| *places > 0).collect()
+    }
+
     fn sent() -> Vec<Vec<u8>> {
         (0..100).map(|n| vec![n, 0, 0]).collect()
     }
@@ -109,6 +150,8 @@ mod tests {
             out.sort();
             assert_eq!(out, sent());
         }
+        let (out, _) = run(Rates { forward: 30, ..Rates::default() });
+        assert_eq!(out, sent(), "nothing is forwarded before it may be");
         let (out, link) = run(Rates { damage: 50, ..Rates::default() });
         let damaged = out.iter().filter(|datagram| !sent().contains(datagram)).count();
         assert!(damaged > 20 && damaged <= link.did.damaged);

@@ -40,8 +40,12 @@ fn run(options: &Options) -> Result<(), String> {
         std::fs::write(path, lines).map_err(|error| format!("{}: {error}", path.display()))?;
     }
     let (did, tally) = (&day.out.did, &day.gateway.tally);
+    let forwarded = match did.forwarded {
+        0 => String::new(),
+        some => format!(", forwarded {some}"),
+    };
     println!(
-        "{}: {} reports sent; the link lost {}, repeated {}, delayed {}, reordered {}, damaged {}",
+        "{}: {} reports sent; the link lost {}, repeated {}, delayed {}, reordered {}, damaged {}{forwarded}",
         options.ship, day.sent, did.lost, did.repeated, did.delayed, did.reordered, did.damaged
     );
     println!(

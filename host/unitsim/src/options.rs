@@ -19,6 +19,8 @@ unitsim: a ship's unit behind a bad link, for trying a gateway.
     --lose P, --repeat P, --delay P, --reorder P, --damage P
                          per cent of the datagrams that the link loses, sends twice, holds back for
                          up to 40 datagrams, lets the next ones pass, changes a byte of  [0]
+    --forward P          per cent of the reports that take the store-and-forward routing and come forty
+                         places late, once the gateway has our Finished  [0]
     --every MILLISECONDS pause behind each datagram  [1]
     --mac sha80|sha      [sha80]
     --refresh N          the key refresh  [4]
@@ -36,6 +38,7 @@ pub struct Options {
     pub to: SocketAddr,
     pub session: Vec<u8>,
     pub secret: Vec<u8>,
+    pub width: u32,
     pub ship: String,
     pub reports: usize,
     pub seed: u64,
@@ -56,6 +59,7 @@ pub struct Rates {
     pub delay: usize,
     pub reorder: usize,
     pub damage: usize,
+    pub forward: usize,
 }
 
 pub fn read(mut words: impl Iterator<Item = String>) -> Result<Option<Options>, String> {
@@ -86,6 +90,7 @@ pub fn read(mut words: impl Iterator<Item = String>) -> Result<Option<Options>, 
             "--delay" => rates.delay = percent(&word, &value)?,
             "--reorder" => rates.reorder = percent(&word, &value)?,
             "--damage" => rates.damage = percent(&word, &value)?,
+            "--forward" => rates.forward = percent(&word, &value)?,
             "--every" => every = number(&word, &value)?,
             "--refresh" => refresh = number(&word, &value)?,
             "--mac" if value == "sha80" => kind = Kind::Sha80,
@@ -96,12 +101,13 @@ pub fn read(mut words: impl Iterator<Item = String>) -> Result<Option<Options>, 
     let to = to.ok_or("--to ADDRESS:PORT is missing")?;
     let ship = ship.ok_or("--ship NAME is missing")?;
     let sessions = sessions.ok_or("--sessions FILE is missing")?;
-    let (session, secret) = planted(&sessions, &ship)?;
+    let (session, secret, width) = planted(&sessions, &ship)?;
     let every = Duration::from_millis(every);
     Ok(Some(Options {
         to,
         session,
         secret,
+        width,
         ship,
         reports,
         seed,
@@ -127,19 +133,28 @@ fn percent(word: &str, value: &str) -> Result<usize, String> {
     Ok(percent)
 }
 
-/// The session of a ship; the gateway is strict about the file, so here little is asked of it.
-fn planted(path: &PathBuf, ship: &str) -> Result<(Vec<u8>, Vec<u8>), String> {
+/// The session of a ship and its width, 32 where the file says none; the gateway is strict about the
+/// file, so here little is asked of it.
+fn planted(path: &PathBuf, ship: &str) -> Result<(Vec<u8>, Vec<u8>, u32), String> {
     let text =
         std::fs::read_to_string(path).map_err(|error| format!("{}: {error}", path.display()))?;
     for line in text.lines().filter(|line| !line.trim_start().starts_with('#')) {
         let mut words = line.split_whitespace();
         let (Some(session), Some(secret)) = (words.next(), words.next()) else { continue };
-        if words.collect::<Vec<_>>().join(" ") == ship {
+        let mut rest: Vec<&str> = words.collect();
+        let width = match rest.first().and_then(|word| word.strip_prefix("width=")) {
+            Some(width) => {
+                rest.remove(0);
+                number("width", width)?
+            }
+            None => 32,
+        };
+        if rest.join(" ") == ship {
             let bytes = |word: &str| {
                 hex::read(word.as_bytes())
                     .ok_or(format!("{}: {word} is not hexadecimal", path.display()))
             };
-            return Ok((bytes(session)?, bytes(secret)?));
+            return Ok((bytes(session)?, bytes(secret)?, width));
         }
     }
     Err(format!("{}: no ship {ship}", path.display()))

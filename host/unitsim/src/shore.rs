@@ -29,7 +29,7 @@ impl Gateway {
     pub fn new(options: &Options) -> Result<Gateway, String> {
         let told = |error: io::Error| error.to_string();
         let socket = connected(options.to).map_err(told)?;
-        let rules = Shore::fresh(&options.session, &options.secret)
+        let rules = Shore::fresh(&options.session, &options.secret, options.width)
             .map_err(|refusal| format!("{refusal:?}"))?;
         let capture = options.capture.as_deref().map(Capture::create).transpose().map_err(told)?;
         Ok(Gateway {

@@ -6,8 +6,7 @@ use mathlib.Core.List.{List}
 use Prim.Native.Nat.{ℕ}
 use native.Mathlib.Omega.{arith}
 use lib.ListN.{length}
-use lib.Dec.{eqb}
-use borrow.Author.Tests.{eq-eqb, ne-eqb, eqb-true, eqb-false}
+use Rattle.record.specs.Window.{Held}
 use Rattle.connection.specs.Calls.{leaving, freshOf, closedIn, startedIn}
 use Rattle.connection.specs.declared.calls.Connection.{Connection}
 use Rattle.connection.specs.declared.calls.Called.{Called}
@@ -19,6 +18,8 @@ use Rattle.connection.specs.declared.refusal.Refusal.the-variants as X
 use Rattle.connection.specs.declared.state.State.{State}
 use Rattle.connection.specs.declared.state.State.the-variants as S
 use Rattle.demands.specs.Runs.{called, stepOf}
+use Rattle.demands.specs.Calls.{FreshRow, fresh-16, fresh-done}
+use Rattle.demands.proofs.Calls.{fresh-of, fresh-row}
 use Rattle.demands.specs.Exactly.Calls.{WhyStart, ExactlyStart, WhyClose, ExactlyClose, WhyFresh, ExactlyFresh}
 use Rattle.demands.proofs.Exactly.Reasons.{decide, Holds, refused-when, done-when, through}
 
@@ -123,43 +124,26 @@ exactly-close =
 
 -- ---- fresh connection
 
-module _ (id secret : List ℕ) where
+module _ (id secret : List ℕ) (width : ℕ) where
   abbrev Why : Refusal → Type 0
-  Why = WhyFresh (length id) (length secret)
+  Why = WhyFresh (length id) (length secret) width
 
   abbrev Goes : Type 0
-  Goes = (length id ≡ 8) × (length secret ≡ 20)
+  Goes = (length id ≡ 8) × (length secret ≡ 20) × Held width
 
-  fresh-goes : Goes → freshOf id secret .outcome ≡ Done
-  unfolding freshOf
-  fresh-goes (a, b) = rw (eq-eqb (length id) 8 a, eq-eqb (length secret) 20 b) refl
+  -- the row of a fresh connection is its reason
+  row-holds : {s : Called} → FreshRow id secret width s → Holds Why Goes (s .outcome)
+  row-holds (fresh-16 why) = why
+  row-holds (fresh-done eight twenty held) = (eight, twenty, held)
 
-  fresh-id : length id ≢ 8 → freshOf id secret .outcome ≡ Refused X.Argument
-  unfolding freshOf
-  fresh-id a = rw (ne-eqb (length id) 8 a) refl
+  fresh-holds : Holds Why Goes (freshOf id secret width .outcome)
+  fresh-holds = row-holds (fresh-of id secret width)
 
-  fresh-past : length id ≡ 8 → length secret ≢ 20 → freshOf id secret .outcome ≡ Refused X.Argument
-  unfolding freshOf
-  fresh-past a b = rw (eq-eqb (length id) 8 a, ne-eqb (length secret) 20 b) refl
+  fresh-goes : Goes → freshOf id secret width .outcome ≡ Done
+  fresh-goes (eight, twenty, held) = ap (λ s. s .outcome) (fresh-row id secret width (fresh-done eight twenty held))
 
-  fresh-secret : length secret ≢ 20 → freshOf id secret .outcome ≡ Refused X.Argument
-  fresh-secret b =
-      decide (eqb (length id) 8) (λ e. fresh-past (eqb-true (length id) 8 e) b)
-      (λ e. fresh-id (eqb-false (length id) 8 e))
-
-  fresh-holds : Holds Why Goes (freshOf id secret .outcome)
-  fresh-holds =
-      decide (eqb (length id) 8)
-      (λ e. decide (eqb (length secret) 20)
-      (λ f. subst (Holds Why Goes) (sym (fresh-goes (eqb-true (length id) 8 e, eqb-true (length secret) 20 f)))
-      (eqb-true (length id) 8 e, eqb-true (length secret) 20 f))
-      (λ f. subst (Holds Why Goes) (sym (fresh-secret (eqb-false (length secret) 20 f)))
-      (inr (eqb-false (length secret) 20 f))))
-      (λ e. subst (Holds Why Goes) (sym (fresh-id (eqb-false (length id) 8 e))) (inl (eqb-false (length id) 8 e)))
-
-  fresh-because : (x : Refusal) → Why x → freshOf id secret .outcome ≡ Refused x
-  fresh-because X.Argument (inl a) = fresh-id a
-  fresh-because X.Argument (inr b) = fresh-secret b
+  fresh-because : (x : Refusal) → Why x → freshOf id secret width .outcome ≡ Refused x
+  fresh-because X.Argument w = ap (λ s. s .outcome) (fresh-row id secret width (fresh-16 w))
   fresh-because (X.Framing fault) w = absurd w
   fresh-because X.Room w = absurd w
   fresh-because X.Ended w = absurd w
@@ -177,8 +161,8 @@ module _ (id secret : List ℕ) where
 pub exactly-fresh : ExactlyFresh
 exactly-fresh =
     record {
-      refused = λ id secret. refused-when (Why id secret) (Goes id secret) (freshOf id secret .outcome)
-          (fresh-holds id secret) (fresh-because id secret);
-      goes = λ id secret. done-when (Why id secret) (Goes id secret) (freshOf id secret .outcome)
-          (fresh-holds id secret) (fresh-goes id secret);
+      refused = λ id secret width. refused-when (Why id secret width) (Goes id secret width) (freshOf id secret width .outcome)
+          (fresh-holds id secret width) (fresh-because id secret width);
+      goes = λ id secret width. done-when (Why id secret width) (Goes id secret width) (freshOf id secret width .outcome)
+          (fresh-holds id secret width) (fresh-goes id secret width);
     }

@@ -3,8 +3,9 @@
 use mathlib.Core.Path.{_≡_}
 use mathlib.Core.Logic.{_↔_, _⊎_, _≢_}
 use mathlib.Core.List.{List}
-use Prim.Native.Nat.{ℕ}
+use Prim.Native.Nat.{ℕ, _<_}
 use lib.ListN.{length}
+use Rattle.record.specs.Window.{Held}
 use Rattle.connection.specs.Calls.{freshOf}
 use Rattle.connection.specs.declared.calls.Connection.{Connection}
 use Rattle.connection.specs.declared.calls.Outcome.the-variants.{Done, Refused}
@@ -58,24 +59,25 @@ pub record ExactlyClose (g : Gateway) : Type 0 where
       ↔ WhyClose (c .handshake .state) x
   pub goes : (c : Connection) → (g c close .result ≡ called Done) ↔ (c .handshake .state ≢ Barred)
 
--- fresh connection, 16 only: "identifier not 8, secret not 20"
-abbrev pub WhyFresh : ℕ → ℕ → Refusal → Type 0
-WhyFresh id secret X.Argument = (id ≢ 8) ⊎ (secret ≢ 20)
-WhyFresh id secret (X.Framing fault) = ⊥
-WhyFresh id secret X.Room = ⊥
-WhyFresh id secret X.Ended = ⊥
-WhyFresh id secret X.NotAllowed = ⊥
-WhyFresh id secret X.Forged = ⊥
-WhyFresh id secret X.TooOld = ⊥
-WhyFresh id secret X.Repeated = ⊥
-WhyFresh id secret X.Malformed = ⊥
-WhyFresh id secret X.Unacceptable = ⊥
-WhyFresh id secret X.Checksum = ⊥
-WhyFresh id secret X.Spent = ⊥
-WhyFresh id secret X.WrongFinished = ⊥
-WhyFresh id secret X.HelloWhileOpen = ⊥
+-- fresh connection, 16 only: "identifier not 8, secret not 20", "width outside 32 to 64" (02, P1)
+abbrev pub WhyFresh : ℕ → ℕ → ℕ → Refusal → Type 0
+WhyFresh id secret width X.Argument = (id ≢ 8) ⊎ (secret ≢ 20) ⊎ (width < 32) ⊎ (64 < width)
+WhyFresh id secret width (X.Framing fault) = ⊥
+WhyFresh id secret width X.Room = ⊥
+WhyFresh id secret width X.Ended = ⊥
+WhyFresh id secret width X.NotAllowed = ⊥
+WhyFresh id secret width X.Forged = ⊥
+WhyFresh id secret width X.TooOld = ⊥
+WhyFresh id secret width X.Repeated = ⊥
+WhyFresh id secret width X.Malformed = ⊥
+WhyFresh id secret width X.Unacceptable = ⊥
+WhyFresh id secret width X.Checksum = ⊥
+WhyFresh id secret width X.Spent = ⊥
+WhyFresh id secret width X.WrongFinished = ⊥
+WhyFresh id secret width X.HelloWhileOpen = ⊥
 
 pub record ExactlyFresh : Type 0 where
-  pub refused : (id secret : List ℕ) (x : Refusal) → (freshOf id secret .outcome ≡ Refused x)
-      ↔ WhyFresh (length id) (length secret) x
-  pub goes : (id secret : List ℕ) → (freshOf id secret .outcome ≡ Done) ↔ ((length id ≡ 8) × (length secret ≡ 20))
+  pub refused : (id secret : List ℕ) (width : ℕ) (x : Refusal) → (freshOf id secret width .outcome ≡ Refused x)
+      ↔ WhyFresh (length id) (length secret) width x
+  pub goes : (id secret : List ℕ) (width : ℕ) → (freshOf id secret width .outcome ≡ Done)
+      ↔ ((length id ≡ 8) × (length secret ≡ 20) × Held width)

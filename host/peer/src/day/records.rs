@@ -47,14 +47,19 @@ impl Day<'_> {
 
     /// Mostly the next number; at times a gap, a late one, the window's edge, or a leap.
     pub(super) fn number(&mut self) -> u16 {
-        let highest = self.model.shore().and_then(|shore| shore.window().highest());
-        let highest = usize::from(highest.unwrap_or(0));
+        let window = self.model.shore().map(|shore| shore.window());
+        let highest = usize::from(window.and_then(|window| window.highest()).unwrap_or(0));
+        let width = usize::from(window.map_or(32, |window| window.width()));
         let next = self.next as usize;
         let number = match self.rng.under(100) {
             _ if self.rng.under(1000) >= self.disorder => next,
-            0..=34 => next + self.rng.between(1, 40),
-            35..=64 => highest.saturating_sub(self.rng.under(40)),
-            65..=84 => highest.saturating_sub(self.rng.pick(&[0, 30, 31, 32, 33])),
+            0..=34 => next + self.rng.between(1, 70),
+            35..=64 => highest.saturating_sub(self.rng.between(0, 70)),
+            65..=84 => {
+                let edges =
+                    [0, width - 2, width - 1, width, width, width, width + 1, 31, 32, 63, 64];
+                highest.saturating_sub(self.rng.pick(&edges))
+            }
             85..=94 => highest + 1,
             95..=97 => next + self.rng.between(100, 5000),
             98 => usize::from(self.rng.draw() as u16),

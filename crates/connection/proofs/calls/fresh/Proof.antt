@@ -1,14 +1,48 @@
--- `calls::fresh`: the two lengths, in the definition's order.
-use mathlib.Core.Path.{_∙_, ap}
+-- `calls::fresh`: the two lengths and the width, in the definition's order.
+use mathlib.Core.Path.{_≡_, _∙_, ap}
+use mathlib.Core.Logic.{_≢_}
+use mathlib.Core.List.{List}
+use Prim.Native.Nat.{ℕ, _≤_, _<_}
+use lib.ListN.{length}
+use native.Mathlib.Omega.{arith}
+use borrow.Author.Tests.{eq-eqb, ne-eqb, lt-ltb, le-ltb}
 use Rattle.connection.specs.Handshake.{newHandshake}
-use Rattle.connection.specs.Calls.{leaving, freshOf}
+use Rattle.connection.specs.Calls.{leaving, outOfRange, sessionOf, freshOf}
+use Rattle.connection.specs.declared.handshake.Session.{Session}
+use Rattle.connection.specs.declared.calls.Called.{Called}
 use Rattle.connection.specs.declared.calls.Outcome.the-variants.{Done, Refused}
 use Rattle.connection.specs.declared.refusal.Refusal.the-variants.{Argument}
 use Rattle.connection.specs.declared.state.State.the-variants.{Idle}
-use Rattle.digest.proofs.Picks.{picks}
 use borrow.Author.Needs.{needs}
 use Rattle.connection.proofs.calls.fresh.Statement.{statement}
 use Rattle.connection.proofs.calls.fresh.Tie as tie
+
+by-id : (id secret : List ℕ) (width : ℕ) (r : Called) → length id ≢ 8 → r ≡ outOfRange → r ≡ freshOf id secret width
+unfolding freshOf
+by-id id secret width r i e = rw (ne-eqb (length id) 8 i) e
+
+by-secret : (id secret : List ℕ) (width : ℕ) (r : Called) → length id ≡ 8 → length secret ≢ 20 → r ≡ outOfRange → r ≡ freshOf id secret width
+unfolding freshOf
+by-secret id secret width r i s e = rw (eq-eqb (length id) 8 i, ne-eqb (length secret) 20 s) e
+
+too-narrow : (id secret : List ℕ) (width : ℕ) (r : Called) → length id ≡ 8 → length secret ≡ 20 → width < 32 → r ≡ outOfRange → r ≡ freshOf id secret width
+unfolding freshOf
+too-narrow id secret width r i s n e = rw (eq-eqb (length id) 8 i, eq-eqb (length secret) 20 s, lt-ltb width 32 n) e
+
+too-wide : (id secret : List ℕ) (width : ℕ) (r : Called) → length id ≡ 8 → length secret ≡ 20 → 32 ≤ width → 64 < width → r ≡ outOfRange
+    → r ≡ freshOf id secret width
+unfolding freshOf
+too-wide id secret width r i s n w e =
+    rw (eq-eqb (length id) 8 i, eq-eqb (length secret) 20 s, le-ltb width 32 n, lt-ltb 64 width w) e
+
+as-held : (id secret : List ℕ) (width : ℕ) (r : Called) → length id ≡ 8 → length secret ≡ 20 → 32 ≤ width → width ≤ 64
+    → r ≡ leaving Done (newHandshake (sessionOf id secret) width Idle) → r ≡ freshOf id secret width
+unfolding freshOf
+as-held id secret width r i s n w e =
+    rw (eq-eqb (length id) 8 i, eq-eqb (length secret) 20 s, le-ltb width 32 n, le-ltb 64 width w) e
+
+of-session : {s t : Session} {width : ℕ} → s ≡ t → newHandshake s width Idle ≡ newHandshake t width Idle
+of-session {s} {t} {width} e = ap (λ x. newHandshake x width Idle) e
 
 blank-requires : tie.Need-blank-requires
 blank-requires c κs = search needs
@@ -17,8 +51,7 @@ leave-requires : tie.Need-leave-requires
 leave-requires c κs = search needs
 
 returns : tie.Need-returns
-unfolding freshOf
-returns c = let e = c .leave .ensures ∙ ap (leaving (Refused Argument)) (c .before .blank .ensures) in search picks depth 2
+returns c = by-id _ _ _ _ (λ z. omega arith) (c .leave .ensures ∙ ap (leaving (Refused Argument)) (c .before .blank .ensures))
 
 blank-requires-2 : tie.Need-blank-requires-2
 blank-requires-2 c κs = search needs
@@ -27,21 +60,42 @@ leave-requires-2 : tie.Need-leave-requires-2
 leave-requires-2 c κs = search needs
 
 returns-2 : tie.Need-returns-2
-unfolding freshOf
-returns-2 c = let e = c .leave2 .ensures ∙ ap (leaving (Refused Argument)) (c .before .blank2 .ensures) in search picks depth 2
+returns-2 c = by-secret _ _ _ _ (omega arith) (λ z. omega arith) (c .leave2 .ensures ∙ ap (leaving (Refused Argument)) (c .before .blank2 .ensures))
 
-planted-requires : tie.Need-planted-requires
-planted-requires c κs = search needs
-
-made-requires : tie.Need-made-requires
-made-requires c κs = search needs
+blank-requires-3 : tie.Need-blank-requires-3
+blank-requires-3 c κs = search needs
 
 leave-requires-3 : tie.Need-leave-requires-3
 leave-requires-3 c κs = search needs
 
 returns-3 : tie.Need-returns-3
-unfolding freshOf
-returns-3 c = let e = c .leave3 .ensures ∙ ap (leaving Done) (c .before .made .ensures ∙ ap (λ s. newHandshake s Idle) (c .before .before .planted .ensures)) in search picks depth 2
+returns-3 c = too-narrow _ _ _ _ (omega arith) (omega arith) (omega arith) (c .leave3 .ensures ∙ ap (leaving (Refused Argument)) (c .before .blank3 .ensures))
+
+blank-requires-4 : tie.Need-blank-requires-4
+blank-requires-4 c κs = search needs
+
+leave-requires-4 : tie.Need-leave-requires-4
+leave-requires-4 c κs = search needs
+
+returns-4 : tie.Need-returns-4
+returns-4 c = too-wide _ _ _ _ (omega arith) (omega arith) (omega arith) (omega arith) (c .leave4 .ensures ∙ ap (leaving (Refused Argument)) (c .before .blank4 .ensures))
+
+planted-requires : tie.Need-planted-requires
+planted-requires c κs = search needs
+
+cast-made : tie.Need-cast-made
+cast-made c = search needs
+
+made-requires : tie.Need-made-requires
+made-requires c κs = search needs
+
+leave-requires-5 : tie.Need-leave-requires-5
+leave-requires-5 c κs = search needs
+
+returns-5 : tie.Need-returns-5
+returns-5 c =
+    as-held _ _ _ _ (omega arith) (omega arith) (omega arith) (omega arith)
+    (c .leave5 .ensures ∙ ap (leaving Done) (c .before .made .ensures ∙ of-session (c .before .before .planted .ensures)))
 
 pub fresh-spec : {M : Type 1} → statement M
 fresh-spec =
@@ -53,7 +107,14 @@ fresh-spec =
     blank-requires-2
     leave-requires-2
     returns-2
-    planted-requires
-    made-requires
+    blank-requires-3
     leave-requires-3
-    returns-3)
+    returns-3
+    blank-requires-4
+    leave-requires-4
+    returns-4
+    planted-requires
+    cast-made
+    made-requires
+    leave-requires-5
+    returns-5)

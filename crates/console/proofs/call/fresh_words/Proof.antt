@@ -9,30 +9,39 @@ use Rattle.console.proofs.call.fresh_words.Tie as tie
 bytes-at-requires : tie.Need-bytes-at-requires
 bytes-at-requires c κs = search needs
 
-bytes-at-requires-2 : tie.Need-bytes-at-requires-2
-bytes-at-requires-2 c κs = search needs
+number-at-requires : tie.Need-number-at-requires
+number-at-requires c κs = search needs
 
 both-requires : tie.Need-both-requires
 both-requires c κs = search needs
 
-spaces-requires : tie.Need-spaces-requires
-spaces-requires c κs = search needs
+bytes-at-requires-2 : tie.Need-bytes-at-requires-2
+bytes-at-requires-2 c κs = search needs
 
 both-requires-2 : tie.Need-both-requires-2
 both-requires-2 c κs = search needs
 
+spaces-requires : tie.Need-spaces-requires
+spaces-requires c κs = search needs
+
+both-requires-3 : tie.Need-both-requires-3
+both-requires-3 c κs = search needs
+
 returns : tie.Need-returns
 returns c =
-    let rest = both-as (c .before .before .both .ensures) (c .before .before .before .before .bytes-at .ensures) (c .before .before .before .bytes-at2 .ensures) in
-    both-as (c .both2 .ensures) (ap (λ n. eqb n 2) (c .before .spaces .ensures)) rest
+    let rest1 = both-as (c .before .before .before .before .both .ensures) (c .before .before .before .before .before .before .bytes-at .ensures) (c .before .before .before .before .before .number-at .ensures) in
+    let rest2 = both-as (c .before .before .both2 .ensures) (c .before .before .before .bytes-at2 .ensures) rest1 in
+    both-as (c .both3 .ensures) (ap (λ n. eqb n 3) (c .before .spaces .ensures)) rest2
 
 pub fresh-words-spec : {M : Type 1} → statement M
 fresh-words-spec =
     tie.close
     (tie.spec
     bytes-at-requires
-    bytes-at-requires-2
+    number-at-requires
     both-requires
-    spaces-requires
+    bytes-at-requires-2
     both-requires-2
+    spaces-requires
+    both-requires-3
     returns)
