@@ -92,7 +92,7 @@ module _ (width : ℕ) (held : Held width) (numbers : List ℕ) (s : ℕ) where
   due-below : ((n : ℕ) → accepted numbers n ≡ true → n < s + width) → highestOf numbers < s + width
   due-below b = below-all width (held-some width held) numbers s b
 
-  due-new : accepted numbers s ≡ false → ((n : ℕ) → accepted numbers n ≡ true → n < s + width)
+  pub due-new : accepted numbers s ≡ false → ((n : ℕ) → accepted numbers n ≡ true → n < s + width)
       → acceptOf (windowOf width numbers) s ≡ A.New (windowOf width (s ∷ numbers)) (arrivedOf width (s ∷ numbers))
   due-new a b = by-history ∙ new-when width numbers s (due-below b) a
 

@@ -110,7 +110,7 @@ module _ (k : Keys) (c : Connection) where
   call-settled (receive-16 n) go s = s
   call-settled (receive-6 e l) go s = s
   call-settled (receive-framing e l f) go s = s
-  call-settled (receive-records {d = d} {random = random} e l f more) go s = chain-settled k random d more s
+  call-settled (receive-records {d = d} {random = random} reply e l f more sends) go s = chain-settled k random d more s
   call-settled (data-16 b) go s = s
   call-settled (data-7 g e) go s = s
   call-settled (data-8 g e n) go s = s
@@ -307,7 +307,7 @@ module _ (k : Keys) (d random : List ℕ) (ng : NoneGenuine k d) where
   whole-noise c out (receive-16 n) s = (refl, slots-silent [] tt)
   whole-noise c out (receive-6 e l) s = (refl, slots-silent [] tt)
   whole-noise c out (receive-framing e l f) s = (refl, slots-silent [] tt)
-  whole-noise c out (receive-records {answers = answers} e l f more) s =
+  whole-noise c out (receive-records {answers = answers} reply e l f more sends) s =
       let q = chain-noise more [] f s in
       ((λ i. record { handshake = q .0 i }), slots-silent answers (q .1))
 

@@ -2,6 +2,7 @@
 pub mod Genuine
 pub mod Table
 pub mod Changes
+pub mod First
 pub mod Calls
 pub mod Refusals
 pub mod Kept
@@ -22,4 +23,5 @@ pub mod Instances
 pub mod Exactly
 pub mod Replies
 pub mod InRuns
+pub mod Fatal
 pub mod Demands

@@ -15,6 +15,7 @@ pub mod HandedOut
 pub mod InRuns
 pub mod Replies
 pub mod Barred
+pub mod Fatal
 pub mod Sends
 pub mod Counts
 pub mod Works
