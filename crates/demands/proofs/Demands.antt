@@ -21,6 +21,7 @@ use Rattle.demands.proofs.Traps.{empty-then-data, twice-in-one, closed-
 use Rattle.demands.proofs.Counts.{counts-right}
 use Rattle.demands.proofs.Works.{it-works}
 use Rattle.demands.proofs.Instances.{instances}
+use Rattle.demands.proofs.Cases.{cases}
 use Rattle.demands.proofs.Places.{runs-are-events, answers-in-place}
 use Rattle.demands.proofs.Gateways.{meets-2, meets-3, demand-2-table, demand-2-settles, five-fail}
 
@@ -83,6 +84,7 @@ demands =
       counts = counts-right;
       works = it-works;
       instances = instances;
+      cases = cases;
       runs-are-events = runs-are-events;
       answers-in-place = answers-in-place;
       meets-2 = meets-2;

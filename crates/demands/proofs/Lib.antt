@@ -20,6 +20,7 @@ pub mod Gateways
 pub mod Written
 pub mod Traps
 pub mod Instances
+pub mod Cases
 pub mod Exactly
 pub mod Replies
 pub mod InRuns

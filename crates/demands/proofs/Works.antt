@@ -322,6 +322,19 @@ module _ (id secret m random out bytes : List ℕ) (plan : Plan) (lr : length ra
         next-is = refl;
       }
 
+  -- what it agreed
+  pub walk-mac : walk .h₃ .protection .keys .mac ≡ plan .mac
+  unfolding walk h₁ answeredWith h₂ h₃
+  walk-mac = refl
+
+  pub walk-refresh : walk .h₃ .protection .keys .refresh ≡ plan .refresh
+  unfolding walk h₁ answeredWith h₂ h₃
+  walk-refresh = refl
+
+  pub walk-clear : walk .h₁ .protection .clear ≡ 2
+  unfolding walk h₁ answeredWith
+  walk-clear = refl
+
   pub worked : Worked stepOf id secret m random out bytes plan
   worked =
       record {

@@ -22,6 +22,7 @@ use Rattle.demands.specs.Works.{Works}
 use Rattle.demands.specs.Places.{RunsAreEvents, AnswersInPlace}
 use Rattle.demands.specs.Gateways.{Demand2, Demand3, Demand2IsTable, Demand2Settles, FiveFail}
 use Rattle.demands.specs.Instances.{Instances}
+use Rattle.demands.specs.Cases.{Cases}
 
 -- "The gateway takes every datagram, of any content, and every order of calls, and always comes back. Bad input is
 -- refused with a number from the list. A refused call writes nothing into the output we lend, and the connection is as
@@ -86,6 +87,7 @@ pub record Demands : Type 0 where
   -- no premise is empty, and a run of calls is a run of events
   pub works : Works stepOf
   pub instances : Instances
+  pub cases : Cases
   pub runs-are-events : RunsAreEvents
   pub answers-in-place : AnswersInPlace
   -- demands 2 and 3 of any gateway; 01: "These must not pass"

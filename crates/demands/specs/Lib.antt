@@ -25,5 +25,6 @@ pub mod Gateways
 pub mod Traps
 pub mod Example
 pub mod Instances
+pub mod Cases
 pub mod Exactly
 pub mod Demands
