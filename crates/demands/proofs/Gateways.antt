@@ -14,6 +14,7 @@ use Rattle.record.specs.Reader.{readOf, readAs, framedOf}
 use Rattle.record.specs.Window.{emptied}
 use Rattle.record.specs.Datagram.{Framing, framed, faulty, framingFrom, framingOf}
 use Rattle.record.specs.declared.header.Content.the-variants as C
+use Rattle.record.specs.declared.keys.Keys.{Keys}
 use Rattle.record.specs.declared.reader.Record.{Record}
 use Rattle.message.specs.Change.{isChange}
 use Rattle.connection.specs.Answer.{handedOf, judged, refusing}
@@ -41,12 +42,12 @@ use Rattle.demands.specs.Genuine.{keysOf}
 use Rattle.demands.specs.Table.{Row, ended, allowed, helloWhileOpen, row-ended, row-not-allowed, row-change}
 use Rattle.demands.specs.Calls.{Chain, chain-end, chain-more, taken, FirstSends}
 use Rattle.demands.specs.Events.{Event, took, sending, alerting, closing, starting, AllSound, Happened, eventsOf, connectionOf, after, history}
-use Rattle.demands.specs.Past.{isData, keysIn}
+use Rattle.demands.specs.Past.{isData, keysIn, expectedIn}
 use Rattle.demands.specs.Runs.{freshWith}
 use Rattle.demands.specs.LeftOut.{answersIn, talliedIn}
 use Rattle.demands.specs.Refusals.{IsRefused}
-use Rattle.demands.specs.Course.{Course, Ongoing, Due}
-use Rattle.demands.specs.HandedOut.{courseFrom, answerAt, HandedOut}
+use Rattle.demands.specs.Course.{Course, withEvent, Ongoing, Due}
+use Rattle.demands.specs.HandedOut.{courseAt, courseFrom, answerAt, HandedOut}
 use Rattle.demands.specs.Counts.{countIn, countOver, tallyAfter, upToStop, OnConnection, Counting, CountsRight}
 use Rattle.demands.specs.Places.{answerOf, RunsAreEvents, AnswersInPlace}
 use Rattle.demands.specs.Gateways.{AnswersByTable, Demand2, Demand2IsTable, Demand2Settles, HandsOut, OneEach, Demand3, RefusesCalls, RefusesRecords, AnswersAlike, NeverChanges, FirstOnly, Invented, FiveFail}
@@ -93,17 +94,20 @@ pub demand-2-settles : Demand2Settles
 unfolding Demand2Settles Demand2
 demand-2-settles g rows c call = sym (call-is c (rows c call))
 
-ongoing-more : (es fs : List Event) → Ongoing es → Ongoing fs → Ongoing (es ++ fs)
-ongoing-more [] fs a b = b
-ongoing-more (took random d r ∷ es) fs a b = ongoing-more es fs a b
-ongoing-more (sending bytes out ∷ es) fs a b = ongoing-more es fs a b
-ongoing-more (alerting sealed level description lent out ∷ es) fs a b = ongoing-more es fs a b
-ongoing-more (closing ∷ es) fs a b = absurd a
-ongoing-more (starting ∷ es) fs a b = absurd a
+-- records go on in any course
+module _ (k : Keys) (expected : List ℕ) where
+  records-ongoing : (random d : List ℕ) (rs : List Record) (course : Course) → Ongoing k expected course (map (took random d) rs)
+  records-ongoing random d [] course = tt
+  records-ongoing random d (r ∷ rs) course = records-ongoing random d rs (withEvent k expected course (took random d r))
 
-records-ongoing : (random d : List ℕ) (rs : List Record) → Ongoing (map (took random d) rs)
-records-ongoing random d [] = tt
-records-ongoing random d (r ∷ rs) = records-ongoing random d rs
+  ongoing-more : (random d : List ℕ) (rs : List Record) (es : List Event) (course : Course) → Ongoing k expected course es
+      → Ongoing k expected course (es ++ map (took random d) rs)
+  ongoing-more random d rs [] course a = records-ongoing random d rs course
+  ongoing-more random d rs (took random′ d′ r ∷ es) course a = ongoing-more random d rs es (withEvent k expected course (took random′ d′ r)) a
+  ongoing-more random d rs (sending bytes out ∷ es) course a = ongoing-more random d rs es course a
+  ongoing-more random d rs (alerting sealed level description lent out ∷ es) course a = ongoing-more random d rs es course a
+  ongoing-more random d rs (closing ∷ es) course a = ongoing-more random d rs es (withEvent k expected course closing) a
+  ongoing-more random d rs (starting ∷ es) course a = (a .0, ongoing-more random d rs es course (a .1))
 
 pub hands-out : HandsOut stepOf
 unfolding HandsOut HandedOut RunsAreEvents AnswersInPlace
@@ -117,7 +121,7 @@ hands-out id secret es sound is-open calls go d random out before r behind e l f
     = answers-in-place c d random out before r behind e l f
     ∙ ap (λ x. judgedRecord (after x (map (took random d) before)) random d r .answer) (runs-are-events (connectionOf h) calls .0)
     ∙ ap (λ x. judgedRecord x random d r .answer) (sym (after-more h (eventsOf calls) (map (took random d) before))) in
-    let q = handed-out id secret es sound is-open later (sound-more (eventsOf calls) (map (took random d) before) (run-sound calls) (records-sound random d e [] before (r ∷ behind) f)) (ongoing-more (eventsOf calls) (map (took random d) before) go (records-ongoing random d before)) random d r (e, record { before = before; behind = behind; framing = f }) in
+    let q = handed-out id secret es sound is-open later (sound-more (eventsOf calls) (map (took random d) before) (run-sound calls) (records-sound random d e [] before (r ∷ behind) f)) (ongoing-more (keysIn session past) (expectedIn session past) random d before (eventsOf calls) (courseAt past) go) random d r (e, record { before = before; behind = behind; framing = f }) in
     subst (λ a. ((isData a ≡ true) ↔ ((x : List ℕ) × Due (keysIn session past) (courseFrom session past later) d r x)) × ((x : List ℕ) → Due (keysIn session past) (courseFrom session past later) d r x → handedOf d a ≡ x)) (sym same) q
 
 chain-length : (random d : List ℕ) (h : Handshake) (rs : List Record) (answers : List Answer) (left : Handshake)

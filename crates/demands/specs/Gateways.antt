@@ -30,8 +30,8 @@ use Rattle.demands.specs.Events.{Event, took, AllSound, eventsOf, connec
 use Rattle.demands.specs.Past.{isData, keysIn}
 use Rattle.demands.specs.Runs.{freshWith}
 use Rattle.demands.specs.LeftOut.{LeavesOut, answersIn, talliedIn}
-use Rattle.demands.specs.Course.{Ongoing, Due}
-use Rattle.demands.specs.HandedOut.{courseFrom}
+use Rattle.demands.specs.Course.{Due}
+use Rattle.demands.specs.HandedOut.{courseFrom, OngoingFrom}
 use Rattle.demands.specs.Places.{answerOf}
 use Rattle.demands.specs.Counts.{OnConnection, Counting, tallyAfter, CountsRight}
 
@@ -62,7 +62,8 @@ Demand2Settles = (g : Gateway) → Demand2 g → (c : Connection) (call : Call) 
 unfoldable pub HandsOut : Gateway → Type 0
 HandsOut g =
     (id secret : List ℕ) (es : List Event) → AllSound es
-    → after (freshWith id secret) es .state ≡ Open → (calls : List Call) → Ongoing (eventsOf calls)
+    → after (freshWith id secret) es .state ≡ Open → (calls : List Call)
+    → OngoingFrom (sessionOf id secret) (history (freshWith id secret) es []) (eventsOf calls)
     → (d random out : List ℕ) (before : List Record) (r : Record) (behind : List Record) → length random ≡ 16
     → 128 ≤ length out
     → framingOf d ≡ framed (before ++ (r ∷ behind))
