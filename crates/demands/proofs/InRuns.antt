@@ -237,4 +237,4 @@ leaves-out-of-runs id secret es sound is-open calls rest =
     let h : Handshake = after h₀ es in
     let p : Progress (sessionOf id secret) past h = progress-all (sessionOf id secret) es [] h₀ sound (progress-fresh id secret) in
     let same : keysOf h ≡ keysIn (sessionOf id secret) past = keys-are (sessionOf id secret) past h p (live (sessionOf id secret) past h (p .kept) (ap ended is-open)) in
-    subst (λ k. (out : LeftOut k calls rest) → SameWithout stepOf k (connectionOf h) calls rest out) same (leaves-out (connectionOf h) is-open calls rest)
+    subst (λ k. (out : LeftOut stepOf k (connectionOf h) calls rest) → SameWithout stepOf k (connectionOf h) calls rest out) same (leaves-out (connectionOf h) is-open calls rest)

@@ -82,6 +82,7 @@ unfoldable pub LeavesOutOfRuns : Type 0
 LeavesOutOfRuns =
     (id secret : List ℕ) (es : List Event) → AllSound es → after (freshWith id secret) es .state ≡ Open
     → (calls rest : List Call)
-    (out : LeftOut (keysIn (sessionOf id secret) (history (freshWith id secret) es [])) calls rest)
+    (out : LeftOut stepOf (keysIn (sessionOf id secret) (history (freshWith id secret) es []))
+    (connectionOf (after (freshWith id secret) es)) calls rest)
     → SameWithout stepOf (keysIn (sessionOf id secret) (history (freshWith id secret) es []))
     (connectionOf (after (freshWith id secret) es)) calls rest out
