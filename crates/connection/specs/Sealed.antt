@@ -25,22 +25,23 @@ use Rattle.connection.specs.declared.state.State.{State}
 use Rattle.connection.specs.declared.state.State.the-variants as S
 use Rattle.connection.specs.declared.state.Kind.{Kind}
 use Rattle.connection.specs.declared.state.Kind.the-variants.{ClearHello, ClearChange, ClearAlert, OtherClear, SealedChange, SealedAlert, SealedHandshake, SealedData}
-use Rattle.connection.specs.declared.refusal.Refusal.the-variants.{Forged, TooOld, Repeated, Malformed, WrongFinished}
+use Rattle.connection.specs.declared.refusal.Refusal.the-variants.{Ended, NotAllowed, Forged, TooOld, Repeated, Malformed, WrongFinished}
 use Rattle.connection.specs.declared.answer.Answer.the-variants as W
 use Rattle.connection.specs.declared.answer.Judged.{Judged}
 use Rattle.connection.specs.declared.handshake.Handshake.{Handshake}
 
--- a Finished with the right contents: "Spec: Open"; "Open: again, Open kept". The table sends no record here in another state.
+-- a Finished with the right contents: "Spec: Open"; "Open: again, Open kept". The table sends no record here in another
+-- state, where it is refused: 7, 8.
 abbrev pub opening : Handshake → Judged
 opening h = judged W.Open (withState h S.Open)
 
 abbrev pub finishedIn : Handshake → State → Judged
-finishedIn h S.Idle = opening h
-finishedIn h S.Replied = opening h
+finishedIn h S.Idle = refusing NotAllowed h
+finishedIn h S.Replied = refusing NotAllowed h
 finishedIn h S.Spec = opening h
 finishedIn h S.Open = judged W.Again h
-finishedIn h S.Closed = opening h
-finishedIn h S.Barred = opening h
+finishedIn h S.Closed = refusing Ended h
+finishedIn h S.Barred = refusing Ended h
 
 -- 12: "a message other than Finished under protection"; 17: "genuine Finished with wrong contents", which also closes
 abbrev pub verifiedTo : Handshake → Verified → Judged
@@ -66,17 +67,17 @@ unfoldable pub alertedBy : Handshake → List ℕ → Judged
 alertedBy h content = alertedTo h (alertOf content)
 
 -- 12: "empty data", and change cipher spec under protection; the content stands at `at` in the datagram. The table sends no clear
--- record here.
+-- record here, where it is refused: 8.
 unfoldable pub contentBy : Handshake → Kind → ℕ → ℕ → List ℕ → Judged
 contentBy h SealedData number at content =
     pick (eqb (length content) 0) (refusing Malformed h) (judged (W.Data number at (length content)) h)
 contentBy h SealedAlert number at content = alertedBy h content
 contentBy h SealedHandshake number at content = verifiedBy h content
 contentBy h SealedChange number at content = refusing Malformed h
-contentBy h ClearHello number at content = refusing Malformed h
-contentBy h ClearChange number at content = refusing Malformed h
-contentBy h ClearAlert number at content = refusing Malformed h
-contentBy h OtherClear number at content = refusing Malformed h
+contentBy h ClearHello number at content = refusing NotAllowed h
+contentBy h ClearChange number at content = refusing NotAllowed h
+contentBy h ClearAlert number at content = refusing NotAllowed h
+contentBy h OtherClear number at content = refusing NotAllowed h
 
 -- "A genuine new record marks its number even if its content is then refused." The content is the front of the fragment.
 abbrev pub unsealedTo : Handshake → Kind → ℕ → ℕ → List ℕ → Protection → Opened → Judged

@@ -66,10 +66,10 @@ fn content(h: Handshake, kind: Kind, number: u16, at: usize, content: &[u8]) -> 
         Kind::SealedAlert => alerted(h, content),
         Kind::SealedHandshake => verified(h, content),
         Kind::SealedChange => refuse(h, Refusal::Malformed),
-        Kind::ClearHello => refuse(h, Refusal::Malformed),
-        Kind::ClearChange => refuse(h, Refusal::Malformed),
-        Kind::ClearAlert => refuse(h, Refusal::Malformed),
-        Kind::OtherClear => refuse(h, Refusal::Malformed),
+        Kind::ClearHello => refuse(h, Refusal::NotAllowed),
+        Kind::ClearChange => refuse(h, Refusal::NotAllowed),
+        Kind::ClearAlert => refuse(h, Refusal::NotAllowed),
+        Kind::OtherClear => refuse(h, Refusal::NotAllowed),
     }
 }
 
@@ -115,7 +115,7 @@ fn verified(h: Handshake, content: &[u8]) -> Judged
     }
 }
 
-// Spec becomes Open; in Open the Finished came again.
+// Spec becomes Open; in Open the Finished came again. The table takes none in another state.
 fn opened(h: Handshake) -> Judged
     ensures { λ r. ⌜ r ≡ finishedIn h (h .state) ⌝ }
 {
@@ -125,11 +125,11 @@ fn opened(h: Handshake) -> Judged
             answer: Answer::Again,
             handshake: h,
         },
-        State::Idle => open(h),
-        State::Replied => open(h),
+        State::Idle => refuse(h, Refusal::NotAllowed),
+        State::Replied => refuse(h, Refusal::NotAllowed),
         State::Spec => open(h),
-        State::Closed => open(h),
-        State::Barred => open(h),
+        State::Closed => refuse(h, Refusal::Ended),
+        State::Barred => refuse(h, Refusal::Ended),
     }
 }
 

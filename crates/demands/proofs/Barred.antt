@@ -9,7 +9,13 @@ use lib.ListN.{length}
 use Rattle.digest.specs.Bytes.{laidOver}
 use Rattle.record.specs.Datagram.{framed, framingOf}
 use Rattle.record.specs.declared.reader.Record.{Record}
+use Rattle.record.specs.declared.header.Content.the-variants as C
+use Rattle.record.specs.declared.window.Window.{Window}
+use Rattle.message.specs.Alert.{alertOf}
 use Rattle.message.specs.declared.acceptance.Plan.{Plan}
+use Rattle.message.specs.declared.alert.Alert.{Alert}
+use Rattle.message.specs.declared.alert.Level.the-variants as L
+use Rattle.message.specs.declared.alert.Reading.the-variants as R
 use Rattle.connection.specs.Answer.{replySize}
 use Rattle.connection.specs.Judge.{judgedRecord, fragmentOf}
 use Rattle.connection.specs.Receive.{firstReply, slotsOf}
@@ -34,17 +40,28 @@ use Rattle.demands.specs.Events.{Event, took, sending, alerting, closing
 use Rattle.demands.specs.Barred.{FatalUnderCode, BarredOnlyByFatal, refusedAll, AnswersSeven, BarredForGood}
 use Rattle.demands.proofs.Genuine.{true-false}
 use Rattle.demands.proofs.Table.{row-of, row-is}
-use Rattle.demands.proofs.Calls.{call-of, call-is, chain-is}
+use Rattle.demands.proofs.First.{first-is}
+use Rattle.demands.proofs.Calls.{by-chain, call-of, call-is, chain-is}
 use Rattle.demands.proofs.Refusals.{laid-nothing, no-reply}
 
 -- ---- Barred by a fatal alert only
 
-module _ (h : Handshake) (random d : List ℕ) (r : Record) (at : RecordOf d r) (nb : h .state ≢ S.Barred) where
+-- what the row that bars is about
+pub record FatalRow (h : Handshake) (d : List ℕ) (r : Record) : Type 0 where
+  pub c : List ℕ
+  pub w : Window
+  pub a : Alert
+  pub new : New h d r c w
+  pub alert : r .content ≡ C.Alert
+  pub well-formed : alertOf c ≡ R.WellFormed a
+  pub fatal : a .level ≡ L.Fatal
+
+module _ (h : Handshake) (random d : List ℕ) (r : Record) (nb : h .state ≢ S.Barred) where
   replied-not : {P : Type 0} (plan : Plan) → answeredWith h random (fragmentOf d r) plan .state ≡ S.Barred → P
   unfolding answeredWith
   replied-not plan z = let v : _≡_ {A = ℕ} 0 1 = cc in absurd (omega arith)
 
-  by-fatal : {j : Judged} → Row h random d r j → j .handshake .state ≡ S.Barred → FatalUnderCode h (took random d r)
+  pub by-fatal : {j : Judged} → Row h random d r j → j .handshake .state ≡ S.Barred → FatalRow h d r
   by-fatal (row-ended e) z = absurd (nb z)
   by-fatal (row-hello-while-open e) z = absurd (nb z)
   by-fatal (row-not-allowed e o b) z = absurd (nb z)
@@ -67,7 +84,7 @@ module _ (h : Handshake) (random d : List ℕ) (r : Record) (at : RecordOf d r) 
   by-fatal (row-data c w n e m) z = absurd (nb z)
   by-fatal (row-warning c w b n e m l) z = absurd (nb z)
   by-fatal (row-critical c w b n e m l) z = let v : _≡_ {A = ℕ} 0 1 = cc in absurd (omega arith)
-  by-fatal (row-barred c w b n e m l) z = record { random = random; d = d; r = r; c = c; a = b; event = refl; genuine = record { in-place = at; is-sealed = n .coded }; alert = e; well-formed = m; fatal = l }
+  by-fatal (row-barred c w b n e m l) z = record { c = c; w = w; a = b; new = n; alert = e; well-formed = m; fatal = l }
   by-fatal (row-open c w n s e m) z = let v : _≡_ {A = ℕ} 0 1 = cc in absurd (omega arith)
   by-fatal (row-again c w n s e m) z = absurd (nb z)
   by-fatal (row-wrong-finished c w n e m) z = let v : _≡_ {A = ℕ} 0 1 = cc in absurd (omega arith)
@@ -103,9 +120,28 @@ module _ (h : Handshake) (nb : h .state ≢ S.Barred) where
   by-start (start-8 n m) z = absurd (nb z)
   by-start (start-done e) z = let v : _≡_ {A = ℕ} 0 1 = cc in absurd (omega arith)
 
+under-code : (h : Handshake) (random d : List ℕ) (r : Record) → RecordOf d r → FatalRow h d r → FatalUnderCode h (took random d r)
+under-code h random d r at f =
+    record {
+      random = random;
+      d = d;
+      r = r;
+      c = f .c;
+      a = f .a;
+      event = refl;
+      taken = f .new .guarded;
+      genuine = record { in-place = at; is-sealed = f .new .coded };
+      w = f .w;
+      arrived = f .new .arrived;
+      new = f .new .accepted;
+      alert = f .alert;
+      well-formed = f .well-formed;
+      fatal = f .fatal;
+    }
+
 pub barred-only-by-fatal : BarredOnlyByFatal
 unfolding BarredOnlyByFatal stepOf
-barred-only-by-fatal h (took random d r) sound nb z = by-fatal h random d r (sound .1) nb (row-of h random d r) z
+barred-only-by-fatal h (took random d r) sound nb z = under-code h random d r (sound .1) (by-fatal h random d r nb (row-of h random d r) z)
 barred-only-by-fatal h (sending bytes out) sound nb z = by-data h nb bytes out (call-of (connectionOf h) (send-data bytes out)) z
 barred-only-by-fatal h (alerting sealed level description lent out) sound nb z =
     by-alert h nb sealed level description lent out (call-of (connectionOf h) (send-alert sealed level description lent out)) z
@@ -138,9 +174,9 @@ module _ (c : Connection) (b : c .handshake .state ≡ S.Barred) where
   stays (receive-16 n) = (refl, refl)
   stays (receive-6 e l) = (refl, refl)
   stays (receive-framing e l f) = (refl, refl)
-  stays (receive-records {d = d} {random = random} {out = out} {rs = rs} {answers = answers} {left = last} e l f more) =
+  stays (receive-records {d = d} {random = random} {out = out} {rs = rs} {answers = answers} {left = last} reply e l f more sends) =
       let same : c .handshake ≡ last = sym (chain-is random d (chain-seven random d (c .handshake) is-over rs) .1) ∙ chain-is random d more .1 in
-      ((λ i. record { handshake = sym same i }), ap (laidOver out 0) (no-reply-ended c random d is-over rs) ∙ laid-nothing out)
+      ((λ i. record { handshake = sym same i }), ap (laidOver out 0) (sym (first-is random d more reply sends) ∙ no-reply-ended c random d is-over rs) ∙ laid-nothing out)
   stays (data-16 x) = (refl, refl)
   stays (data-7 g e) = (refl, refl)
   stays (data-8 g e n) = (refl, refl)
@@ -167,7 +203,7 @@ module _ (c : Connection) (b : c .handshake .state ≡ S.Barred) where
   received-seven : (d random out : List ℕ) (rs : List Record) → length random ≡ 16 → 128 ≤ length out → framingOf d ≡ framed rs
       → stepOf c (receive d random out) .result ≡ received (T.Records (length rs)) (slotsOf (refusedAll rs)) 0
   received-seven d random out rs e l f =
-      ap (λ s. s .result) (call-is c (receive-records {out = out} e l f (chain-seven random d (c .handshake) is-over rs)))
+      ap (λ s. s .result) (call-is c (by-chain c {out = out} e l f (chain-seven random d (c .handshake) is-over rs)))
       ∙ ap (λ reply. received (T.Records (length rs)) (slotsOf (refusedAll rs)) (length reply)) (no-reply-ended c random d is-over rs)
 
   answers-seven : AnswersSeven stepOf c

@@ -46,6 +46,7 @@ use Rattle.demands.specs.Calls.{Chain, chain-end, chain-more, ofHandshak
 use Rattle.demands.specs.Calls.{receive-16, receive-6, receive-framing, receive-records, data-16, data-7, data-8, data-15, data-6, data-sent, alert-16, alert-7, alert-8, alert-15, alert-6, alert-sent, close-7, close-done, start-7, start-8, start-done}
 use Rattle.demands.proofs.Genuine.{true-false}
 use Rattle.demands.proofs.Table.{row-of, row-is}
+use Rattle.demands.proofs.First.{first-sends, first-is}
 
 -- ---- records one after the other
 
@@ -65,6 +66,12 @@ module _ (random d : List ℕ) where
       (ap₂ (λ (x : Answer) (y : List Answer). x ∷ y) (ap (λ x. x .answer) e) (ap (λ x. answersOf (x .handshake) random d rs) e ∙ q .0), ap (λ x. endOf (x .handshake) random d rs) e ∙ q .1)
 
 -- ---- receive
+
+-- the row of a datagram by its chain alone: what it sends is what the judge keeps for it
+pub by-chain : (c : Connection) {d random out : List ℕ} {rs : List Record} {answers : List Answer} {left : Handshake} → length random ≡ 16
+    → 128 ≤ length out → framingOf d ≡ framed rs → Chain random d (c .handshake) rs answers left
+    → CallRow c (receive d random out) (taken out rs answers (firstReply (c .handshake) random d rs) left)
+by-chain c {d = d} {random = random} {rs = rs} e l f more = receive-records (firstReply (c .handshake) random d rs) e l f more (first-sends random d more)
 
 module _ (c : Connection) (d random out : List ℕ) where
   laid-none : laidOver out 0 [] ≡ out
@@ -91,7 +98,7 @@ module _ (c : Connection) (d random out : List ℕ) where
   receive-by false eb s es f ef = receive-16 (eqb-false (length random) 16 eb)
   receive-by true eb true es f ef = receive-6 (eqb-true (length random) 16 eb) (ltb-true (length out) 128 es)
   receive-by true eb false es (framed rs) ef =
-      receive-records (eqb-true (length random) 16 eb) (ltb-false (length out) 128 es) ef (chain-of random d (c .handshake) rs)
+      by-chain c (eqb-true (length random) 16 eb) (ltb-false (length out) 128 es) ef (chain-of random d (c .handshake) rs)
   receive-by true eb false es (faulty fault at) ef =
       subst (CallRow c (receive d random out)) (sym (misframed-is fault at))
       (receive-framing (eqb-true (length random) 16 eb) (ltb-false (length out) 128 es) ef)
@@ -432,11 +439,11 @@ call-is c (receive-6 {d = d} {random = random} {out = out} e l) =
     tests-are c d random out true true (framingOf d) (eq-eqb (length random) 16 e) (lt-ltb (length out) 128 l) refl ∙ no-room-is c d random out
 call-is c (receive-framing {d = d} {random = random} {out = out} {fault = fault} {at = at} e l f) =
     tests-are c d random out true false (faulty fault at) (eq-eqb (length random) 16 e) (le-ltb (length out) 128 l) f ∙ misframed-is c d random out fault at
-call-is c (receive-records {d = d} {random = random} {out = out} {rs = rs} e l f more) =
+call-is c (receive-records {d = d} {random = random} {out = out} {rs = rs} reply e l f more sends) =
     let q = chain-is random d more in
     tests-are c d random out true false (framed rs) (eq-eqb (length random) 16 e) (le-ltb (length out) 128 l) f
     ∙ taken-is c d random out rs
-    ∙ ap₂ (λ answers left. taken out rs answers (firstReply (c .handshake) random d rs) left) (q .0) (q .1)
+    ∙ (λ i. taken out rs (q .0 i) (first-is random d more reply sends i) (q .1 i))
 call-is c (data-16 {bytes = bytes} {out = out} b) = data-bad c bytes out b
 call-is c (data-7 {bytes = bytes} {out = out} g e) =
     data-good c bytes out g (O.Refused X.Ended) (ap (λ o. andThen o (numberedBy (c .handshake .protection .protected) (3 + length bytes + sizeOf (c .handshake .protection .keys .mac)) (length out))) (ended-data (c .handshake .state) e))

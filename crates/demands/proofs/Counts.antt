@@ -172,7 +172,7 @@ unfolding Eight
 eight c (receive-16 n) = slots-eight [] (omega arith)
 eight c (receive-6 e l) = slots-eight [] (omega arith)
 eight c (receive-framing e l f) = slots-eight [] (omega arith)
-eight c (receive-records {d = d} {random = random} {rs = rs} {answers = answers} e l f more) =
+eight c (receive-records {d = d} {random = random} {rs = rs} {answers = answers} reply e l f more sends) =
     slots-eight answers (omega (arith, chain-length random d more, covers d rs f .4))
 eight c (data-16 b) = tt
 eight c (data-7 g e) = tt

@@ -1,4 +1,6 @@
 -- The three demands hold.
+use Rattle.message.proofs.Written.{lists-as-written, hellos-as-written}
+use Rattle.message.proofs.Saying.{heard-as-said}
 use Rattle.demands.specs.Demands.{First, Second, Third, Demands}
 use Rattle.demands.proofs.Table.{table-holds}
 use Rattle.demands.proofs.Changes.{record-changes-only, refused-record, close-changes-only, start-changes-only}
@@ -10,6 +12,7 @@ use Rattle.demands.proofs.Finished.{only-after-finished}
 use Rattle.demands.proofs.InRuns.{protected-in-runs, checksum-in-runs, wrong-finished-in-runs, leaves-out-of-runs}
 use Rattle.demands.proofs.Replies.{replies-right}
 use Rattle.demands.proofs.Barred.{barred-only-by-fatal, barred-for-good}
+use Rattle.demands.proofs.Fatal.{fatal-in-runs}
 use Rattle.demands.proofs.Sends.{data-sent-right, alert-sent-right}
 use Rattle.demands.proofs.Written.{read-as-written}
 use Rattle.demands.proofs.LeftOut.{leaves-out}
@@ -18,6 +21,7 @@ use Rattle.demands.proofs.Traps.{empty-then-data, twice-in-one, closed-
 use Rattle.demands.proofs.Counts.{counts-right}
 use Rattle.demands.proofs.Works.{it-works}
 use Rattle.demands.proofs.Instances.{instances}
+use Rattle.demands.proofs.Cases.{cases}
 use Rattle.demands.proofs.Places.{runs-are-events, answers-in-place}
 use Rattle.demands.proofs.Gateways.{meets-2, meets-3, demand-2-table, demand-2-settles, five-fail}
 
@@ -38,6 +42,9 @@ second =
     record {
       table = table-holds;
       written = read-as-written;
+      lists-as-written = lists-as-written;
+      hellos-as-written = hellos-as-written;
+      heard-as-said = heard-as-said;
       record-changes = record-changes-only;
       data-changes = data-changes-only;
       alert-changes = alert-changes-only;
@@ -51,6 +58,7 @@ second =
       data-sent = data-sent-right;
       alert-sent = alert-sent-right;
       only-after-finished = only-after-finished;
+      fatal-in-runs = fatal-in-runs;
       only-by-fatal = barred-only-by-fatal;
       for-good = barred-for-good;
     }
@@ -76,6 +84,7 @@ demands =
       counts = counts-right;
       works = it-works;
       instances = instances;
+      cases = cases;
       runs-are-events = runs-are-events;
       answers-in-place = answers-in-place;
       meets-2 = meets-2;

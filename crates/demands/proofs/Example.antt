@@ -8,6 +8,7 @@ use native.Mathlib.Omega.{arith}
 use lib.ListN.{length}
 use lib.Dec.{lit≤}
 use Rattle.digest.specs.Mac.{listedAs, sameBytes}
+use Rattle.digest.specs.declared.mac.Mac.the-variants.{Sha80, Sha}
 use Rattle.record.specs.Datagram.{framed, framingOf}
 use Rattle.record.specs.declared.reader.Record.{Record}
 use Rattle.message.specs.Field.{fieldEnd, shortEnd, longEnd}
@@ -23,9 +24,9 @@ use Rattle.demands.specs.Genuine.{RecordOf}
 use Rattle.demands.specs.Events.{Event, took, AllSound, after}
 use Rattle.record.specs.Window.{Held}
 use Rattle.demands.specs.Runs.{freshWith}
-use Rattle.demands.specs.Example.{exampleId, exampleSecret, exampleWidth, exampleHello, exampleRandom, examplePlan, exampleOut, exampleData}
+use Rattle.demands.specs.Example.{exampleId, exampleSecret, exampleWidth, exampleHello, shaHello, exampleRandom, examplePlan, shaPlan, exampleOut, exampleData}
 use Rattle.demands.proofs.Table.{row-is}
-use Rattle.demands.proofs.Works.{Walk, walk}
+use Rattle.demands.proofs.Works.{Walk, walk, walk-mac, walk-refresh, walk-clear}
 
 pub example-heard : heardOf exampleHello exampleId ≡ Accepted examplePlan
 unfolding heardOf acceptedOf hasNull firstFit fitsPair readOf suitesEnd keysEnd keyList entriesFrom entryEnd identifierEnd specifierEnd fills longEnd shortEnd fieldEnd listedAs sameBytes
@@ -34,9 +35,33 @@ example-heard = refl
 pub example-held : Held exampleWidth
 example-held = (lit≤ tt, lit≤ tt)
 
+pub sha-heard : heardOf shaHello exampleId ≡ Accepted shaPlan
+unfolding heardOf acceptedOf hasNull firstFit fitsPair readOf suitesEnd keysEnd keyList entriesFrom entryEnd identifierEnd specifierEnd fills longEnd shortEnd fieldEnd listedAs sameBytes
+sha-heard = refl
+
 pub example-walk : Walk exampleId exampleSecret exampleWidth exampleRandom exampleData
 example-walk =
     walk exampleId exampleSecret exampleWidth example-held exampleHello exampleRandom exampleOut exampleData examplePlan refl (lit≤ tt) example-heard (lit≤ tt) (lit≤ tt)
+
+pub sha-walk : Walk exampleId exampleSecret exampleRandom exampleData
+sha-walk =
+    walk exampleId exampleSecret shaHello exampleRandom exampleOut exampleData shaPlan refl (lit≤ tt) sha-heard (lit≤ tt) (lit≤ tt)
+
+pub example-mac : example-walk .h₃ .protection .keys .mac ≡ Sha80
+unfolding example-walk
+example-mac = walk-mac exampleId exampleSecret exampleHello exampleRandom exampleOut exampleData examplePlan refl (lit≤ tt) example-heard (lit≤ tt) (lit≤ tt)
+
+pub sha-mac : sha-walk .h₃ .protection .keys .mac ≡ Sha
+unfolding sha-walk
+sha-mac = walk-mac exampleId exampleSecret shaHello exampleRandom exampleOut exampleData shaPlan refl (lit≤ tt) sha-heard (lit≤ tt) (lit≤ tt)
+
+pub example-refresh : example-walk .h₃ .protection .keys .refresh ≡ 3
+unfolding example-walk
+example-refresh = walk-refresh exampleId exampleSecret exampleHello exampleRandom exampleOut exampleData examplePlan refl (lit≤ tt) example-heard (lit≤ tt) (lit≤ tt)
+
+pub example-clear : example-walk .h₁ .protection .clear ≡ 2
+unfolding example-walk
+example-clear = walk-clear exampleId exampleSecret exampleHello exampleRandom exampleOut exampleData examplePlan refl (lit≤ tt) example-heard (lit≤ tt) (lit≤ tt)
 
 -- a walk as events: the first three from fresh are Open, and the fourth is data
 module _ (id secret random bytes : List ℕ) (lr : length random ≡ 16) {width : ℕ} (w : Walk id secret width random bytes) where

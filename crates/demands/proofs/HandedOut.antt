@@ -43,17 +43,17 @@ use Rattle.connection.specs.declared.answer.Answer.the-variants as W
 use Rattle.connection.specs.declared.answer.Judged.{Judged}
 use Rattle.connection.specs.declared.handshake.Handshake.{Handshake}
 use Rattle.connection.specs.declared.handshake.Session.{Session}
-use Rattle.demands.specs.Runs.{Call, send-data, send-alert, Step, stepOf}
+use Rattle.demands.specs.Runs.{Call, send-data, send-alert, close, start, Step, stepOf}
 use Rattle.record.specs.declared.keys.Keys.{Keys}
 use Rattle.demands.specs.Genuine.{Genuine, Sealed, RecordOf, keysOf, unitKey}
 use Rattle.demands.specs.Table.{Row, ended, allowed, sealedAllowed, clearAllowed, beginsHello, isHello, Hears, New, Guarded, Greets, MalformedAs, openIs, helloWhileOpen}
 use Rattle.demands.specs.Table.{row-ended, row-hello-while-open, row-not-allowed, row-not-first, row-reply, row-hello-malformed, row-unacceptable, row-resent, row-change, row-change-malformed, row-clear-malformed, row-checksum, row-clear-warning, row-clear-critical, row-clear-fatal, row-forged, row-old, row-repeated, row-malformed, row-data, row-warning, row-critical, row-barred, row-open, row-again, row-wrong-finished}
-use Rattle.demands.specs.Calls.{CallRow, data-16, data-7, data-8, data-15, data-6, data-sent, alert-16, alert-7, alert-8, alert-15, alert-6, alert-sent}
+use Rattle.demands.specs.Calls.{CallRow, data-16, data-7, data-8, data-15, data-6, data-sent, alert-16, alert-7, alert-8, alert-15, alert-6, alert-sent, close-7, close-done, start-7, start-8, start-done}
 use Rattle.demands.specs.Events.{Event, took, sending, alerting, closing, starting, Sound, AllSound, Happened, connectionOf, next, after, history}
 use Rattle.demands.specs.Past.{isData, keysIn, expectedIn, acceptedIn, barredIn}
 use Rattle.demands.specs.Course.{Course, genuineBytes, contentBytes, isNew, levelShuts, alertShuts, finishedShuts, contentShuts, withRecord, withEvent, courseOf, Ongoing, Due}
 use Rattle.demands.specs.Runs.{freshWith}
-use Rattle.demands.specs.HandedOut.{courseFrom, answerAt, HandedOut, HandedOnce}
+use Rattle.demands.specs.HandedOut.{courseAt, courseFrom, answerAt, HandedOut, HandedOnce}
 use Rattle.demands.proofs.Genuine.{true-false, sealed-right, sealed-content, right-sealed}
 use Rattle.demands.proofs.Table.{row-of, row-is}
 use Rattle.demands.proofs.Changes.{hello-clear}
@@ -92,7 +92,7 @@ module _ (width : ℕ) (held : Held width) (numbers : List ℕ) (s : ℕ) where
   due-below : ((n : ℕ) → accepted numbers n ≡ true → n < s + width) → highestOf numbers < s + width
   due-below b = below-all width (held-some width held) numbers s b
 
-  due-new : accepted numbers s ≡ false → ((n : ℕ) → accepted numbers n ≡ true → n < s + width)
+  pub due-new : accepted numbers s ≡ false → ((n : ℕ) → accepted numbers n ≡ true → n < s + width)
       → acceptOf (windowOf width numbers) s ≡ A.New (windowOf width (s ∷ numbers)) (arrivedOf width (s ∷ numbers))
   due-new a b = by-history ∙ new-when width numbers s (due-below b) a
 
@@ -271,7 +271,34 @@ module _ (k : Keys) (expected : List ℕ) (course : Course) (h : Handshake) (a :
   by-alert sealed level description lent out (alert-6 g e n l) = a
   by-alert sealed level description lent out (alert-sent {l = v} {k = m} g e n l) = sent-along sealed (nextAlert sealed h (alertBody v m lent))
 
-along-all : (k : Keys) (expected : List ℕ) (es : List Event) (course : Course) (h : Handshake) → Along k expected course h → Ongoing es
+  -- our own close ends it
+  close-ends : {s : Step} → CallRow (connectionOf h) close s → ended (s .connection .handshake .state) ≡ true
+  close-ends (close-7 e) = ap ended e
+  close-ends (close-done n) = refl
+
+  by-close : Along k expected (withEvent k expected course closing) (next h closing)
+  unfolding stepOf
+  by-close =
+      record {
+        is-open = λ f. true-false true refl f;
+        keys-same = λ f. true-false true refl f;
+        expected-same = λ f. true-false true refl f;
+        held = a .held;
+        window-same = λ f. true-false true refl f;
+        is-ended = λ _. close-ends (call-of (connectionOf h) close);
+      }
+
+  -- a start again is refused in Open
+  start-stays : h .state ≡ S.Open → {s : Step} → CallRow (connectionOf h) start s → s .connection .handshake ≡ h
+  start-stays o (start-7 e) = refl
+  start-stays o (start-8 n m) = refl
+  start-stays o (start-done e) = let z : S.Closed ≡ S.Open = sym e ∙ o in let n : _≡_ {A = ℕ} 0 1 = cc in absurd (omega arith)
+
+  by-start : course .shut ≡ false → Along k expected course (next h starting)
+  unfolding stepOf
+  by-start z = subst (Along k expected course) (sym (start-stays (a .is-open z) (call-of (connectionOf h) start))) a
+
+along-all : (k : Keys) (expected : List ℕ) (es : List Event) (course : Course) (h : Handshake) → Along k expected course h → Ongoing k expected course es
     → Along k expected (courseOf k expected course es) (after h es)
 unfolding courseOf after stepOf
 along-all k expected [] course h a go = a
@@ -281,8 +308,10 @@ along-all k expected (sending bytes out ∷ es) course h a go =
     along-all k expected es course (next h (sending bytes out)) (by-data k expected course h a bytes out (call-of (connectionOf h) (send-data bytes out))) go
 along-all k expected (alerting sealed level description lent out ∷ es) course h a go =
     along-all k expected es course (next h (alerting sealed level description lent out)) (by-alert k expected course h a sealed level description lent out (call-of (connectionOf h) (send-alert sealed level description lent out))) go
-along-all k expected (closing ∷ es) course h a go = absurd go
-along-all k expected (starting ∷ es) course h a go = absurd go
+along-all k expected (closing ∷ es) course h a go =
+    along-all k expected es (withEvent k expected course closing) (next h closing) (by-close k expected course h a) go
+along-all k expected (starting ∷ es) course h a go =
+    along-all k expected es course (next h starting) (by-start k expected course h a (go .0)) (go .1)
 
 -- an Open place of a run begins a course
 along-open : (session : Session) {width : ℕ} (past : List Happened) (h : Handshake) → Progress session width past h → h .state ≡ S.Open
@@ -441,7 +470,7 @@ module _ (k : Keys) (expected : List ℕ) (n : ℕ) where
   grows (took random d r ∷ es) course x = grows es (withRecord k expected course d r) (grows-record course d r x)
   grows (sending bytes out ∷ es) course x = grows es course x
   grows (alerting sealed level description lent out ∷ es) course x = grows es course x
-  grows (closing ∷ es) course x = grows es course x
+  grows (closing ∷ es) course x = grows es (withEvent k expected course closing) x
   grows (starting ∷ es) course x = grows es course x
 
 -- the width stays
@@ -461,7 +490,7 @@ width-stays k expected (took random d r ∷ es) course =
     (course .shut) (genuineBytes k d r) (isNew (course .width) (course .numbers) (r .number)) refl
 width-stays k expected (sending bytes out ∷ es) course = width-stays k expected es course
 width-stays k expected (alerting sealed level description lent out ∷ es) course = width-stays k expected es course
-width-stays k expected (closing ∷ es) course = width-stays k expected es course
+width-stays k expected (closing ∷ es) course = width-stays k expected es (withEvent k expected course closing)
 width-stays k expected (starting ∷ es) course = width-stays k expected es course
 
 -- what is due is used up
@@ -485,13 +514,13 @@ sound-more : (es fs : List Event) → AllSound es → AllSound fs → AllSound (
 sound-more [] fs a b = b
 sound-more (e ∷ es) fs a b = (a .0, sound-more es fs (a .1) b)
 
-ongoing-front : (es fs : List Event) → Ongoing (es ++ fs) → Ongoing es
-ongoing-front [] fs g = tt
-ongoing-front (took random d r ∷ es) fs g = ongoing-front es fs g
-ongoing-front (sending bytes out ∷ es) fs g = ongoing-front es fs g
-ongoing-front (alerting sealed level description lent out ∷ es) fs g = ongoing-front es fs g
-ongoing-front (closing ∷ es) fs g = absurd g
-ongoing-front (starting ∷ es) fs g = absurd g
+ongoing-front : (k : Keys) (expected : List ℕ) (es fs : List Event) (course : Course) → Ongoing k expected course (es ++ fs) → Ongoing k expected course es
+ongoing-front k expected [] fs course g = tt
+ongoing-front k expected (took random d r ∷ es) fs course g = ongoing-front k expected es fs (withEvent k expected course (took random d r)) g
+ongoing-front k expected (sending bytes out ∷ es) fs course g = ongoing-front k expected es fs course g
+ongoing-front k expected (alerting sealed level description lent out ∷ es) fs course g = ongoing-front k expected es fs course g
+ongoing-front k expected (closing ∷ es) fs course g = ongoing-front k expected es fs (withEvent k expected course closing) g
+ongoing-front k expected (starting ∷ es) fs course g = (g .0, ongoing-front k expected es fs course (g .1))
 
 pub handed-once : HandedOnce
 unfolding HandedOnce HandedOut courseOf
@@ -501,7 +530,7 @@ handed-once id secret width held es sound is-open later between sl sb random d r
     let past : List Happened = history h₀ es [] in
     let k : Keys = keysIn session past in
     let expected : List ℕ = expectedIn session past in
-    let first = handed-out id secret width held es sound is-open later sl (ongoing-front later (took random d r ∷ between) go) random d r here .0 .0 x in
+    let first = handed-out id secret width held es sound is-open later sl (ongoing-front k expected later (took random d r ∷ between) (courseAt width past) go) random d r here .0 .0 x in
     let second = handed-out id secret width held es sound is-open (later ++ (took random d r ∷ between)) (sound-more later (took random d r ∷ between) sl (here, sb)) go random′ d′ r′ there .0 .0 y in
     let still-held : Held (courseFrom session width past later .width)
     = subst Held (sym (width-stays k expected later (record { width = width; numbers = acceptedIn past; shut = false }))) held in

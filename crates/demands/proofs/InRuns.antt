@@ -240,4 +240,4 @@ leaves-out-of-runs id secret width held es sound is-open calls rest =
     let h : Handshake = after h₀ es in
     let p : Progress (sessionOf id secret) width past h = progress-all (sessionOf id secret) es [] h₀ sound (progress-fresh id secret width held) in
     let same : keysOf h ≡ keysIn (sessionOf id secret) past = keys-are (sessionOf id secret) past h p (live (sessionOf id secret) past h (p .kept) (ap ended is-open)) in
-    subst (λ k. (out : LeftOut k calls rest) → SameWithout stepOf k (connectionOf h) calls rest out) same (leaves-out (connectionOf h) is-open calls rest)
+    subst (λ k. (out : LeftOut stepOf k (connectionOf h) calls rest) → SameWithout stepOf k (connectionOf h) calls rest out) same (leaves-out (connectionOf h) is-open calls rest)

@@ -105,12 +105,12 @@ sent-settled k true h bytes s = s
 sent-settled k false h bytes s = s
 
 module _ (k : Keys) (c : Connection) where
-  call-settled : {call : Call} {s : Step} → CallRow c call s → Continues call → Settled k (c .handshake) → Settled k (s .connection .handshake)
+  call-settled : {call : Call} {s : Step} → CallRow c call s → Continues (c .handshake .state) call → Settled k (c .handshake) → Settled k (s .connection .handshake)
   unfolding Settled
   call-settled (receive-16 n) go s = s
   call-settled (receive-6 e l) go s = s
   call-settled (receive-framing e l f) go s = s
-  call-settled (receive-records {d = d} {random = random} e l f more) go s = chain-settled k random d more s
+  call-settled (receive-records {d = d} {random = random} reply e l f more sends) go s = chain-settled k random d more s
   call-settled (data-16 b) go s = s
   call-settled (data-7 g e) go s = s
   call-settled (data-8 g e n) go s = s
@@ -128,7 +128,7 @@ module _ (k : Keys) (c : Connection) where
   call-settled (close-done n) go s = inr refl
   call-settled (start-7 e) go s = s
   call-settled (start-8 n m) go s = s
-  call-settled (start-done e) go s = absurd go
+  call-settled (start-done e) go s = absurd (go e)
 
 -- ---- answers that hand out nothing, and count as forged at most
 
@@ -307,21 +307,21 @@ module _ (k : Keys) (d random : List ℕ) (ng : NoneGenuine k d) where
   whole-noise c out (receive-16 n) s = (refl, slots-silent [] tt)
   whole-noise c out (receive-6 e l) s = (refl, slots-silent [] tt)
   whole-noise c out (receive-framing e l f) s = (refl, slots-silent [] tt)
-  whole-noise c out (receive-records {answers = answers} e l f more) s =
+  whole-noise c out (receive-records {answers = answers} reply e l f more sends) s =
       let q = chain-noise more [] f s in
       ((λ i. record { handshake = q .0 i }), slots-silent answers (q .1))
 
 -- ---- the run
 
 module _ (k : Keys) where
-  pub same-connections : (c : Connection) {calls rest : List Call} (out : LeftOut k calls rest) → Settled k (c .handshake) → finalOf stepOf c calls ≡ finalOf stepOf c rest
+  pub same-connections : (c : Connection) {calls rest : List Call} (out : LeftOut stepOf k c calls rest) → Settled k (c .handshake) → finalOf stepOf c calls ≡ finalOf stepOf c rest
   unfolding finalOf
   same-connections c end s = refl
   same-connections c (stays {call = call} go more) s = same-connections (stepOf c call .connection) more (call-settled k c (call-of c call) go s)
   same-connections c (left {d = d} {random = random} {out = out} {calls = calls} ng more) s =
       ap (λ x. finalOf stepOf x calls) (whole-noise k d random ng c out (call-of c (receive d random out)) s .0) ∙ same-connections c more s
 
-  pub same-handeds : (c : Connection) {calls rest : List Call} (out : LeftOut k calls rest) → Settled k (c .handshake) → handedBy stepOf c calls ≡ handedBy stepOf c rest
+  pub same-handeds : (c : Connection) {calls rest : List Call} (out : LeftOut stepOf k c calls rest) → Settled k (c .handshake) → handedBy stepOf c calls ≡ handedBy stepOf c rest
   unfolding handedBy
   same-handeds c end s = refl
   same-handeds c (stays {call = call} go more) s =
@@ -330,7 +330,7 @@ module _ (k : Keys) where
       let q = whole-noise k d random ng c out (call-of c (receive d random out)) s in
       ap₂ (λ x y. x ++ handedBy stepOf y calls) (handed-none d (answersIn (stepOf c (receive d random out) .result)) (q .1)) (q .0) ∙ same-handeds c more s
 
-  pub same-left : (c : Connection) {calls rest : List Call} (out : LeftOut k calls rest) → Settled k (c .handshake) → stepsLeft out (stepsOf stepOf c calls) ≡ stepsOf stepOf c rest
+  pub same-left : (c : Connection) {calls rest : List Call} (out : LeftOut stepOf k c calls rest) → Settled k (c .handshake) → stepsLeft out (stepsOf stepOf c calls) ≡ stepsOf stepOf c rest
   unfolding stepsOf stepsLeft
   same-left c end s = refl
   same-left c (stays {call = call} go more) s =
@@ -344,7 +344,7 @@ module _ (k : Keys) where
   quiet-result t (sent outcome written) s = same-tally t
   quiet-result t (called outcome) s = same-tally t
 
-  pub same-tallies : (t u : Tally) → ButForged t u → (c : Connection) {calls rest : List Call} (out : LeftOut k calls rest) → Settled k (c .handshake)
+  pub same-tallies : (t u : Tally) → ButForged t u → (c : Connection) {calls rest : List Call} (out : LeftOut stepOf k c calls rest) → Settled k (c .handshake)
       → ButForged (talliedBy stepOf t c calls) (talliedBy stepOf u c rest)
   unfolding talliedBy
   same-tallies t u b c end s = b

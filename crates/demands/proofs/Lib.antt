@@ -2,6 +2,7 @@
 pub mod Genuine
 pub mod Table
 pub mod Changes
+pub mod First
 pub mod Calls
 pub mod Refusals
 pub mod SentRecords
@@ -20,7 +21,9 @@ pub mod Gateways
 pub mod Written
 pub mod Traps
 pub mod Instances
+pub mod Cases
 pub mod Exactly
 pub mod Replies
 pub mod InRuns
+pub mod Fatal
 pub mod Demands

@@ -23,7 +23,7 @@ use Rattle.demands.specs.Calls.{CallRow, receive-16, receive-6, receive-
 use Rattle.demands.specs.Events.{Event, took, sending, alerting, closing, starting, Sound, AllSound, recordsIn, eventsIn, eventsOf, next, after}
 use Rattle.demands.specs.LeftOut.{answersIn}
 use Rattle.demands.specs.Places.{RunsAreEvents, answerOf, AnswersInPlace}
-use Rattle.demands.proofs.Calls.{call-of, call-is, chain-of, chain-is}
+use Rattle.demands.proofs.Calls.{by-chain, call-of, call-is, chain-of, chain-is}
 
 pub after-more : (h : Handshake) (es fs : List Event) → after h (es ++ fs) ≡ after (after h es) fs
 unfolding after
@@ -60,7 +60,7 @@ module _ (d random out : List ℕ) where
   receive-after c (receive-6 e l) = sym (ap (after (c .handshake)) (events-are true true (framingOf d) (eq-eqb (length random) 16 e) (lt-ltb (length out) 128 l) refl))
   receive-after c (receive-framing {fault = fault} {at = at} e l f) =
       sym (ap (after (c .handshake)) (events-are true false (faulty fault at) (eq-eqb (length random) 16 e) (le-ltb (length out) 128 l) f))
-  receive-after c (receive-records {rs = rs} e l f more) =
+  receive-after c (receive-records {rs = rs} reply e l f more sends) =
       sym (chain-is random d more .1) ∙ sym (after-records (c .handshake) random d rs)
       ∙ sym (ap (after (c .handshake)) (events-are true false (framed rs) (eq-eqb (length random) 16 e) (le-ltb (length out) 128 l) f))
 
@@ -131,7 +131,7 @@ answers-in-place c d random out before r behind e l f =
     let left : Handshake = endOf h random d before in
     let all = answersOf h random d before in
     let more = answersOf (judgedRecord left random d r .handshake) random d behind in
-    ap (λ s. getD (answersIn (s .result)) (length before) (slot W.Nothing) .answer) (call-is c (receive-records {out = out} e l f (chain-of random d h (before ++ (r ∷ behind)))))
+    ap (λ s. getD (answersIn (s .result)) (length before) (slot W.Nothing) .answer) (call-is c (by-chain c {out = out} e l f (chain-of random d h (before ++ (r ∷ behind)))))
     ∙ ap₂ (λ x n. getD (slotsOf x) n (slot W.Nothing) .answer) (answers-more h random d before (r ∷ behind)) (sym (length-answers h random d before))
     ∙ ap (λ s. s .answer) (slots-at all (judgedRecord left random d r .answer) more)
     ∙ sym (ap (λ x. judgedRecord x random d r .answer) (after-records h random d before))

@@ -30,6 +30,7 @@ use Rattle.demands.specs.Runs.{Call, receive, send-data, send-alert, clo
 use Rattle.demands.specs.Calls.{CallRow, receive-16, receive-6, receive-framing, receive-records, data-16, data-7, data-8, data-15, data-6, data-sent, alert-16, alert-7, alert-8, alert-15, alert-6, alert-sent, close-7, close-done, start-7, start-8, start-done}
 use Rattle.demands.specs.Refusals.{lentBy, IsRefused, writtenBy, RefusedCallChangesNothing, NothingWrittenWithoutReply, RefusedByTheList}
 use Rattle.demands.specs.Changes.{afterSending, DataChangesOnly, AlertChangesOnly}
+use Rattle.demands.proofs.First.{first-is}
 use Rattle.demands.proofs.Calls.{call-of}
 
 module _ (c : Connection) where
@@ -38,7 +39,7 @@ module _ (c : Connection) where
   by-row (receive-16 n) x = (refl, refl, refl)
   by-row (receive-6 e l) x = (refl, refl, refl)
   by-row (receive-framing e l f) x = (refl, refl, refl)
-  by-row (receive-records e l f more) x = absurd x
+  by-row (receive-records reply e l f more sends) x = absurd x
   by-row (data-16 b) x = (refl, refl, refl)
   by-row (data-7 g e) x = (refl, refl, refl)
   by-row (data-8 g e n) x = (refl, refl, refl)
@@ -80,8 +81,8 @@ module _ (c : Connection) (d random out : List ℕ) (r : Record) (rs : List Reco
   unwritten (receive-16 n) = (refl, refl)
   unwritten (receive-6 e l) = (refl, refl)
   unwritten (receive-framing e l g) = (refl, refl)
-  unwritten (receive-records {rs = qs} e l g more) =
-      let none : firstReply (c .handshake) random d qs ≡ [] = ap (firstReply (c .handshake) random d) (framed-one qs (r ∷ rs) (framingOf d) g f) ∙ no-reply c random d r rs z in
+  unwritten (receive-records {rs = qs} reply e l g more sends) =
+      let none : reply ≡ [] = sym (first-is random d more reply sends) ∙ ap (firstReply (c .handshake) random d) (framed-one qs (r ∷ rs) (framingOf d) g f) ∙ no-reply c random d r rs z in
       (ap (laidOver out 0) none ∙ laid-nothing out, ap length none)
 
 pub nothing-written : NothingWrittenWithoutReply

@@ -26,21 +26,16 @@ use Rattle.connection.specs.declared.handshake.Session.{Session}
 use Rattle.demands.specs.Runs.{receive, stepOf, freshWith}
 use Rattle.demands.specs.Table.{Row, Hears, Greets, isHello}
 use Rattle.demands.specs.Table.{row-ended, row-hello-while-open, row-not-allowed, row-not-first, row-reply, row-hello-malformed, row-unacceptable, row-resent, row-change, row-change-malformed, row-clear-malformed, row-checksum, row-clear-warning, row-clear-critical, row-clear-fatal, row-forged, row-old, row-repeated, row-malformed, row-data, row-warning, row-critical, row-barred, row-open, row-again, row-wrong-finished}
-use Rattle.demands.specs.Calls.{taken, receive-records}
+use Rattle.demands.specs.Calls.{taken}
 use Rattle.demands.specs.Refusals.{writtenBy}
 use Rattle.demands.specs.Events.{Event, Happened, connectionOf, after, history}
 use Rattle.demands.specs.Past.{keptGreeting, replyFor, barredIn}
 use Rattle.demands.specs.Kept.{KeptAs}
 use Rattle.demands.specs.Replies.{Sends, RepliesRight}
 use Rattle.demands.proofs.Table.{row-of}
-use Rattle.demands.proofs.Calls.{call-is, chain-of}
+use Rattle.demands.proofs.First.{take-taken}
+use Rattle.demands.proofs.Calls.{by-chain, call-is, chain-of}
 use Rattle.demands.proofs.Kept.{kept-all, kept-fresh, live, hears-live, greets-live}
-
--- as many as were taken
-take-taken : (n : ℕ) (l : List ℕ) → take (length (take n l)) l ≡ take n l
-take-taken zero l = refl
-take-taken (suc n) [] = refl
-take-taken (suc n) (x ∷ l) = ap (λ t. x ∷ t) (take-taken n l)
 
 module _ (session : Session) {width : ℕ} (past : List Happened) (h : Handshake) (k : KeptAs session width past h) (random d : List ℕ) (r : Record) where
   abbrev Sent : Judged → Type 0
@@ -100,7 +95,7 @@ replies-right id secret width held es d random out r rs e l f =
     let h : Handshake = after (freshWith id secret width) es in
     let k : KeptAs (sessionOf id secret) width past h = kept-all (sessionOf id secret) es [] (freshWith id secret width) (kept-fresh id secret width held) in
     let q = by-row (sessionOf id secret) past h k random d r (row-of h random d r) in
-    let is = call-is (connectionOf h) (receive-records {out = out} e l f (chain-of random d h (r ∷ rs))) in (
+    let is = call-is (connectionOf h) (by-chain (connectionOf h) {out = out} e l f (chain-of random d h (r ∷ rs))) in (
       q .0,
       q .1,
       ap (λ s. s .output) is ∙ ap (laidOver out 0) (q .2),

@@ -40,11 +40,11 @@ use Rattle.demands.specs.Runs.{receive, received, stepOf}
 use Rattle.record.specs.declared.keys.Keys.{Keys}
 use Rattle.demands.specs.Genuine.{Sealed, keysOf, unitKey}
 use Rattle.demands.specs.Table.{Row, New, Guarded, sealedAllowed, row-ended, row-repeated, row-malformed, row-data, row-critical}
-use Rattle.demands.specs.Calls.{Chain, chain-end, chain-more, receive-records}
+use Rattle.demands.specs.Calls.{Chain, chain-end, chain-more}
 use Rattle.demands.specs.Events.{connectionOf}
 use Rattle.demands.specs.Traps.{longSealed, lastSealed, JustOpen, EmptyThenData, TwiceInOne, ClosedBetween}
 use Rattle.demands.proofs.Table.{row-is}
-use Rattle.demands.proofs.Calls.{call-is}
+use Rattle.demands.proofs.Calls.{by-chain, call-is}
 use Rattle.demands.proofs.Refusals.{no-reply}
 use Rattle.demands.proofs.Wire.{front-framed, last-framed, sized, sealed-size, sealed-read, sealed-framed, sealed-fragment, long-size, long-read, long-fragment, behind}
 
@@ -54,7 +54,7 @@ result-by : (c : Connection) (d random out : List ℕ) (r : Record) (rs : List R
     → Chain random d (j .handshake) rs answers last
     → stepOf c (receive d random out) .result ≡ received (T.Records (suc (length rs))) (slotsOf (j .answer ∷ answers)) 0
 result-by c d random out r rs j answers last e l f row z more =
-    ap (λ s. s .result) (call-is c (receive-records {out = out} e l f (chain-more row more)))
+    ap (λ s. s .result) (call-is c (by-chain c {out = out} e l f (chain-more row more)))
     ∙ ap (λ x. received (T.Records (suc (length rs))) (slotsOf (j .answer ∷ answers)) (length x))
     (no-reply c random d r rs (ap (λ x. replySize (x .answer)) (row-is (c .handshake) random d r row) ∙ z))
 
@@ -62,7 +62,7 @@ left-by : (c : Connection) (d random out : List ℕ) (r : Record) (rs : List Rec
     → length random ≡ 16 → 128 ≤ length out → framingOf d ≡ framed (r ∷ rs) → Row (c .handshake) random d r j
     → Chain random d (j .handshake) rs answers last → stepOf c (receive d random out) .connection ≡ connectionOf last
 left-by c d random out r rs j answers last e l f row more =
-    ap (λ s. s .connection) (call-is c (receive-records {out = out} e l f (chain-more row more)))
+    ap (λ s. s .connection) (call-is c (by-chain c {out = out} e l f (chain-more row more)))
 
 -- the windows
 unfoldable pub w₀ : ℕ → Window

@@ -60,13 +60,13 @@ use Rattle.demands.specs.Runs.{receive, received, Step, stepOf}
 use Rattle.record.specs.declared.keys.Keys.{Keys}
 use Rattle.demands.specs.Genuine.{Sealed, RecordOf, keysOf, unitKey}
 use Rattle.demands.specs.Table.{Row, New, Guarded, Greets, isHello, row-reply, row-change, row-open, row-data}
-use Rattle.demands.specs.Calls.{chain-end, chain-more, taken, receive-records}
+use Rattle.demands.specs.Calls.{chain-end, chain-more, taken}
 use Rattle.demands.specs.Events.{connectionOf}
 use Rattle.demands.specs.Runs.{freshWith}
 use Rattle.demands.specs.Works.{clearDatagram, sealedDatagram, keysAfter, oneAnswer, Worked, Works}
 use Rattle.demands.proofs.Genuine.{true-false}
 use Rattle.demands.proofs.Table.{row-is}
-use Rattle.demands.proofs.Calls.{call-is}
+use Rattle.demands.proofs.Calls.{by-chain, call-is}
 use Rattle.demands.proofs.Refusals.{laid-nothing}
 use Rattle.demands.proofs.HandedOut.{handed-part}
 use Rattle.demands.proofs.Wire.{clear-framed, clear-fragment, sealed-framed, sealed-fragment}
@@ -78,7 +78,7 @@ one-record : (c : Connection) (d random out : List ℕ) (r : Record) (j : Judged
     → stepOf c (receive d random out) ≡ record { result = oneAnswer (j .answer) (length (sentBy j)); output = laidOver out 0 (sentBy j); connection = connectionOf (j .handshake) }
 unfolding firstReply
 one-record c d random out r j e l f row =
-    call-is c (receive-records {out = out} e l f (chain-more row chain-end))
+    call-is c (by-chain c {out = out} e l f (chain-more row chain-end))
     ∙ ap (λ x. taken out (r ∷ []) (j .answer ∷ []) (sentBy x) (j .handshake)) (row-is (c .handshake) random d r row)
 
 -- one that sends nothing
@@ -332,6 +332,19 @@ module _ (id secret : List ℕ) (width : ℕ) (held : Held width) (m random out 
         window-is = refl;
         next-is = refl;
       }
+
+  -- what it agreed
+  pub walk-mac : walk .h₃ .protection .keys .mac ≡ plan .mac
+  unfolding walk h₁ answeredWith h₂ h₃
+  walk-mac = refl
+
+  pub walk-refresh : walk .h₃ .protection .keys .refresh ≡ plan .refresh
+  unfolding walk h₁ answeredWith h₂ h₃
+  walk-refresh = refl
+
+  pub walk-clear : walk .h₁ .protection .clear ≡ 2
+  unfolding walk h₁ answeredWith
+  walk-clear = refl
 
   pub worked : Worked stepOf id secret width m random out bytes plan
   worked =

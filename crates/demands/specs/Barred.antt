@@ -9,6 +9,9 @@ use lib.ListN.{length}
 use Rattle.record.specs.Datagram.{framed, framingOf}
 use Rattle.record.specs.declared.reader.Record.{Record}
 use Rattle.record.specs.declared.header.Content.the-variants as C
+use Rattle.record.specs.Window.{acceptOf}
+use Rattle.record.specs.declared.window.Window.{Window}
+use Rattle.record.specs.declared.window.Acceptance.the-variants as A
 use Rattle.message.specs.Alert.{alertOf, levelOf, sortedOf}
 use Rattle.message.specs.declared.alert.Alert.{Alert}
 use Rattle.message.specs.declared.alert.Level.{Level}
@@ -28,10 +31,11 @@ use Rattle.connection.specs.declared.receive.Taken.the-variants as T
 use Rattle.connection.specs.declared.handshake.Handshake.{Handshake}
 use Rattle.demands.specs.Runs.{Call, receive, send-data, send-alert, close, start, Result, received, sent, called, Step, Gateway, stepOf, finalOf}
 use Rattle.demands.specs.Genuine.{Genuine, keysOf}
+use Rattle.demands.specs.Table.{Guarded}
 use Rattle.demands.specs.Events.{Event, took, Sound, next}
 use Rattle.demands.specs.Refusals.{lentBy}
 
--- a protected fatal alert: genuine, and well formed
+-- a protected fatal alert, of a kind that the state allows: genuine, its number new to the window, and well formed
 pub record FatalUnderCode (h : Handshake) (e : Event) : Type 0 where
   pub random : List ℕ
   pub d : List ℕ
@@ -39,12 +43,16 @@ pub record FatalUnderCode (h : Handshake) (e : Event) : Type 0 where
   pub c : List ℕ
   pub a : Alert
   pub event : e ≡ took random d r
+  pub taken : Guarded h r
   pub genuine : Genuine (keysOf h) d r c
+  pub w : Window
+  pub arrived : ℕ
+  pub new : acceptOf (h .protection .window) (r .number) ≡ A.New w arrived
   pub alert : r .content ≡ C.Alert
   pub well-formed : alertOf c ≡ R.WellFormed a
   pub fatal : a .level ≡ L.Fatal
 
--- Barred is reached by a genuine fatal alert only
+-- Barred is reached by a genuine, new fatal alert only
 unfoldable pub BarredOnlyByFatal : Type 0
 BarredOnlyByFatal =
     (h : Handshake) (e : Event) → Sound e → h .state ≢ Barred → next h e .state ≡ Barred → FatalUnderCode h e

@@ -15,20 +15,26 @@ use Rattle.record.specs.Window.{Held}
 use Rattle.record.specs.declared.header.Content.the-variants as C
 use Rattle.record.specs.declared.reader.Fault.{Fault}
 use Rattle.record.specs.declared.reader.Record.{Record}
+use Rattle.message.specs.Acceptance.{heardOf}
 use Rattle.message.specs.Alert.{levelOf, sortedOf}
+use Rattle.message.specs.declared.acceptance.Plan.{Plan}
+use Rattle.message.specs.declared.acceptance.Heard.the-variants as H
 use Rattle.message.specs.declared.alert.Level.{Level}
 use Rattle.message.specs.declared.alert.Description.{Description}
 use Rattle.message.specs.declared.alert.Graded.the-variants as G
 use Rattle.message.specs.declared.alert.Sorted.the-variants as D
 use Rattle.connection.specs.Calls.{freshOf, leaving}
-use Rattle.connection.specs.Handshake.{withState, reopened, blankHandshake}
-use Rattle.connection.specs.Receive.{slotsOf, firstReply}
+use Rattle.connection.specs.Handshake.{withState, reopened, blankHandshake, planted, keptReply}
+use Rattle.connection.specs.Judge.{fragmentOf}
+use Rattle.connection.specs.Receive.{slotsOf}
+use Rattle.connection.specs.Reply.{replyTo}
 use Rattle.connection.specs.Send.{nextProtected, nextAlert, afterProtected, afterAlert, alertBody}
 use Rattle.connection.specs.declared.state.State.{State}
 use Rattle.connection.specs.declared.state.State.the-variants.{Idle, Replied, Spec, Open, Closed, Barred}
 use Rattle.connection.specs.declared.refusal.Refusal.{Refusal}
 use Rattle.connection.specs.declared.refusal.Refusal.the-variants as X
 use Rattle.connection.specs.declared.answer.Answer.{Answer}
+use Rattle.connection.specs.declared.answer.Answer.the-variants as W
 use Rattle.connection.specs.declared.answer.Judged.{Judged}
 use Rattle.connection.specs.declared.calls.Connection.{Connection}
 use Rattle.connection.specs.declared.calls.Called.{Called}
@@ -47,6 +53,29 @@ pub data Chain (random d : List ℕ) : Handshake → List Record → List Answer
   chain-more : {h : Handshake} {r : Record} {rs : List Record} {j : Judged} {answers : List Answer} {left : Handshake}
       → Row h random d r j
       → Chain random d (j .handshake) rs answers left → Chain random d h (r ∷ rs) (j .answer ∷ answers) left
+
+-- What a record sends, by its answer: a new reply is that of the session to this hello with our random; "the same reply
+-- bytes" are those that are kept; nothing else sends.
+abbrev pub SendsBy : Handshake → List ℕ → List ℕ → Answer → List ℕ → Type 0
+SendsBy h random m W.Nothing bytes = bytes ≡ []
+SendsBy h random m (W.Reply size) bytes =
+    (plan : Plan) × (heardOf m (h .id) ≡ H.Accepted plan) × (bytes ≡ replyTo (planted h) random m plan)
+SendsBy h random m (W.Resent size) bytes = bytes ≡ keptReply h
+SendsBy h random m W.Spec bytes = bytes ≡ []
+SendsBy h random m W.Open bytes = bytes ≡ []
+SendsBy h random m W.Again bytes = bytes ≡ []
+SendsBy h random m (W.Data number place size) bytes = bytes ≡ []
+SendsBy h random m (W.Warning description) bytes = bytes ≡ []
+SendsBy h random m (W.Critical description) bytes = bytes ≡ []
+SendsBy h random m (W.Fatal description) bytes = bytes ≡ []
+SendsBy h random m (W.Barred description) bytes = bytes ≡ []
+SendsBy h random m (W.Refused refusal) bytes = bytes ≡ []
+
+-- What a datagram sends: what its first record sends. (A ClientHello "may stand only first in its datagram".)
+abbrev pub FirstSends : Handshake → List ℕ → List ℕ → List Record → List Answer → List ℕ → Type 0
+FirstSends h random d [] answers bytes = bytes ≡ []
+FirstSends h random d (r ∷ rs) [] bytes = ⊥
+FirstSends h random d (r ∷ rs) (a ∷ answers) bytes = SendsBy h random (fragmentOf d r) a bytes
 
 abbrev pub ofHandshake : Handshake → Connection
 ofHandshake h = record { handshake = h }
@@ -121,10 +150,11 @@ pub data CallRow (c : Connection) : Call → Step → Type 0 where
   receive-framing : {d random out : List ℕ} {fault : Fault} {at : ℕ} → length random ≡ 16 → 128 ≤ length out
       → framingOf d ≡ faulty fault at
       → CallRow c (receive d random out) (notTaken c out (T.Misframed (X.Framing fault) at))
-  receive-records : {d random out : List ℕ} {rs : List Record} {answers : List Answer} {left : Handshake}
+  receive-records : {d random out : List ℕ} {rs : List Record} {answers : List Answer} {left : Handshake} (reply : List ℕ)
       → length random ≡ 16 → 128 ≤ length out
       → framingOf d ≡ framed rs → Chain random d (c .handshake) rs answers left
-      → CallRow c (receive d random out) (taken out rs answers (firstReply (c .handshake) random d rs) left)
+      → FirstSends (c .handshake) random d rs answers reply
+      → CallRow c (receive d random out) (taken out rs answers reply left)
   -- send data
   data-16 : {bytes out : List ℕ} → BadData bytes → CallRow c (send-data bytes out) (notSent c out X.Argument)
   data-7 : {bytes out : List ℕ} → GoodData bytes → ended (c .handshake .state) ≡ true

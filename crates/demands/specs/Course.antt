@@ -1,4 +1,5 @@
--- Demand 3 by the bytes alone: which numbers the unit's records have used up, and whether one of them closed.
+-- Demand 3 by the bytes and our own calls: which numbers the unit's records have used up, and whether one of them, or we,
+-- closed.
 use mathlib.Core.Path.{_≡_}
 use mathlib.Core.Bool.{Bool, true, false}
 use mathlib.Core.List.{List, [], _∷_}
@@ -26,7 +27,7 @@ use Rattle.record.specs.declared.keys.Keys.{Keys}
 use Rattle.demands.specs.Genuine.{Genuine, unitKey}
 use Rattle.demands.specs.Events.{Event, took, sending, alerting, closing, starting}
 
--- the width of the window, the numbers accepted, the latest first, and whether a genuine record closed
+-- the width of the window, the numbers accepted, the latest first, and whether a genuine record or a close closed
 pub record Course : Type 0 where
   pub width : ℕ
   pub numbers : List ℕ
@@ -80,21 +81,21 @@ abbrev pub withEvent : Keys → List ℕ → Course → Event → Course
 withEvent k expected course (took random d r) = withRecord k expected course d r
 withEvent k expected course (sending bytes out) = course
 withEvent k expected course (alerting sealed level description answered out) = course
-withEvent k expected course closing = course
+withEvent k expected course closing = record { width = course .width; numbers = course .numbers; shut = true }
 withEvent k expected course starting = course
 
 unfoldable pub courseOf : Keys → List ℕ → Course → List Event → Course
 courseOf k expected course [] = course
 courseOf k expected course (e ∷ es) = courseOf k expected (withEvent k expected course e) es
 
--- no closing and no start of our own
-abbrev pub Ongoing : List Event → Type 0
-Ongoing [] = Unit
-Ongoing (took random d r ∷ es) = Ongoing es
-Ongoing (sending bytes out ∷ es) = Ongoing es
-Ongoing (alerting sealed level description answered out ∷ es) = Ongoing es
-Ongoing (closing ∷ es) = ⊥
-Ongoing (starting ∷ es) = ⊥
+-- no start again that takes effect: it comes only where nothing closed, and is refused there
+abbrev pub Ongoing : Keys → List ℕ → Course → List Event → Type 0
+Ongoing k expected course [] = Unit
+Ongoing k expected course (took random d r ∷ es) = Ongoing k expected (withEvent k expected course (took random d r)) es
+Ongoing k expected course (sending bytes out ∷ es) = Ongoing k expected course es
+Ongoing k expected course (alerting sealed level description answered out ∷ es) = Ongoing k expected course es
+Ongoing k expected course (closing ∷ es) = Ongoing k expected (withEvent k expected course closing) es
+Ongoing k expected course (starting ∷ es) = (course .shut ≡ false) × Ongoing k expected course es
 
 -- "Each genuine data record of at least one byte, whose number was not accepted before and is above the highest
 -- accepted less 32", now "less the width": what is to be handed out at this place of the course, with the content c

@@ -1,4 +1,5 @@
 -- The three demands, each sentence with the statements that render it. `proofs/Demands.antt` has all of them at once.
+use Rattle.message.specs.Said.{ListsAsWritten, HellosAsWritten, HeardAsSaid}
 use Rattle.demands.specs.Runs.{stepOf}
 use Rattle.demands.specs.Table.{TableHolds}
 use Rattle.demands.specs.Calls.{CallsHold, FreshHolds}
@@ -10,6 +11,7 @@ use Rattle.demands.specs.Finished.{OnlyAfterFinished}
 use Rattle.demands.specs.InRuns.{ProtectedInRuns, ChecksumInRuns, WrongFinishedInRuns, LeavesOutOfRuns}
 use Rattle.demands.specs.Replies.{RepliesRight}
 use Rattle.demands.specs.Barred.{BarredOnlyByFatal, BarredForGood}
+use Rattle.demands.specs.Fatal.{FatalInRuns}
 use Rattle.demands.specs.Sends.{DataSentRight, AlertSentRight}
 use Rattle.demands.specs.Written.{ReadAsWritten}
 use Rattle.demands.specs.LeftOut.{LeavesOut, talliedIn}
@@ -20,6 +22,7 @@ use Rattle.demands.specs.Works.{Works}
 use Rattle.demands.specs.Places.{RunsAreEvents, AnswersInPlace}
 use Rattle.demands.specs.Gateways.{Demand2, Demand3, Demand2IsTable, Demand2Settles, FiveFail}
 use Rattle.demands.specs.Instances.{Instances}
+use Rattle.demands.specs.Cases.{Cases}
 
 -- "The gateway takes every datagram, of any content, and every order of calls, and always comes back. Bad input is
 -- refused with a number from the list. A refused call writes nothing into the output we lend, and the connection is as
@@ -38,6 +41,11 @@ pub record First : Type 0 where
 pub record Second : Type 0 where
   pub table : TableHolds
   pub written : ReadAsWritten
+  -- key lists and hellos are those that are written of values, each field where it was written; and what is heard of a
+  -- hello is what its values say: "the first such pair is chosen", "its key refresh is repeated back"
+  pub lists-as-written : ListsAsWritten
+  pub hellos-as-written : HellosAsWritten
+  pub heard-as-said : HeardAsSaid
   pub record-changes : RecordChangesOnly
   pub data-changes : DataChangesOnly
   pub alert-changes : AlertChangesOnly
@@ -53,6 +61,7 @@ pub record Second : Type 0 where
   -- "Data is handed out only after the unit's Finished has been verified."
   pub only-after-finished : OnlyAfterFinished
   -- "A fatal alert accepted under its authentication code bars that connection's session from being resumed."
+  pub fatal-in-runs : FatalInRuns
   pub only-by-fatal : BarredOnlyByFatal
   pub for-good : BarredForGood
 
@@ -78,6 +87,7 @@ pub record Demands : Type 0 where
   -- no premise is empty, and a run of calls is a run of events
   pub works : Works stepOf
   pub instances : Instances
+  pub cases : Cases
   pub runs-are-events : RunsAreEvents
   pub answers-in-place : AnswersInPlace
   -- demands 2 and 3 of any gateway; 01: "These must not pass"

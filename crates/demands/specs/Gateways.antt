@@ -4,17 +4,18 @@
 -- the first record of a datagram and only acknowledges the rest (one answer per record, demand 2); an invented tally
 -- (the history rule)."
 use mathlib.Core.Path.{_≡_}
-use mathlib.Core.Logic.{_↔_}
+use mathlib.Core.Logic.{_↔_, _≢_}
 use mathlib.Core.Bool.{Bool, true, false}
 use mathlib.Core.List.{List, [], _∷_, _++_, map}
 use Prim.Native.Nat.{ℕ, _≤_}
-use lib.ListN.{length}
-use Rattle.record.specs.Datagram.{Framing, framed, faulty, framingOf}
+use lib.ListN.{length, take}
+use Rattle.digest.specs.Bytes.{laidOver}
+use Rattle.record.specs.Datagram.{framed, framingOf}
 use Rattle.record.specs.declared.reader.Record.{Record}
 use Rattle.connection.specs.Answer.{handedOf}
 use Rattle.connection.specs.Calls.{sessionOf}
-use Rattle.connection.specs.Judge.{judgedRecord}
 use Rattle.connection.specs.Receive.{slotsOf}
+use Rattle.connection.specs.Tally.{freshTally}
 use Rattle.connection.specs.declared.state.State.the-variants.{Open}
 use Rattle.connection.specs.declared.refusal.Refusal.{Refusal}
 use Rattle.connection.specs.declared.answer.Answer.{Answer}
@@ -22,29 +23,30 @@ use Rattle.connection.specs.declared.answer.Answer.the-variants.{Refused}
 use Rattle.connection.specs.declared.calls.Connection.{Connection}
 use Rattle.connection.specs.declared.receive.Taken.the-variants as T
 use Rattle.connection.specs.declared.tally.Tally.{Tally}
-use Rattle.connection.specs.declared.handshake.Handshake.{Handshake}
-use Rattle.demands.specs.Runs.{Call, receive, send-data, send-alert, close, start, Result, received, Step, Gateway, stepOf, finalOf}
-use Rattle.demands.specs.Calls.{Chain, CallRow, notTaken, notSent, notCalled}
-use Rattle.demands.specs.Refusals.{lentBy}
+use Rattle.demands.specs.Runs.{Call, receive, Result, received, Gateway, stepOf, finalOf}
+use Rattle.demands.specs.Calls.{Chain, FirstSends, CallRow}
+use Rattle.demands.specs.Refusals.{IsRefused}
 use Rattle.demands.specs.Events.{Event, took, AllSound, eventsOf, connectionOf, after, history}
 use Rattle.demands.specs.Past.{isData, keysIn}
 use Rattle.record.specs.Window.{Held}
 use Rattle.demands.specs.Runs.{freshWith}
-use Rattle.demands.specs.LeftOut.{LeavesOut, answersIn}
-use Rattle.demands.specs.Course.{Ongoing, Due}
-use Rattle.demands.specs.HandedOut.{courseFrom}
+use Rattle.demands.specs.LeftOut.{LeavesOut, answersIn, talliedIn}
+use Rattle.demands.specs.Course.{Due}
+use Rattle.demands.specs.HandedOut.{courseFrom, OngoingFrom}
 use Rattle.demands.specs.Places.{answerOf}
-use Rattle.demands.specs.Counts.{Counting, CountsRight}
+use Rattle.demands.specs.Counts.{OnConnection, Counting, tallyAfter, CountsRight}
 
--- Demand 2: "one answer per record", each by the table, in the state that the records before it left; and the
--- connection is what the last one leaves
+-- Demand 2: "one answer per record", each by the table, in the state that the records before it left; the connection
+-- is what the last one leaves; the output holds what the first one sends at its front, counted, and nothing else new
 unfoldable pub AnswersByTable : Gateway → Type 0
 AnswersByTable g =
     (c : Connection) (d random out : List ℕ) (rs : List Record) → length random ≡ 16 → 128 ≤ length out
     → framingOf d ≡ framed rs
-    → (answers : List Answer) × (written : ℕ)
-    × (g c (receive d random out) .result ≡ received (T.Records (length rs)) (slotsOf answers) written)
+    → (answers : List Answer) × (reply : List ℕ)
+    × (g c (receive d random out) .result ≡ received (T.Records (length rs)) (slotsOf answers) (length reply))
     × Chain random d (c .handshake) rs answers (g c (receive d random out) .connection .handshake)
+    × (g c (receive d random out) .output ≡ laidOver out 0 reply)
+    × FirstSends (c .handshake) random d rs answers reply
 
 -- every call by its row; then its receives answer by the table
 unfoldable pub Demand2 : Gateway → Type 0
@@ -61,7 +63,8 @@ Demand2Settles = (g : Gateway) → Demand2 g → (c : Connection) (call : Call) 
 unfoldable pub HandsOut : Gateway → Type 0
 HandsOut g =
     (id secret : List ℕ) (width : ℕ) → Held width → (es : List Event) → AllSound es
-    → after (freshWith id secret width) es .state ≡ Open → (calls : List Call) → Ongoing (eventsOf calls)
+    → after (freshWith id secret width) es .state ≡ Open → (calls : List Call)
+    → OngoingFrom (sessionOf id secret) width (history (freshWith id secret width) es []) (eventsOf calls)
     → (d random out : List ℕ) (before : List Record) (r : Record) (behind : List Record) → length random ≡ 16
     → 128 ≤ length out
     → framingOf d ≡ framed (before ++ (r ∷ behind))
@@ -81,68 +84,55 @@ OneEach g =
 unfoldable pub Demand3 : Gateway → Type 0
 Demand3 g = LeavesOut g × HandsOut g × OneEach g
 
--- ---- the five wrong gateways
+-- ---- the five wrong gateways: a class for each
 
--- one that refuses everything, each call by a refusal x
-abbrev pub refusesCalls : Refusal → Gateway
-refusesCalls x c (receive d random out) = notTaken c out (T.Refused x)
-refusesCalls x c (send-data bytes out) = notSent c out x
-refusesCalls x c (send-alert sealed level description answered out) = notSent c out x
-refusesCalls x c close = notCalled c x
-refusesCalls x c start = notCalled c x
+-- any that refuses everything: each call as a whole, without an answer
+pub record RefusesCalls (g : Gateway) : Type 0 where
+  pub refused : (c : Connection) (call : Call) → IsRefused (g c call .result)
+  pub no-answers : (c : Connection) (d random out : List ℕ)
+      → answersIn (g c (receive d random out) .result) ≡ slotsOf []
 
--- what a receive gives, record by record: answers made of the records, and what is left
-abbrev pub byRecords : Connection → List ℕ → (List Record → List Answer) → (List Record → Connection) → Framing → Step
-byRecords c out answers left (framed rs) =
-    record { result = received (T.Records (length rs)) (slotsOf (answers rs)) 0; output = out; connection = left rs }
-byRecords c out answers left (faulty fault at) =
-    record { result = received (T.Records 0) (slotsOf []) 0; output = out; connection = c }
+-- or each record
+unfoldable pub RefusesRecords : Gateway → Type 0
+RefusesRecords g =
+    (c : Connection) (d random out : List ℕ) (before : List Record) (r : Record) (behind : List Record)
+    → framingOf d ≡ framed (before ++ (r ∷ behind))
+    → (x : Refusal) × (answerOf g c d random out before ≡ Refused x)
 
--- one that answers each record alike, by an answer a; the rest as ours. With a refusal it is one more that refuses
--- everything.
-abbrev pub answersAlike : Answer → Gateway
-answersAlike a c (receive d random out) =
-    byRecords c out (λ rs. map (λ r. a) rs) (λ rs. stepOf c (receive d random out) .connection) (framingOf d)
-answersAlike a c (send-data bytes out) = stepOf c (send-data bytes out)
-answersAlike a c (send-alert sealed level description answered out) =
-    stepOf c (send-alert sealed level description answered out)
-answersAlike a c close = stepOf c close
-answersAlike a c start = stepOf c start
+-- any that answers each record alike: on one connection, its answers do not depend on the record
+unfoldable pub AnswersAlike : Gateway → Type 0
+AnswersAlike g =
+    (c : Connection) (d e random out : List ℕ) (r q : Record) → framingOf d ≡ framed (r ∷ []) → framingOf e ≡ framed (q ∷ [])
+    → answerOf g c d random out [] ≡ answerOf g c e random out []
 
--- one that does nothing: it answers as ours, and leaves the connection as it was
-abbrev pub doesNothing : Gateway
-doesNothing c call = record { result = stepOf c call .result; output = lentBy call; connection = c }
+-- any that does nothing: whatever it answers, it never changes the connection
+unfoldable pub NeverChanges : Gateway → Type 0
+NeverChanges g = (c : Connection) (call : Call) → g c call .connection ≡ c
 
--- one that acts on the first record and only acknowledges the rest, by an answer a
-abbrev pub firstThen : Answer → Handshake → List ℕ → List ℕ → List Record → List Answer
-firstThen a h random d [] = []
-firstThen a h random d (r ∷ rs) = judgedRecord h random d r .answer ∷ map (λ q. a) rs
+-- any that acts on the first record of a datagram and only acknowledges the rest: whatever it answers, a datagram leaves
+-- what its first record alone leaves
+unfoldable pub FirstOnly : Gateway → Type 0
+FirstOnly g =
+    (c : Connection) (d random out : List ℕ) (r : Record) (rs : List Record) → framingOf d ≡ framed (r ∷ rs)
+    → framingOf (take (r .used) d) ≡ framed (r ∷ [])
+    → g c (receive d random out) .connection ≡ g c (receive (take (r .used) d) random out) .connection
 
-abbrev pub firstLeaves : Handshake → List ℕ → List ℕ → List Record → Connection
-firstLeaves h random d [] = connectionOf h
-firstLeaves h random d (r ∷ rs) = connectionOf (judgedRecord h random d r .handshake)
-
-abbrev pub firstOnly : Answer → Gateway
-firstOnly a c (receive d random out) =
-    byRecords c out (firstThen a (c .handshake) random d) (firstLeaves (c .handshake) random d) (framingOf d)
-firstOnly a c (send-data bytes out) = stepOf c (send-data bytes out)
-firstOnly a c (send-alert sealed level description answered out) =
-    stepOf c (send-alert sealed level description answered out)
-firstOnly a c close = stepOf c close
-firstOnly a c start = stepOf c start
-
--- an invented tally: whatever the answers were
-abbrev pub invented : Tally → Counting
-invented t u result = t
+-- any invented tally: whatever came back, it goes on alike
+unfoldable pub Invented : Counting → Type 0
+Invented counting = (t : Tally) (x y : Result) → counting t x ≡ counting t y
 
 -- None of them passes. 01 names for each what it fails: the table, the handing out, one answer per record, the
 -- history rule.
 pub record FiveFail : Type 0 where
-  pub refuses-calls-table : (x : Refusal) → AnswersByTable (refusesCalls x) → ⊥
-  pub refuses-calls-hands : (x : Refusal) → HandsOut (refusesCalls x) → ⊥
-  pub refuses-records-table : (x : Refusal) → AnswersByTable (answersAlike (Refused x)) → ⊥
-  pub refuses-records-hands : (x : Refusal) → HandsOut (answersAlike (Refused x)) → ⊥
-  pub answers-alike-table : (a : Answer) → AnswersByTable (answersAlike a) → ⊥
-  pub does-nothing-table : AnswersByTable doesNothing → ⊥
-  pub first-only-table : (a : Answer) → AnswersByTable (firstOnly a) → ⊥
-  pub invented-tally : (t : Tally) → CountsRight stepOf (invented t) → ⊥
+  pub refuses-calls-table : (g : Gateway) → RefusesCalls g → AnswersByTable g → ⊥
+  pub refuses-calls-hands : (g : Gateway) → RefusesCalls g → HandsOut g → ⊥
+  pub refuses-records-table : (g : Gateway) → RefusesRecords g → AnswersByTable g → ⊥
+  pub refuses-records-hands : (g : Gateway) → RefusesRecords g → HandsOut g → ⊥
+  pub answers-alike-table : (g : Gateway) → AnswersAlike g → AnswersByTable g → ⊥
+  pub does-nothing-table : (g : Gateway) → NeverChanges g → AnswersByTable g → ⊥
+  pub first-only-table : (g : Gateway) → FirstOnly g → AnswersByTable g → ⊥
+  pub invented-tally : (counting : Counting) → Invented counting → CountsRight stepOf counting → ⊥
+  -- and any tally that is not the count, after whatever calls it is not
+  pub other-tally : (counting : Counting) (os : List OnConnection)
+      → tallyAfter stepOf counting freshTally os ≢ tallyAfter stepOf talliedIn freshTally os
+      → CountsRight stepOf counting → ⊥

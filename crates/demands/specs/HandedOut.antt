@@ -21,20 +21,26 @@ use Rattle.demands.specs.Course.{Course, courseOf, Ongoing, Due}
 use Rattle.demands.specs.Runs.{freshWith}
 
 -- the course from a place of a run on: the width, the numbers accepted up to there, and nothing closed
+abbrev pub courseAt : ℕ → List Happened → Course
+courseAt width past = record { width = width; numbers = acceptedIn past; shut = false }
+
 abbrev pub courseFrom : Session → ℕ → List Happened → List Event → Course
-courseFrom session width past es =
-    courseOf (keysIn session past) (expectedIn session past) (record { width = width; numbers = acceptedIn past; shut = false }) es
+courseFrom session width past es = courseOf (keysIn session past) (expectedIn session past) (courseAt width past) es
+
+abbrev pub OngoingFrom : Session → ℕ → List Happened → List Event → Type 0
+OngoingFrom session width past es = Ongoing (keysIn session past) (expectedIn session past) (courseAt width past) es
 
 -- the answer to a record at a place of a run
 abbrev pub answerAt : Handshake → List ℕ → List ℕ → Record → Answer
 answerAt h random d r = judgedRecord h random d r .answer
 
--- From any place where a run from fresh is Open, and any later events up to our own closing: a record is answered
--- with data exactly if it is due, and what is handed out is its content.
+-- From any place where a run from fresh is Open, and any later events up to a start again that takes effect: a record is
+-- answered with data exactly if it is due, and what is handed out is its content.
 unfoldable pub HandedOut : Type 0
 HandedOut =
     (id secret : List ℕ) (width : ℕ) → Held width → (es : List Event) → AllSound es
-    → after (freshWith id secret width) es .state ≡ Open → (later : List Event) → AllSound later → Ongoing later
+    → after (freshWith id secret width) es .state ≡ Open → (later : List Event) → AllSound later
+    → OngoingFrom (sessionOf id secret) width (history (freshWith id secret width) es []) later
     → (random d : List ℕ) (r : Record) → Sound (took random d r)
     → let past = history (freshWith id secret width) es [] in
     let session = sessionOf id secret in
@@ -50,7 +56,7 @@ HandedOnce =
     → after (freshWith id secret width) es .state ≡ Open → (later between : List Event) → AllSound later → AllSound between
     → (random d : List ℕ) (r : Record) (random′ d′ : List ℕ) (r′ : Record) → Sound (took random d r)
     → Sound (took random′ d′ r′)
-    → Ongoing (later ++ (took random d r ∷ between))
+    → OngoingFrom (sessionOf id secret) width (history (freshWith id secret width) es []) (later ++ (took random d r ∷ between))
     → isData (answerAt (after (after (freshWith id secret width) es) later) random d r) ≡ true
     → isData (answerAt (after (after (freshWith id secret width) es) (later ++ (took random d r ∷ between))) random′ d′ r′)
     ≡ true

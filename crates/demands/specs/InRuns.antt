@@ -81,6 +81,7 @@ unfoldable pub LeavesOutOfRuns : Type 0
 LeavesOutOfRuns =
     (id secret : List ℕ) (width : ℕ) → Held width → (es : List Event) → AllSound es → after (freshWith id secret width) es .state ≡ Open
     → (calls rest : List Call)
-    (out : LeftOut (keysIn (sessionOf id secret) (history (freshWith id secret width) es [])) calls rest)
+    (out : LeftOut stepOf (keysIn (sessionOf id secret) (history (freshWith id secret width) es []))
+    (connectionOf (after (freshWith id secret width) es)) calls rest)
     → SameWithout stepOf (keysIn (sessionOf id secret) (history (freshWith id secret width) es []))
     (connectionOf (after (freshWith id secret width) es)) calls rest out

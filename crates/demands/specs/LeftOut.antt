@@ -2,6 +2,7 @@
 -- our own closing. .. Leave out every datagram without a genuine record: the data handed out, its order and the
 -- connection are the same."
 use mathlib.Core.Path.{_≡_}
+use mathlib.Core.Logic.{_≢_}
 use mathlib.Core.Bool.{Bool, true, false}
 use mathlib.Core.List.{List, [], _∷_, _++_}
 use Prim.Native.Nat.{ℕ}
@@ -11,7 +12,8 @@ use Rattle.connection.specs.Answer.{handedOf}
 use Rattle.connection.specs.Tally.{countedOf}
 use Rattle.connection.specs.declared.answer.Slot.{Slot}
 use Rattle.connection.specs.declared.calls.Connection.{Connection}
-use Rattle.connection.specs.declared.state.State.the-variants.{Open}
+use Rattle.connection.specs.declared.state.State.{State}
+use Rattle.connection.specs.declared.state.State.the-variants.{Open, Closed}
 use Rattle.connection.specs.declared.tally.Tally.{Tally}
 use Rattle.demands.specs.Runs.{Call, receive, send-data, send-alert, close, start, Result, received, sent, called, Step, Gateway, stepsOf, finalOf}
 use Rattle.record.specs.declared.keys.Keys.{Keys}
@@ -22,24 +24,26 @@ use Rattle.demands.specs.Past.{isData}
 abbrev pub NoneGenuine : Keys → List ℕ → Type 0
 NoneGenuine k d = (r : Record) (c : List ℕ) → Genuine k d r c → ⊥
 
--- the calls of such a run: to start again comes only after a closing
-abbrev pub Continues : Call → Type 0
-Continues (receive d random out) = Unit
-Continues (send-data bytes out) = Unit
-Continues (send-alert sealed level description answered out) = Unit
-Continues close = Unit
-Continues start = ⊥
+-- the calls of such a run, in a state: no start again that takes effect, which is one in Closed
+abbrev pub Continues : State → Call → Type 0
+Continues s (receive d random out) = Unit
+Continues s (send-data bytes out) = Unit
+Continues s (send-alert sealed level description answered out) = Unit
+Continues s close = Unit
+Continues s start = s ≢ Closed
 
--- the second list is the first with some datagrams left out, each without a genuine record
-pub data LeftOut (k : Keys) : List Call → List Call → Type 0 where
-  end : LeftOut k [] []
-  stays : {call : Call} {calls rest : List Call} → Continues call → LeftOut k calls rest
-      → LeftOut k (call ∷ calls) (call ∷ rest)
-  left : {d random out : List ℕ} {calls rest : List Call} → NoneGenuine k d → LeftOut k calls rest
-      → LeftOut k (receive d random out ∷ calls) rest
+-- the second list is the first with some datagrams left out, each without a genuine record; c is the connection that the
+-- calls which stay have left so far
+pub data LeftOut (g : Gateway) (k : Keys) : Connection → List Call → List Call → Type 0 where
+  end : {c : Connection} → LeftOut g k c [] []
+  stays : {c : Connection} {call : Call} {calls rest : List Call} → Continues (c .handshake .state) call
+      → LeftOut g k (g c call .connection) calls rest → LeftOut g k c (call ∷ calls) (call ∷ rest)
+  left : {c : Connection} {d random out : List ℕ} {calls rest : List Call} → NoneGenuine k d → LeftOut g k c calls rest
+      → LeftOut g k c (receive d random out ∷ calls) rest
 
 -- the steps of the calls that stay
-unfoldable pub stepsLeft : {k : Keys} {calls rest : List Call} → LeftOut k calls rest → List Step → List Step
+unfoldable pub stepsLeft : {g : Gateway} {k : Keys} {c : Connection} {calls rest : List Call} → LeftOut g k c calls rest
+    → List Step → List Step
 stepsLeft end steps = []
 stepsLeft (stays go more) [] = []
 stepsLeft (stays go more) (step ∷ steps) = step ∷ stepsLeft more steps
@@ -88,7 +92,7 @@ pub record ButForged (t u : Tally) : Type 0 where
 -- "the data handed out, its order and the connection are the same": the whole value; and each call that stays gives
 -- the same result and writes the same bytes
 pub record SameWithout (g : Gateway) (k : Keys) (c : Connection) (calls rest : List Call)
-    (out : LeftOut k calls rest) : Type 0 where
+    (out : LeftOut g k c calls rest) : Type 0 where
   pub same-connection : finalOf g c calls ≡ finalOf g c rest
   pub same-handed : handedBy g c calls ≡ handedBy g c rest
   pub same-steps : stepsLeft out (stepsOf g c calls) ≡ stepsOf g c rest
@@ -97,5 +101,5 @@ pub record SameWithout (g : Gateway) (k : Keys) (c : Connection) (calls rest : L
 unfoldable pub LeavesOut : Gateway → Type 0
 LeavesOut g =
     (c : Connection) → c .handshake .state ≡ Open
-    → (calls rest : List Call) (out : LeftOut (keysOf (c .handshake)) calls rest)
+    → (calls rest : List Call) (out : LeftOut g (keysOf (c .handshake)) c calls rest)
     → SameWithout g (keysOf (c .handshake)) c calls rest out

@@ -15,6 +15,7 @@ pub mod HandedOut
 pub mod InRuns
 pub mod Replies
 pub mod Barred
+pub mod Fatal
 pub mod Sends
 pub mod Counts
 pub mod Works
@@ -24,5 +25,6 @@ pub mod Gateways
 pub mod Traps
 pub mod Example
 pub mod Instances
+pub mod Cases
 pub mod Exactly
 pub mod Demands

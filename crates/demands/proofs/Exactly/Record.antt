@@ -106,13 +106,11 @@ sealed-level Why h L.Warning d = tt
 sealed-level Why h L.Critical d = tt
 sealed-level Why h L.Fatal d = tt
 
-finished-in : (Why : Refusal → Type 0) (h : Handshake) (s : State) → AnswerHolds Why (finishedIn h s .answer)
-finished-in Why h S.Idle = tt
-finished-in Why h S.Replied = tt
-finished-in Why h S.Spec = tt
-finished-in Why h S.Open = tt
-finished-in Why h S.Closed = tt
-finished-in Why h S.Barred = tt
+-- a right Finished, in Spec or in Open
+finished-in : (Why : Refusal → Type 0) (h : Handshake) (s : State) (n : ℕ) → h .state ≡ s
+    → ((s ≡ S.Spec) × ((n ≡ 2) ⊎ (n ≡ 3))) ⊎ (s ≡ S.Open) → AnswerHolds Why (finishedIn h (h .state) .answer)
+finished-in Why h s n e (inl (z, k)) = subst (λ x. AnswerHolds Why (finishedIn h x .answer)) (sym (e ∙ z)) tt
+finished-in Why h s n e (inr z) = subst (λ x. AnswerHolds Why (finishedIn h x .answer)) (sym (e ∙ z)) tt
 
 module _ (h : Handshake) (numbers random : List ℕ) (window : HoldsNumbers h numbers) (byte number place at : ℕ)
     (f : List ℕ) (bytes : Bytes f) where
@@ -184,25 +182,25 @@ module _ (h : Handshake) (numbers random : List ℕ) (window : HoldsNumbers h nu
             (λ e. rw e (s, c, n, w .0, ap (wasSent h) (sym (w .1)) ∙ e))
 
     -- the content of a genuine new record, in the handshake g with its mark
-    content-a : (content : Content) (g : Handshake) (c : List ℕ) → g .expected ≡ h .expected
+    content-a : (content : Content) (g : Handshake) (c : List ℕ) → g .state ≡ h .state → g .expected ≡ h .expected
         → NewAs h numbers (seen content) c
         → AnswerHolds (Why content) (contentBy g (sealedKind content) number place c .answer)
     unfolding contentBy alertedBy verifiedBy
-    content-a C.ChangeCipherSpec g c same fresh = bad-sealed-change c fresh refl
-    content-a C.Alert g c same fresh = go (alertOf c) (alert-holds c)
+    content-a C.ChangeCipherSpec g c at-state same fresh = bad-sealed-change c fresh refl
+    content-a C.Alert g c at-state same fresh = go (alertOf c) (alert-holds c)
       where
         go : (x : Reading) → AlertHolds c x → AnswerHolds (Why C.Alert) (alertedTo g x .answer)
         go R.Malformed w = bad-sealed-alert c fresh refl w
         go (R.WellFormed a) w = sealed-level (Why C.Alert) g (a .level) (a .description)
-    content-a C.Handshake g c same fresh = go (judgedOf c (g .expected))
+    content-a C.Handshake g c at-state same fresh = go (judgedOf c (g .expected))
         (finished-holds c (g .expected))
       where
         go : (x : Verified) → FinishedHolds c (g .expected) x
             → AnswerHolds (Why C.Handshake) (verifiedTo g x .answer)
-        go F.Right w = finished-in (Why C.Handshake) g (g .state)
+        go F.Right w = finished-in (Why C.Handshake) g (h .state) 3 at-state (fresh .guarded .kind)
         go F.Wrong w = (c, fresh, refl, w .0, λ e. w .1 (e ∙ sym same))
         go F.Malformed w = bad-message c fresh refl w
-    content-a C.Data g c same fresh =
+    content-a C.Data g c at-state same fresh =
         decide (eqb (length c) 0) (λ e. rw e (empty-data c fresh refl (eqb-true (length c) 0 e))) (λ e. rw e tt)
 
     window-a : (content : Content) (c : List ℕ) → GuardedAs (h .state) (seen content)
@@ -213,7 +211,7 @@ module _ (h : Handshake) (numbers random : List ℕ) (window : HoldsNumbers h nu
         let m = repeated-means (h .protection .window .width) numbers number (sym by-history ∙ e) in (g, (c, k), m .0, m .1)
     window-a content c g k (A.New w arrived) e =
         let m = new-means (h .protection .window .width) numbers number w arrived (sym by-history ∙ e) in
-        content-a content (withWindow h w) c refl (record { guarded = g; coded = k; recent = m .0; unseen = m .1 })
+        content-a content (withWindow h w) c refl refl (record { guarded = g; coded = k; recent = m .0; unseen = m .1 })
 
     unseal-a : (content : Content) → GuardedAs (h .state) (seen content)
         → AnswerHolds (Why content) (unsealedBy h (sealedKind content) byte number place f .answer)

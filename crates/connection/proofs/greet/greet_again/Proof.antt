@@ -1,7 +1,8 @@
 -- `greet::greet_again`: the kept hello again, or another.
 use mathlib.Core.Path.{_≡_}
-use Rattle.digest.proofs.Picks.{picks}
-use Rattle.connection.specs.Clear.{greetedAgain, keptSize}
+use mathlib.Core.Bool.{true}
+use Rattle.digest.proofs.Picks.{picks, pick-yes}
+use Rattle.connection.specs.Clear.{greetedAgain, greetedBy, isKept, keptSize}
 use Rattle.connection.specs.Answer.{judged}
 use Rattle.connection.specs.declared.answer.Answer.the-variants.{Resent}
 use Rattle.connection.specs.declared.answer.Judged.{Judged}
@@ -17,9 +18,11 @@ kept-size-requires c κs = search needs
 
 returns : tie.Need-returns
 unfolding greetedAgain
-returns c = let h = c .before .before .before .before .before .args .h in
+returns c = let a = c .before .before .before .before .before .args in
+    let h = a .h in
     let e : _≡_ {A = Judged} (record { answer = Resent (c .kept-size .result); handshake = h }) (judged (Resent (keptSize (h .kept))) h) = λ i. record { answer = Resent (c .kept-size .ensures i); handshake = h } in
-    search picks depth 2
+    let same : isKept (h .kept) (a .m .now) ≡ true = search picks depth 2 in
+    pick-yes Judged (record { answer = Resent (c .kept-size .result); handshake = h }) (judged (Resent (keptSize (h .kept))) h) (greetedBy h (a .random) (a .m .now)) (isKept (h .kept) (a .m .now)) same e
 
 greet-requires : tie.Need-greet-requires
 greet-requires c κs = search needs

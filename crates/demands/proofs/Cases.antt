@@ -1,0 +1,365 @@
+-- The cases are met by the worked handshake, with SHA_80 and with SHA: its run, one record more, and then the record in question. The
+-- window computes; a forged code is the right one with each byte changed.
+use mathlib.Core.Path.{_≡_, refl, sym, _∙_, ap, ap₂, subst}
+use mathlib.Core.Bool.{Bool, true, false}
+use mathlib.Core.List.{List, [], _∷_, _++_, map, append-nil}
+use Prim.Native.Nat.{ℕ, zero, suc, _+_, _-_, _≤_, _<_}
+use native.Mathlib.Omega.{arith}
+use lib.Count.{ones}
+use lib.Dec.{eqb, lit≤}
+use lib.ListN.{length, take, drop, length-append, length-map}
+use borrow.Author.Tests.{eqb-true, eqb-false}
+use Rattle.digest.specs.Pick.{pick}
+use Rattle.digest.specs.Hmac.{hmac}
+use Rattle.digest.specs.Mac.{sizeOf}
+use Rattle.digest.specs.declared.mac.Mac.{Mac}
+use Rattle.digest.specs.declared.mac.Mac.the-variants.{Sha80, Sha}
+use Rattle.record.specs.Code.{codeBy, fragmentBy}
+use Rattle.record.specs.Keys.{keyNumber}
+use Rattle.record.specs.Window.{acceptOf, acceptBy, windowWidth, heldWidth}
+use Rattle.record.specs.Written.{recordOf, byteFor}
+use Rattle.record.specs.Datagram.{framed, framingOf}
+use Rattle.record.specs.declared.header.Content.the-variants as C
+use Rattle.record.specs.declared.keys.Keys.{Keys}
+use Rattle.record.specs.declared.reader.Record.{Record}
+use Rattle.record.specs.declared.window.Window.{Window}
+use Rattle.record.specs.declared.window.Acceptance.the-variants as A
+use Rattle.record.proofs.Fronts.{record-length}
+use Rattle.record.proofs.RoundTrip.{readBack, read-short, fragment-back}
+use Rattle.record.proofs.Sealed.{sealed-length, size-most, size-some}
+use Rattle.message.specs.declared.alert.Description.the-variants as D
+use Rattle.message.specs.declared.alert.Level.the-variants as L
+use Rattle.message.proofs.AlertLaws.{level-back, description-back}
+use Rattle.connection.specs.Answer.{judged, refusing}
+use Rattle.connection.specs.Handshake.{withWindow}
+use Rattle.connection.specs.Judge.{judgedRecord, fragmentOf}
+use Rattle.connection.specs.Send.{alertSent}
+use Rattle.connection.specs.declared.answer.Answer.{Answer}
+use Rattle.connection.specs.declared.answer.Answer.the-variants as W
+use Rattle.connection.specs.declared.answer.Judged.{Judged}
+use Rattle.connection.specs.declared.calls.Outcome.the-variants as O
+use Rattle.connection.specs.declared.handshake.Handshake.{Handshake}
+use Rattle.connection.specs.declared.refusal.Refusal.the-variants as X
+use Rattle.connection.specs.declared.state.State.the-variants as S
+use Rattle.demands.specs.Runs.{send-alert, stepOf}
+use Rattle.demands.specs.Genuine.{Sealed, RecordOf, keysOf, unitKey}
+use Rattle.demands.specs.Table.{Row, New, Guarded, sealedAllowed, row-forged, row-old, row-repeated, row-data}
+use Rattle.demands.specs.Calls.{mayAlert, alert-sent}
+use Rattle.demands.specs.Events.{Event, took, Sound, AllSound, connectionOf, after}
+use Rattle.demands.specs.Past.{isData}
+use Rattle.demands.specs.Traps.{lastSealed}
+use Rattle.demands.specs.Example.{exampleId, exampleSecret, exampleRandom, exampleOut, exampleData}
+use Rattle.demands.specs.Instances.{exampleFresh}
+use Rattle.demands.specs.Cases.{OpenWith, Answered, Crossed, SentClear, Cases}
+use Rattle.demands.proofs.Table.{row-is}
+use Rattle.demands.proofs.Calls.{call-is}
+use Rattle.demands.proofs.Refusals.{outcomeIn}
+use Rattle.demands.proofs.Places.{after-more, sound-more}
+use Rattle.demands.proofs.Wire.{lone}
+use Rattle.demands.proofs.Works.{Walk}
+use Rattle.demands.proofs.Example.{example-walk, sha-walk, example-mac, sha-mac, example-refresh, example-clear, opening, opening-sound, opening-leaves, opening-open}
+use Rattle.demands.proofs.Traps.{w₀, w₇, alone, alone-framed, alone-sealed}
+
+-- ---- both MAC kinds
+
+open-with : (w : Walk exampleId exampleSecret exampleRandom exampleData) (mac : Mac) → w .h₃ .protection .keys .mac ≡ mac → OpenWith mac
+open-with w mac e =
+    let leaves : after exampleFresh (opening exampleId exampleSecret exampleRandom exampleData refl w) ≡ w .h₃
+    = opening-leaves exampleId exampleSecret exampleRandom exampleData refl w in
+    record {
+      es = opening exampleId exampleSecret exampleRandom exampleData refl w;
+      sound = opening-sound exampleId exampleSecret exampleRandom exampleData refl w;
+      is-open = opening-open exampleId exampleSecret exampleRandom exampleData refl w;
+      kind = ap (λ h. h .protection .keys .mac) leaves ∙ e;
+      random = exampleRandom;
+      d = w .d₄;
+      r = w .r₄;
+      here = (refl, record { before = []; behind = []; framing = w .framed₄ });
+      handed = ap (λ x. isData (judgedRecord x exampleRandom (w .d₄) (w .r₄) .answer)) leaves ∙ ap (λ j. isData (j .answer)) (row-is (w .h₃) exampleRandom (w .d₄) (w .r₄) (w .row₄));
+    }
+
+-- ---- the worked run, and what it leaves
+
+abbrev w : Walk exampleId exampleSecret exampleRandom exampleData
+w = example-walk
+
+abbrev h : Handshake
+h = w .h₃
+
+abbrev k : Keys
+k = keysOf h
+
+run : List Event
+run = opening exampleId exampleSecret exampleRandom exampleData refl example-walk
+
+run-sound : AllSound run
+unfolding run
+run-sound = opening-sound exampleId exampleSecret exampleRandom exampleData refl example-walk
+
+run-leaves : after exampleFresh run ≡ h
+unfolding run
+run-leaves = opening-leaves exampleId exampleSecret exampleRandom exampleData refl example-walk
+
+-- a record of one datagram, behind a run that leaves x
+module _ (es : List Event) (x : Handshake) (sound : AllSound es) (leaves : after exampleFresh es ≡ x) (is-open : x .state ≡ S.Open) (same : x .protection .keys .mac ≡ h .protection .keys .mac) where
+  at-open : (d : List ℕ) (r : Record) (j : Judged) → framingOf d ≡ framed (r ∷ []) → r .protected ≡ true → sizeOf (k .mac) ≤ r .size
+      → Row x exampleRandom d r j → Answered (j .answer)
+  at-open d r j f p l row =
+      record {
+        es = es;
+        sound = sound;
+        is-open = ap (λ y. y .state) leaves ∙ is-open;
+        random = exampleRandom;
+        d = d;
+        r = r;
+        here = (refl, record { before = []; behind = []; framing = f });
+        protected = p;
+        whole = subst (λ m. sizeOf m ≤ r .size) (sym (ap (λ y. y .protection .keys .mac) leaves ∙ same)) l;
+        answered = ap (λ y. judgedRecord y exampleRandom d r .answer) leaves ∙ ap (λ z. z .answer) (row-is x exampleRandom d r row);
+      }
+
+-- ---- data of the unit, under a number
+
+module _ (s : ℕ) (inside : s ≤ 65535) where
+  abbrev data-with : List ℕ
+  data-with = lastSealed k C.Data s exampleData
+
+  abbrev data-record : Record
+  data-record = alone k C.Data s inside exampleData
+
+  data-framed : framingOf data-with ≡ framed (data-record ∷ [])
+  data-framed = alone-framed k C.Data s inside exampleData (lit≤ tt)
+
+  data-whole : sizeOf (k .mac) ≤ data-record .size
+  unfolding alone
+  data-whole = omega arith
+
+  data-protected : data-record .protected ≡ true
+  unfolding alone
+  data-protected = refl
+
+  -- in the window x
+  module _ (x : Window) where
+    guarded : Guarded (withWindow h x) data-record
+    unfolding alone
+    guarded = record { protection = refl; kind = ap (λ t. sealedAllowed t C.Data) (w .open-is) }
+
+    handed-row : (y : Window) (n : ℕ) → acceptOf x s ≡ A.New y n
+        → Row (withWindow h x) exampleRandom data-with data-record (judged (W.Data s 3 6) (withWindow (withWindow h x) y))
+    unfolding alone
+    handed-row y n e =
+        row-data exampleData y (record { guarded = guarded; coded = alone-sealed k C.Data s inside exampleData; arrived = n; accepted = e }) refl (lit≤ tt)
+
+    old-row : acceptOf x s ≡ A.TooOld → Row (withWindow h x) exampleRandom data-with data-record (refusing X.TooOld (withWindow h x))
+    unfolding alone
+    old-row e = row-old exampleData guarded (alone-sealed k C.Data s inside exampleData) e
+
+    repeated-row : acceptOf x s ≡ A.Repeated → Row (withWindow h x) exampleRandom data-with data-record (refusing X.Repeated (withWindow h x))
+    unfolding alone
+    repeated-row e = row-repeated exampleData guarded (alone-sealed k C.Data s inside exampleData) e
+
+  -- the run with this data behind it
+  run-with : List Event
+  run-with = run ++ (took exampleRandom data-with data-record ∷ [])
+
+  with-sound : AllSound run-with
+  unfolding run-with
+  with-sound =
+      sound-more run (took exampleRandom data-with data-record ∷ []) run-sound ((refl, record { before = []; behind = []; framing = data-framed }), tt)
+
+  with-leaves : (y : Window) (n : ℕ) → acceptOf w₀ s ≡ A.New y n → after exampleFresh run-with ≡ withWindow h y
+  unfolding run-with after w₀
+  with-leaves y n e =
+      after-more exampleFresh run (took exampleRandom data-with data-record ∷ [])
+      ∙ ap (λ z. judgedRecord z exampleRandom data-with data-record .handshake) (run-leaves ∙ begun)
+      ∙ ap (λ j. j .handshake) (row-is (withWindow h w₀) exampleRandom data-with data-record (handed-row w₀ y n e))
+    where
+      begun : h ≡ withWindow h w₀
+      begun = λ i. withWindow h (w .window-is i)
+
+-- ---- the windows
+
+unfoldable w₄₀ : Window
+w₄₀ = record { width = windowWidth; highest = 40; marks = 1 }
+
+unfoldable w₉ : Window
+w₉ = record { width = windowWidth; highest = 9; marks = 513 }
+
+unfoldable w₉₇ : Window
+w₉₇ = record { width = windowWidth; highest = 9; marks = 517 }
+
+takes-40 : acceptOf w₀ 40 ≡ A.New w₄₀ 1
+unfolding w₀ w₄₀ acceptBy heldWidth ones
+takes-40 = refl
+
+old-7 : acceptOf w₄₀ 7 ≡ A.TooOld
+unfolding w₄₀ acceptBy heldWidth ones
+old-7 = refl
+
+takes-7 : acceptOf w₀ 7 ≡ A.New w₇ 2
+unfolding w₀ w₇ acceptBy heldWidth ones
+takes-7 = refl
+
+again-7 : acceptOf w₇ 7 ≡ A.Repeated
+unfolding w₇ acceptBy heldWidth ones
+again-7 = refl
+
+takes-9 : acceptOf w₀ 9 ≡ A.New w₉ 2
+unfolding w₀ w₉ acceptBy heldWidth ones
+takes-9 = refl
+
+late-7 : acceptOf w₉ 7 ≡ A.New w₉₇ 3
+unfolding w₉ w₉₇ acceptBy heldWidth ones
+late-7 = refl
+
+seven : 7 ≤ 65535
+seven = lit≤ tt
+
+nine : 9 ≤ 65535
+nine = lit≤ tt
+
+forty : 40 ≤ 65535
+forty = lit≤ tt
+
+-- ---- too old, repeated, late
+
+too-old : Answered (W.Refused X.TooOld)
+too-old =
+    at-open (run-with 40 forty) (withWindow h w₄₀) (with-sound 40 forty) (with-leaves 40 forty w₄₀ 1 takes-40) (w .open-is) refl (data-with 7 seven) (data-record 7 seven) _
+    (data-framed 7 seven) (data-protected 7 seven) (data-whole 7 seven) (old-row 7 seven w₄₀ old-7)
+
+repeated : Answered (W.Refused X.Repeated)
+repeated =
+    at-open (run-with 7 seven) (withWindow h w₇) (with-sound 7 seven) (with-leaves 7 seven w₇ 2 takes-7) (w .open-is) refl (data-with 7 seven) (data-record 7 seven) _
+    (data-framed 7 seven) (data-protected 7 seven) (data-whole 7 seven) (repeated-row 7 seven w₇ again-7)
+
+crossed : Crossed
+unfolding at-open alone w₉ keyNumber
+crossed =
+    let left : after exampleFresh (run-with 9 nine) ≡ withWindow h w₉ = with-leaves 9 nine w₉ 2 takes-9 in
+    record {
+      late = at-open (run-with 9 nine) (withWindow h w₉) (with-sound 9 nine) left (w .open-is) refl (data-with 7 seven) (data-record 7 seven) _
+          (data-framed 7 seven) (data-protected 7 seven) (data-whole 7 seven) (handed-row 7 seven w₉ w₉₇ 3 late-7);
+      its-number = refl;
+      highest = ap (λ x. x .protection .window .highest) left;
+      key-behind = ap (λ x. keyNumber (x .protection .keys .refresh) 9) left ∙ ap (λ n. keyNumber n 9) example-refresh;
+      key-before = ap (λ x. keyNumber (x .protection .keys .refresh) 7) left ∙ ap (λ n. keyNumber n 7) example-refresh;
+    }
+
+-- ---- forged
+
+-- another byte
+abbrev other : ℕ → ℕ
+other x = pick (eqb x 0) 1 0
+
+other-not : (x : ℕ) → other x ≡ x → ⊥
+other-not x e = by (eqb x 0) refl
+  where
+    by : (b : Bool) → eqb x 0 ≡ b → ⊥
+    by true t = let z : _≡_ {A = ℕ} 1 0 = sym (ap (λ (c : Bool). pick c 1 0) t) ∙ e ∙ eqb-true x 0 t in omega arith
+    by false f = eqb-false x 0 f (sym e ∙ ap (λ (c : Bool). pick c 1 0) f)
+
+others-not : (l : List ℕ) → 0 < length l → map other l ≡ l → ⊥
+others-not [] some e = omega arith
+others-not (x ∷ l) some e = let first : other x ≡ x = cc in other-not x first
+
+-- two lists with fronts of one length
+cancel : (a b x y : List ℕ) → length a ≡ length b → a ++ x ≡ b ++ y → (a ≡ b) × (x ≡ y)
+cancel [] [] x y n e = (refl, e)
+cancel [] (v ∷ b) x y n e = let z : _≡_ {A = ℕ} 0 1 = cc in absurd (omega arith)
+cancel (u ∷ a) [] x y n e = let z : _≡_ {A = ℕ} 0 1 = cc in absurd (omega arith)
+cancel (u ∷ a) (v ∷ b) x y n e =
+    let first : u ≡ v = cc in
+    let rest : a ++ x ≡ b ++ y = cc in
+    let less : length a ≡ length b = omega arith in
+    let q = cancel a b x y less rest in
+    (ap₂ (λ s t. s ∷ t) first (q .0), q .1)
+
+abbrev byte : ℕ
+byte = byteFor false true C.Data
+
+forged-code : List ℕ
+forged-code = map other (codeBy (hmac (unitKey k 7)) (sizeOf (k .mac)) 7 byte exampleData)
+
+forged-fragment : List ℕ
+forged-fragment = exampleData ++ forged-code
+
+code-length : length (codeBy (hmac (unitKey k 7)) (sizeOf (k .mac)) 7 byte exampleData) ≡ sizeOf (k .mac)
+unfolding fragmentBy
+code-length =
+    omega (arith, sealed-length (unitKey k 7) (k .mac) 7 byte exampleData, length-append exampleData (codeBy (hmac (unitKey k 7)) (sizeOf (k .mac)) 7 byte exampleData))
+
+fragment-length : length forged-fragment ≡ 6 + sizeOf (k .mac)
+unfolding forged-fragment forged-code
+fragment-length =
+    length-append exampleData (map other (codeBy (hmac (unitKey k 7)) (sizeOf (k .mac)) 7 byte exampleData))
+    ∙ ap (λ n. 6 + n) (length-map (codeBy (hmac (unitKey k 7)) (sizeOf (k .mac)) 7 byte exampleData) other ∙ code-length)
+
+abbrev forged-datagram : List ℕ
+forged-datagram = recordOf false true C.Data 7 forged-fragment
+
+forged-record : Record
+forged-record = readBack false true C.Data 7 (length forged-fragment)
+
+forged-framed : framingOf forged-datagram ≡ framed (forged-record ∷ [])
+unfolding forged-record
+forged-framed =
+    let size = record-length false true C.Data 7 forged-fragment in
+    lone forged-datagram (readBack false true C.Data 7 (length forged-fragment))
+    (read-short true C.Data 7 forged-fragment (omega arith) (omega (arith, fragment-length))) (sym size)
+    (omega (arith, size)) (omega (arith, size, fragment-length, size-most (k .mac)))
+
+forged-back : fragmentOf forged-datagram forged-record ≡ forged-fragment
+unfolding forged-record
+forged-back =
+    ap (λ s. take (length forged-fragment) (drop 3 s)) (sym (append-nil forged-datagram)) ∙ fragment-back false true C.Data 7 forged-fragment []
+
+not-sealed : (c : List ℕ) → Sealed k forged-datagram forged-record c → ⊥
+unfolding forged-record forged-fragment forged-code fragmentBy
+not-sealed c s =
+    let code : List ℕ = codeBy (hmac (unitKey k 7)) (sizeOf (k .mac)) 7 byte exampleData in
+    let its : List ℕ = codeBy (hmac (unitKey k 7)) (sizeOf (k .mac)) 7 byte c in
+    let same : exampleData ++ map other code ≡ c ++ its = sym forged-back ∙ s .is-coded in
+    let long : length exampleData ≡ length c
+    = omega (arith, ap length same, length-append exampleData (map other code), length-map code other, code-length, length-append c its, sealed-length (unitKey k 7) (k .mac) 7 byte c) in
+    let q = cancel exampleData c (map other code) its long same in
+    others-not code (omega (arith, code-length, size-some (k .mac)))
+    (q .1 ∙ ap (codeBy (hmac (unitKey k 7)) (sizeOf (k .mac)) 7 byte) (sym (q .0)))
+
+forged : Answered (W.Refused X.Forged)
+unfolding forged-record
+forged =
+    at-open run h run-sound run-leaves (w .open-is) refl forged-datagram forged-record (refusing X.Forged h) forged-framed refl (omega (arith, fragment-length))
+    (row-forged (record { protection = refl; kind = ap (λ t. sealedAllowed t C.Data) (w .open-is) }) not-sealed)
+
+-- ---- an alert that is sent clear
+
+clear-is-done : (x : Handshake) → x .state ≡ S.Replied → x .protection .clear ≡ 2 → alertSent (connectionOf x) false 1 0 [] (length exampleOut) .outcome ≡ O.Done
+unfolding stepOf
+clear-is-done x s n =
+    ap (λ z. outcomeIn (z .result))
+    (call-is (connectionOf x) (alert-sent {sealed = false} {out = exampleOut} {l = L.Warning} {k = D.ConnectionCloseNotify} (record { level-is = level-back L.Warning; description-is = description-back D.ConnectionCloseNotify; lent-most = lit≤ tt }) (ap (mayAlert false) s) (omega arith) (lit≤ tt)))
+
+sent-clear : SentClear
+unfolding after
+sent-clear =
+    let left : judgedRecord exampleFresh exampleRandom (w .d₁) (w .r₁) .handshake ≡ w .h₁ = ap (λ j. j .handshake) (row-is exampleFresh exampleRandom (w .d₁) (w .r₁) (w .row₁)) in
+    record {
+      es = took exampleRandom (w .d₁) (w .r₁) ∷ [];
+      sound = ((refl, record { before = []; behind = []; framing = w .framed₁ }), tt);
+      is-replied = ap (λ x. x .state) left ∙ w .replied-is;
+      out = exampleOut;
+      done = ap (λ x. alertSent (connectionOf x) false 1 0 [] (length exampleOut) .outcome) left ∙ clear-is-done (w .h₁) (w .replied-is) example-clear;
+    }
+
+pub cases : Cases
+cases =
+    record {
+      sha-80 = open-with example-walk Sha80 example-mac;
+      sha = open-with sha-walk Sha sha-mac;
+      forged = forged;
+      too-old = too-old;
+      repeated = repeated;
+      crossed = crossed;
+      sent-clear = sent-clear;
+    }

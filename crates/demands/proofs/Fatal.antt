@@ -1,0 +1,104 @@
+-- A fatal alert over runs: the keys and the window of the connection are those of the history, so the row of the table that bars is the
+-- one of a fatal alert that is genuine and new by the history, and the other way round.
+use mathlib.Core.Path.{_≡_, refl, sym, _∙_, ap, subst}
+use mathlib.Core.Logic.{_⊎_, inl, inr, _≢_}
+use mathlib.Core.Bool.{Bool, true, false}
+use mathlib.Core.List.{List, [], _∷_}
+use Prim.Native.Nat.{ℕ}
+use Rattle.record.specs.History.{windowOf, arrivedOf}
+use Rattle.record.specs.Window.{acceptOf, windowWidth}
+use Rattle.record.specs.declared.header.Content.{Content}
+use Rattle.record.specs.declared.header.Content.the-variants as C
+use Rattle.record.specs.declared.reader.Record.{Record}
+use Rattle.record.specs.declared.window.Acceptance.the-variants as A
+use Rattle.record.proofs.Histories.{new-means, all-below, held-ours}
+use Rattle.message.specs.declared.alert.Alert.{Alert}
+use Rattle.connection.specs.Calls.{sessionOf}
+use Rattle.connection.specs.Judge.{judgedRecord}
+use Rattle.connection.specs.declared.answer.Answer.the-variants as W
+use Rattle.connection.specs.declared.state.State.{State}
+use Rattle.connection.specs.declared.state.State.the-variants as S
+use Rattle.connection.specs.declared.handshake.Handshake.{Handshake}
+use Rattle.connection.specs.declared.handshake.Session.{Session}
+use Rattle.demands.specs.Runs.{freshWith}
+use Rattle.demands.specs.Genuine.{Genuine, Sealed, RecordOf, keysOf}
+use Rattle.demands.specs.Table.{ended, sealedAllowed, Guarded, New, row-barred}
+use Rattle.demands.specs.Events.{Event, took, Happened, next, after, history}
+use Rattle.demands.specs.Past.{keysIn, acceptedIn, barredIn}
+use Rattle.demands.specs.Fatal.{Alerted, FatalAt, FatalExactly, FatalInRuns}
+use Rattle.demands.proofs.Genuine.{true-false}
+use Rattle.demands.proofs.Table.{row-of, row-is}
+use Rattle.demands.proofs.Kept.{live, sealed-live}
+use Rattle.demands.proofs.Finished.{Progress, progress-all, progress-fresh, keys-are}
+use Rattle.demands.proofs.HandedOut.{by-history, due-new}
+use Rattle.demands.proofs.Barred.{FatalRow, by-fatal}
+
+allowed-alert : (s : State) → Alerted s → sealedAllowed s C.Alert ≡ true
+allowed-alert s (inl e) = ap (λ x. sealedAllowed x C.Alert) e
+allowed-alert s (inr e) = ap (λ x. sealedAllowed x C.Alert) e
+
+alert-allowed : (s : State) → sealedAllowed s C.Alert ≡ true → Alerted s
+alert-allowed S.Idle e = true-false false e refl
+alert-allowed S.Replied e = true-false false e refl
+alert-allowed S.Spec e = inl refl
+alert-allowed S.Open e = inr refl
+alert-allowed S.Closed e = true-false false e refl
+alert-allowed S.Barred e = true-false false e refl
+
+module _ (session : Session) (past : List Happened) (h : Handshake) (p : Progress session past h) (random d : List ℕ) (r : Record) (at : RecordOf d r) where
+  past-live : Guarded h r → barredIn past ≡ false
+  past-live g = live session past h (p .kept) (sealed-live (h .state) (r .content) (g .kind))
+
+  guard : Alerted (h .state) → (c : List ℕ) (a : Alert) → FatalAt windowWidth session past d r c a → Guarded h r
+  guard s c a f =
+      record {
+        protection = f .genuine .is-sealed .is-protected;
+        kind = ap (sealedAllowed (h .state)) (f .alert) ∙ allowed-alert (h .state) s;
+      }
+
+  new-by-past : (c : List ℕ) (a : Alert) → FatalAt windowWidth session past d r c a
+      → acceptOf (h .protection .window) (r .number) ≡ A.New (windowOf windowWidth (r .number ∷ acceptedIn past)) (arrivedOf windowWidth (r .number ∷ acceptedIn past))
+  new-by-past c a f =
+      ap (λ w. acceptOf w (r .number)) (p .kept .window-is)
+      ∙ due-new windowWidth held-ours (acceptedIn past) (r .number) (f .not-before) (f .recent)
+
+  bars-so : Alerted (h .state) → (c : List ℕ) (a : Alert) → FatalAt windowWidth session past d r c a
+      → (judgedRecord h random d r .answer ≡ W.Barred (a .description)) × (next h (took random d r) .state ≡ S.Barred)
+  bars-so s c a f =
+      let g : Guarded h r = guard s c a f in
+      let coded : Sealed (keysOf h) d r c = subst (λ k. Sealed k d r c) (sym (keys-are session past h p (past-live g))) (f .genuine .is-sealed) in
+      let n : New h d r c (windowOf windowWidth (r .number ∷ acceptedIn past))
+      = record { guarded = g; coded = coded; arrived = arrivedOf windowWidth (r .number ∷ acceptedIn past); accepted = new-by-past c a f } in
+      let is = row-is h random d r (row-barred c (windowOf windowWidth (r .number ∷ acceptedIn past)) a n (f .alert) (f .well-formed) (f .fatal)) in
+      (ap (λ j. j .answer) is, ap (λ j. j .handshake .state) is)
+
+  only-so : h .state ≢ S.Barred → next h (took random d r) .state ≡ S.Barred
+      → Alerted (h .state) × ((c : List ℕ) × (a : Alert) × FatalAt windowWidth session past d r c a)
+  only-so nb z =
+      let f : FatalRow h d r = by-fatal h random d r nb (row-of h random d r) z in
+      let g : Guarded h r = f .new .guarded in
+      let e = sym (ap (λ w. acceptOf w (r .number)) (p .kept .window-is)) ∙ f .new .accepted in
+      let q = new-means windowWidth (acceptedIn past) (r .number) (f .w) (f .new .arrived) (sym (by-history windowWidth held-ours (acceptedIn past) (r .number)) ∙ e) in (
+        alert-allowed (h .state) (sym (ap (sealedAllowed (h .state)) (f .alert)) ∙ g .kind),
+        (
+          f .c,
+          f .a,
+          record {
+            genuine = record { in-place = at; is-sealed = subst (λ k. Sealed k d r (f .c)) (keys-are session past h p (past-live g)) (f .new .coded) };
+            alert = f .alert;
+            well-formed = f .well-formed;
+            fatal = f .fatal;
+            not-before = q .1;
+            recent = all-below windowWidth (acceptedIn past) (r .number) (q .0);
+          },
+        ),
+      )
+
+  pub fatal-exactly : FatalExactly windowWidth session past h random d r
+  fatal-exactly = record { bars = bars-so; only = only-so }
+
+pub fatal-in-runs : FatalInRuns
+unfolding FatalInRuns
+fatal-in-runs id secret es sound random d r at =
+    let h₀ : Handshake = freshWith id secret in
+    fatal-exactly (sessionOf id secret) (history h₀ es []) (after h₀ es) (progress-all (sessionOf id secret) es [] h₀ sound (progress-fresh id secret)) random d r at

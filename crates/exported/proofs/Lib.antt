@@ -1,0 +1,2 @@
+-- The proofs about runs of the exported calls.
+pub mod Runs

@@ -1,0 +1,2 @@
+-- Runs of the exported calls, over the definitions that their contracts cite.
+pub mod Runs
