@@ -1,7 +1,7 @@
 -- Two outcomes that meet the contract of one exported call are the same. Each contract is that of the call of its name in `lent`, so
 -- each theorem is, too.
 use Rattle.digest.specs.Determined.{OneOutcome}
-use Rattle.lent.proofs.Coincide.{fresh-one, receive-one, send-data-one, send-alert-one, close-one, start-one, state-one}
+use Rattle.lent.proofs.Coincide.{fresh-one, receive-one, send-data-one, send-alert-one, close-one, start-one, state-one, mac-one}
 use Rattle.gateway.proofs.gateway_fresh as gateway-fresh
 use Rattle.gateway.proofs.gateway_receive as gateway-receive
 use Rattle.gateway.proofs.gateway_send_data as gateway-send-data
@@ -9,6 +9,7 @@ use Rattle.gateway.proofs.gateway_send_alert as gateway-send-alert
 use Rattle.gateway.proofs.gateway_close as gateway-close
 use Rattle.gateway.proofs.gateway_start as gateway-start
 use Rattle.gateway.proofs.gateway_state as gateway-state
+use Rattle.gateway.proofs.gateway_mac as gateway-mac
 
 pub gateway-fresh-one : OneOutcome gateway-fresh.ended gateway-fresh.Reads.Learnt
 gateway-fresh-one = fresh-one
@@ -30,3 +31,6 @@ gateway-start-one = start-one
 
 pub gateway-state-one : OneOutcome gateway-state.ended gateway-state.Reads.Learnt
 gateway-state-one = state-one
+
+pub gateway-mac-one : OneOutcome gateway-mac.ended gateway-mac.Reads.Learnt
+gateway-mac-one = mac-one

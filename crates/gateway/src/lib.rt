@@ -7,6 +7,7 @@ ghost use Rattle.lent.specs.Calls.{stateResult, freshLoads, closeLoads, startLo
 ghost use Rattle.lent.specs.Saved.{loaded};
 ghost use Rattle.lent.specs.Calls.{dataResult, dataState, dataOut, alertResult, alertState, alertOut};
 ghost use Rattle.lent.specs.Calls.{receiveResult, receiveState, receiveTally, receiveAnswers, receiveOut};
+ghost use Rattle.lent.specs.Macs.{macResult, macOut};
 
 // A fresh connection of a planted session, in 458 bytes. Refusal: 16.
 #[no_mangle]
@@ -110,4 +111,14 @@ pub extern "C" fn gateway_state(state: &[u8]) -> u64
     ensures exact { λ r. ⌜ r ≡ stateResult (now (state .entry)) ⌝ }
 {
     lent::state(state)
+}
+
+// What edition 1 or 2 of the list of MAC kinds says of a number: its name at the front of `out`, its sizes as the count.
+// Refusals: 16, 6.
+#[no_mangle]
+pub extern "C" fn gateway_mac(edition: u32, number: u32, out: &mut [u8]) -> u64
+    ensures exact { λ r. ⌜ r ≡ macResult edition number (length (now (out .entry))) ⌝ }
+    ensures bytes { λ _. ⌜ now (out .exit) ≡ macOut edition number (now (out .entry)) ⌝ }
+{
+    lent::mac(edition, number, out)
 }

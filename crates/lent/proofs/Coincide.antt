@@ -10,6 +10,7 @@ use Rattle.lent.proofs.send_alert as send-alert
 use Rattle.lent.proofs.close as close
 use Rattle.lent.proofs.start as start
 use Rattle.lent.proofs.state as state
+use Rattle.lent.proofs.mac as mac
 
 pub fresh-one : OneOutcome fresh.ended fresh.Reads.Learnt
 fresh-one κs a x y s u e f = (
@@ -49,3 +50,9 @@ start-one κs a x y s u e f = (
 
 pub state-one : OneOutcome state.ended state.Reads.Learnt
 state-one κs a x y s u e f = (e ∙ sym f, refl)
+
+pub mac-one : OneOutcome mac.ended mac.Reads.Learnt
+mac-one κs a x y s u e f = (
+  e .0 ∙ sym (f .0),
+  λ i. (tt, (tt, ((e .1 ∙ sym (f .1)) i, tt))),
+)
