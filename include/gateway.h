@@ -37,6 +37,7 @@ extern "C" {
 #define GATEWAY_DATA_MOST 1300
 #define GATEWAY_SEND_ROOM 1323   /* room for anything that a send can write: 3 + 1,300 + 20 */
 #define GATEWAY_RECORDS_MOST 8
+#define GATEWAY_NAME_ROOM 10     /* room for the name of any MAC kind */
 
 /* What every call answers is one number of three parts. A part that a call says nothing of is 0; where it is refused, so is every
    part but the refusal, save for the offset of 1 to 5. */
@@ -155,6 +156,18 @@ uint64_t gateway_arrived(const uint8_t *state, size_t state_size);
 
 /* The width of the connection's window, as the count. Refused: 16, where the bytes are no saved connection. */
 uint64_t gateway_width(const uint8_t *state, size_t state_size);
+
+/* What a list of MAC kinds (002 appendix A, table 6) says of a number, 0 to 255: edition 1 is the older list, 2 that of April
+   2001. It is no matter of a connection: a connection has kind 2 or 3 whatever the edition.
+   Done: the bytes written at the front of `out` are the name, without a zero behind it; none, where that edition does not list the
+   number. The count has the sizes. No other byte of `out` is touched. Refused, in this order: 16 (an edition other than 1 and 2, a
+   number over 255), 6 (room under 10). */
+uint64_t gateway_mac(uint32_t edition, uint32_t number, uint8_t *out, size_t room);
+
+/* The sizes of a MAC kind: whether the list shows them, and then its key and its code, in bytes. */
+#define GATEWAY_MAC_SHOWN(result) (((result) >> 15 & 1) != 0)
+#define GATEWAY_MAC_KEY(result) ((size_t)((result) >> 8 & 0x7f))
+#define GATEWAY_MAC_CODE(result) ((size_t)((result) & 0xff))
 
 /* The number that n bytes spell, high byte first. */
 static inline uint64_t gateway_number(const uint8_t *bytes, size_t n) {

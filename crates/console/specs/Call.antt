@@ -7,7 +7,7 @@ use Rattle.digest.specs.Pick.{pick}
 use Rattle.lines.specs.Words.{spacesIn}
 use Rattle.lines.specs.Said.{isNamed, bytesAt, numberAt}
 use Rattle.console.specs.declared.call.Call.{Call}
-use Rattle.console.specs.declared.call.Call.the-variants.{Fresh, Receive, Send, Alert, Close, Start, Bad}
+use Rattle.console.specs.declared.call.Call.the-variants.{Fresh, Receive, Send, Alert, Close, Start, Mac, Bad}
 
 -- fresh ID SECRET WIDTH
 abbrev pub freshWords : List ℕ → Bool
@@ -34,12 +34,20 @@ alertWords l =
     false)
     false
 
+-- mac EDITION NUMBER
+abbrev pub macWords : List ℕ → Bool
+macWords l = pick (eqb (spacesIn l) 2) (pick (numberAt l 1 255) (numberAt l 2 255) false) false
+
 -- close, start
 abbrev pub noWords : List ℕ → Bool
 noWords l = eqb (spacesIn l) 0
 
 abbrev pub callIf : Call → Bool → Call
 callIf call good = pick good call Bad
+
+-- a line that asks a table of the papers
+abbrev pub tableOf : List ℕ → Call
+tableOf l = pick (isNamed l 0 (109 ∷ 97 ∷ 99 ∷ [])) (callIf Mac (macWords l)) Bad
 
 -- the call that a line makes
 unfoldable pub callOf : List ℕ → Call
@@ -49,9 +57,9 @@ callOf l =
     (pick (isNamed l 0 (115 ∷ 101 ∷ 110 ∷ 100 ∷ [])) (callIf Send (sendWords l))
     (pick (isNamed l 0 (97 ∷ 108 ∷ 101 ∷ 114 ∷ 116 ∷ [])) (callIf Alert (alertWords l))
     (pick (isNamed l 0 (99 ∷ 108 ∷ 111 ∷ 115 ∷ 101 ∷ [])) (callIf Close (noWords l))
-    (pick (isNamed l 0 (115 ∷ 116 ∷ 97 ∷ 114 ∷ 116 ∷ [])) (callIf Start (noWords l)) Bad)))))
+    (pick (isNamed l 0 (115 ∷ 116 ∷ 97 ∷ 114 ∷ 116 ∷ [])) (callIf Start (noWords l)) (tableOf l))))))
 
--- any call but `fresh` needs a connection
+-- any call but `fresh` and `mac` needs a connection
 abbrev pub needing : Call → Call
 needing Fresh = Fresh
 needing Receive = Bad
@@ -59,6 +67,7 @@ needing Send = Bad
 needing Alert = Bad
 needing Close = Bad
 needing Start = Bad
+needing Mac = Mac
 needing Bad = Bad
 
 abbrev pub callIn : Bool → Call → Call

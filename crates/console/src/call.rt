@@ -2,7 +2,7 @@
 ghost use mathlib.Core.Path.{_≡_};
 ghost use mathlib.Core.Bool.{true, false};
 ghost use Rattle.digest.specs.Pick.{pick};
-ghost use Rattle.console.specs.Call.{freshWords, receiveWords, sendWords, isSense, alertWords, callIf, callOf, callIn};
+ghost use Rattle.console.specs.Call.{freshWords, receiveWords, sendWords, isSense, alertWords, macWords, callIf, tableOf, callOf, callIn};
 use lines::said::bytes_at;
 use lines::said::named;
 use lines::said::number_at;
@@ -21,11 +21,12 @@ pub enum Call {
     Alert,
     Close,
     Start,
+    Mac,
     // no call
     Bad,
 }
 
-// Any call but `fresh` needs a connection.
+// Any call but `fresh` and `mac` needs a connection.
 pub fn call_in(connected: bool, call: Call) -> Call
     ensures { λ r. ⌜ r ≡ callIn connected call ⌝ }
 {
@@ -39,6 +40,7 @@ pub fn call_in(connected: bool, call: Call) -> Call
         Call::Alert => Call::Bad,
         Call::Close => Call::Bad,
         Call::Start => Call::Bad,
+        Call::Mac => Call::Mac,
         Call::Bad => Call::Bad,
     }
 }
@@ -64,6 +66,16 @@ pub fn call_of(line: &[u8]) -> Call
     }
     if named(line, 0, b"start") {
         return call_if(Call::Start, spaces(line) == 0);
+    }
+    table_of(line)
+}
+
+// A line that asks a table of the papers.
+fn table_of(line: &[u8]) -> Call
+    ensures { λ r. ⌜ r ≡ tableOf (now (line .entry)) ⌝ }
+{
+    if named(line, 0, b"mac") {
+        return call_if(Call::Mac, mac_words(line));
     }
     Call::Bad
 }
@@ -112,6 +124,14 @@ fn alert_words(line: &[u8]) -> bool
     let rest = both(number_at(line, 2, 255), rest);
     let rest = both(is_sense(line), rest);
     both(spaces(line) == 5, rest)
+}
+
+// mac EDITION NUMBER
+fn mac_words(line: &[u8]) -> bool
+    ensures { λ r. ⌜ r ≡ macWords (now (line .entry)) ⌝ }
+{
+    let rest = both(number_at(line, 1, 255), number_at(line, 2, 255));
+    both(spaces(line) == 2, rest)
 }
 
 // clear|protected

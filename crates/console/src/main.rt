@@ -3,6 +3,7 @@
 mod call;
 mod console;
 mod line;
+mod mac;
 mod outcome;
 mod run;
 mod status;

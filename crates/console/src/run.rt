@@ -6,6 +6,7 @@ use crate::call::call_in;
 use crate::call::call_of;
 use crate::console::Console;
 use crate::console::Ran;
+use crate::mac::put_mac;
 use crate::outcome;
 use crate::outcome::bad_line;
 use connection::calls;
@@ -37,6 +38,7 @@ pub fn run(console: Console, line: &[u8], text: &mut [u8], at: usize) -> Ran {
         }
         Call::Close => run_close(console, text, at),
         Call::Start => run_start(console, text, at),
+        Call::Mac => run_mac(console, line, text, at),
         Call::Bad => bad_line(console, text, at),
     }
 }
@@ -164,4 +166,11 @@ fn run_start(console: Console, text: &mut [u8], at: usize) -> Ran {
         text,
         at,
     )
+}
+
+fn run_mac(console: Console, line: &[u8], text: &mut [u8], at: usize) -> Ran {
+    let edition = number(word(line, 1), 255) as u8;
+    let mac = number(word(line, 2), 255) as u8;
+    let end = put_mac(edition, mac, text, at);
+    outcome::state_line(console, text, end)
 }

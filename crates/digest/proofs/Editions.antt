@@ -113,3 +113,28 @@ kind-sizes edition Sha (inr e) = ap (λ x. namedIn x 3 .sizes) e
 pub only-2-and-3 : (n : ℕ) → (n ≡ 2 → ⊥) → (n ≡ 3 → ⊥) → Other ≡ listedAs n
 unfolding listedAs
 only-2-and-3 n not2 not3 = search picks
+
+-- A name has ten bytes at most, in whichever edition.
+of-either : {A : Type 0} (P : A → Type 0) (b : Bool) {x y : A} → P x → P y → P (pick b x y)
+of-either P true px py = px
+of-either P false px py = py
+
+row-fits : (n : ℕ) → entryOf n .length ≤ 10
+unfolding entryOf
+row-fits n =
+    let P : Entry → Type 0 = λ e. e .length ≤ 10 in
+    of-either P (eqb n 0) (omega arith) (of-either P (eqb n 1) (omega arith) (of-either P (eqb n 2) (omega arith)
+    (of-either P (eqb n 3) (omega arith) (of-either P (eqb n 4) (omega arith) (of-either P (eqb n 5) (omega arith)
+    (of-either P (eqb n 6) (omega arith) (of-either P (eqb n 7) (omega arith) (omega arith))))))))
+
+pub name-fits : (edition n : ℕ) → namedIn edition n .length ≤ 10
+unfolding namedIn
+name-fits edition n =
+    let P : Named → Type 0 = λ m. m .length ≤ 10 in
+    let shown : (b : Bool) → P (pick b (named (entryOf n)) (nameless Unlisted)) = λ b. of-either P b (row-fits n) (omega arith) in
+    of-either P (eqb edition 1) (shown (entryOf n .older)) (of-either P (eqb edition 2) (shown (entryOf n .later)) (omega arith))
+
+-- "an unknown edition": any but 1 and 2.
+pub unknown-edition : (edition n : ℕ) → (edition ≡ 1 → ⊥) → (edition ≡ 2 → ⊥) → nameless UnknownEdition ≡ namedIn edition n
+unfolding namedIn
+unknown-edition edition n not1 not2 = search picks

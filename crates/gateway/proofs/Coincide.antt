@@ -1,7 +1,7 @@
 -- Two outcomes that meet the contract of one exported call are the same. Each contract is that of the call of its name in `lent`, so
 -- each theorem is, too.
 use Rattle.digest.specs.Determined.{OneOutcome}
-use Rattle.lent.proofs.Coincide.{fresh-one, receive-one, send-data-one, send-alert-one, close-one, start-one, state-one, arrived-one, width-one}
+use Rattle.lent.proofs.Coincide.{fresh-one, receive-one, send-data-one, send-alert-one, close-one, start-one, state-one, arrived-one, width-one, mac-one}
 use Rattle.gateway.proofs.gateway_fresh as gateway-fresh
 use Rattle.gateway.proofs.gateway_receive as gateway-receive
 use Rattle.gateway.proofs.gateway_send_data as gateway-send-data
@@ -11,6 +11,7 @@ use Rattle.gateway.proofs.gateway_start as gateway-start
 use Rattle.gateway.proofs.gateway_state as gateway-state
 use Rattle.gateway.proofs.gateway_arrived as gateway-arrived
 use Rattle.gateway.proofs.gateway_width as gateway-width
+use Rattle.gateway.proofs.gateway_mac as gateway-mac
 
 pub gateway-fresh-one : OneOutcome gateway-fresh.ended gateway-fresh.Reads.Learnt
 gateway-fresh-one = fresh-one
@@ -38,3 +39,6 @@ gateway-arrived-one = arrived-one
 
 pub gateway-width-one : OneOutcome gateway-width.ended gateway-width.Reads.Learnt
 gateway-width-one = width-one
+
+pub gateway-mac-one : OneOutcome gateway-mac.ended gateway-mac.Reads.Learnt
+gateway-mac-one = mac-one

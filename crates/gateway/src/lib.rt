@@ -8,6 +8,7 @@ ghost use Rattle.lent.specs.Calls.{freshLoads, closeLoads, startLoads, dataLoad
 ghost use Rattle.lent.specs.Saved.{loaded};
 ghost use Rattle.lent.specs.Calls.{dataResult, dataState, dataOut, alertResult, alertState, alertOut};
 ghost use Rattle.lent.specs.Calls.{receiveResult, receiveState, receiveTally, receiveAnswers, receiveOut};
+ghost use Rattle.lent.specs.Macs.{macResult, macOut};
 
 // A fresh connection of a planted session, with a window of this width, 32 to 64, in 490 bytes. Refusal: 16.
 #[no_mangle]
@@ -128,4 +129,14 @@ pub extern "C" fn gateway_width(state: &[u8]) -> u64
     ensures exact { λ r. ⌜ r ≡ widthResult (now (state .entry)) ⌝ }
 {
     lent::width(state)
+}
+
+// What edition 1 or 2 of the list of MAC kinds says of a number: its name at the front of `out`, its sizes as the count.
+// Refusals: 16, 6.
+#[no_mangle]
+pub extern "C" fn gateway_mac(edition: u32, number: u32, out: &mut [u8]) -> u64
+    ensures exact { λ r. ⌜ r ≡ macResult edition number (length (now (out .entry))) ⌝ }
+    ensures bytes { λ _. ⌜ now (out .exit) ≡ macOut edition number (now (out .entry)) ⌝ }
+{
+    lent::mac(edition, number, out)
 }

@@ -12,6 +12,7 @@ use Rattle.lent.proofs.start as start
 use Rattle.lent.proofs.state as state
 use Rattle.lent.proofs.arrived as arrived
 use Rattle.lent.proofs.width as width
+use Rattle.lent.proofs.mac as mac
 
 pub fresh-one : OneOutcome fresh.ended fresh.Reads.Learnt
 fresh-one κs a x y s u e f = (
@@ -57,3 +58,9 @@ arrived-one κs a x y s u e f = (e ∙ sym f, refl)
 
 pub width-one : OneOutcome width.ended width.Reads.Learnt
 width-one κs a x y s u e f = (e ∙ sym f, refl)
+
+pub mac-one : OneOutcome mac.ended mac.Reads.Learnt
+mac-one κs a x y s u e f = (
+  e .0 ∙ sym (f .0),
+  λ i. (tt, (tt, ((e .1 ∙ sym (f .1)) i, tt))),
+)

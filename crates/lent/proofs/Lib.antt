@@ -9,3 +9,4 @@ pub mod TallyHolds
 pub mod Results
 pub mod Sizes
 pub mod Coincide
+pub mod MacParts

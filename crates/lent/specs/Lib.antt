@@ -5,3 +5,4 @@ pub mod Saved
 pub mod Report
 pub mod Counts
 pub mod Calls
+pub mod Macs

@@ -9,11 +9,13 @@ ghost use Rattle.lent.specs.Calls.{freshLoads, closeLoads, startLoads, d
 ghost use Rattle.lent.specs.Saved.{loaded};
 ghost use Rattle.lent.specs.Calls.{dataResult, dataState, dataOut, alertResult, alertState, alertOut};
 ghost use Rattle.lent.specs.Calls.{receiveResult, receiveState, receiveTally, receiveAnswers, receiveOut};
+ghost use Rattle.lent.specs.Macs.{macResult, macOut};
 
 mod bytes;
 mod counts;
 mod leave;
 mod load;
+mod macs;
 mod report;
 mod result;
 mod save;
@@ -21,6 +23,7 @@ mod save;
 use connection::calls;
 use connection::receive;
 use connection::send;
+use digest::mac_named;
 use leave::leave_called;
 use leave::leave_received;
 use leave::leave_sent;
@@ -28,6 +31,7 @@ use load::connection_in;
 use load::is_saved;
 use load::lent_for;
 use load::window_in;
+use macs::leave_named;
 use result::not_taken;
 use result::result_of;
 use save::SIZE;
@@ -191,4 +195,19 @@ pub fn width(state: &[u8]) -> u64
         return result_of(0, 0, window.width as usize);
     }
     not_taken()
+}
+
+// What edition 1 or 2 of the list of MAC kinds says of a number: its name at the front of `out`, its sizes as the count.
+// Refusals: 16, 6.
+pub fn mac(edition: u32, number: u32, out: &mut [u8]) -> u64
+    ensures exact { λ r. ⌜ r ≡ macResult edition number (length (now (out .entry))) ⌝ }
+    ensures bytes { λ _. ⌜ now (out .exit) ≡ macOut edition number (now (out .entry)) ⌝ }
+{
+    if 255 < edition {
+        return not_taken();
+    }
+    if 255 < number {
+        return not_taken();
+    }
+    leave_named(mac_named(edition as u8, number as u8), out)
 }

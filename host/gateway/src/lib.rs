@@ -27,12 +27,14 @@
 
 mod answer;
 mod connection;
+mod mac;
 pub mod raw;
 mod refusal;
 mod tally;
 
 pub use answer::{Answer, Answers, Received};
 pub use connection::{Connection, Refused, Sense, State};
+pub use mac::{Edition, MacKind};
 pub use refusal::Refusal;
 pub use tally::Tally;
 
@@ -53,3 +55,5 @@ pub const DATAGRAM_MOST: usize = 1400;
 pub const DATA_MOST: usize = 1300;
 /// Room for anything that a send can write.
 pub const SEND_ROOM: usize = 1323;
+/// Room for the name of any MAC kind.
+pub const NAME_ROOM: usize = 10;

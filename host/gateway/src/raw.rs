@@ -53,6 +53,7 @@ mod exported {
         pub fn gateway_state(state: *const u8, state_size: usize) -> u64;
         pub fn gateway_arrived(state: *const u8, state_size: usize) -> u64;
         pub fn gateway_width(state: *const u8, state_size: usize) -> u64;
+        pub fn gateway_mac(edition: u32, number: u32, out: *mut u8, room: usize) -> u64;
     }
 }
 
@@ -180,4 +181,9 @@ pub fn arrived(state: &[u8]) -> Result {
 pub fn width(state: &[u8]) -> Result {
     // Safety: the pointer is that of a slice, beside its length.
     Result::of(unsafe { exported::gateway_width(state.as_ptr(), state.len()) })
+}
+
+pub fn mac(edition: u32, number: u32, out: &mut [u8]) -> Result {
+    // Safety: the pointer is that of a slice, beside its length.
+    Result::of(unsafe { exported::gateway_mac(edition, number, out.as_mut_ptr(), out.len()) })
 }

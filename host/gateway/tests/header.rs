@@ -37,6 +37,7 @@ fn sizes() {
     assert_eq!(size("DATAGRAM_MOST"), gateway::DATAGRAM_MOST);
     assert_eq!(size("DATA_MOST"), gateway::DATA_MOST);
     assert_eq!(size("SEND_ROOM"), gateway::SEND_ROOM);
+    assert_eq!(size("NAME_ROOM"), gateway::NAME_ROOM);
 }
 
 /// `NotAllowed` is GATEWAY_NOT_ALLOWED, and prints as `refused 8: ` and the words of the header; so all eighteen.

@@ -148,6 +148,7 @@ impl<'a> Day<'a> {
             25 if self.rng.percent(15) => self.fresh(),
             25 => self.wrong_fresh(),
             26 => self.boundary(),
+            27 if self.rng.percent(30) => self.mac(),
             _ => self.ordinary(),
         }
     }
@@ -341,6 +342,12 @@ impl Day<'_> {
         let random = self.rng.bytes(random);
         let room = self.rng.weigh(&[(2, 127), (1, 0), (1, 128), (1, 1)]);
         self.receive_with(&datagram, &random, room);
+    }
+
+    fn mac(&mut self) {
+        let edition = self.rng.pick(&[0, 1, 1, 1, 2, 2, 2, 3, 255, 256]);
+        let number = self.rng.between(0, 9);
+        self.call(format!("mac {edition} {number}").into_bytes());
     }
 
     fn call_shore(&mut self) {

@@ -53,6 +53,21 @@ fn before_the_connection(day: &mut Script) {
     day.line("alert clear 1 0 - 9");
     day.line("fresh a0a1a2a3a4a5a6 303132333435363738393a3b3c3d3e3f40414243 32");
     day.line("fresh a0a1a2a3a4a5a6a7 - 32");
+    mac_kinds(day);
+}
+
+fn mac_kinds(day: &mut Script) {
+    day.heading("the MAC kinds: an unknown edition, each number of both lists, lines that ask for none");
+    for edition in ["0", "3", "255"] {
+        day.line(&format!("mac {edition} 2"));
+    }
+    for number in [0, 1, 2, 3, 4, 5, 6, 7, 8, 255] {
+        day.line(&format!("mac 1 {number}"));
+        day.line(&format!("mac 2 {number}"));
+    }
+    for bad in ["mac", "mac 1", "mac 256 1", "mac 1 256", "mac 1 2 3", "mac 01 2", "mac 1 -"] {
+        day.line(bad);
+    }
 }
 
 fn idle(day: &mut Script) {

@@ -4,6 +4,7 @@
 use gateway::raw::{self, Result as Raw};
 use gateway::State;
 use peer::keys::Kind;
+use peer::macs;
 use peer::wire::Content;
 
 use crate::open::{Lent, Link, RANDOM};
@@ -19,6 +20,7 @@ pub fn run() -> Result<String, String> {
     let mut cases = Cases::default();
     cases.fresh();
     cases.widths();
+    cases.mac();
     for kind in [Kind::Sha80, Kind::Sha] {
         let link = Link::in_state(State::Open, kind);
         cases.receive(&link);
@@ -42,6 +44,23 @@ impl Cases {
         self.tried += 1;
         if !right && self.wrong.is_none() {
             self.wrong = Some(format!("{what}: {given:?}"));
+        }
+    }
+
+    /// Against the second implementation's list.
+    fn mac(&mut self) {
+        for edition in (0..=5).chain([254, 255, 256, 257, 258, u32::MAX]) {
+            for number in (0..=257).chain([258, 260, u32::MAX]) {
+                for room in [0, 1, 9, 10, 11, 40] {
+                    let mut out = vec![0x5a; room];
+                    let given = raw::mac(edition, number, &mut out);
+                    let (refusal, name, count) = mac_expected(edition, number, room);
+                    let mut left = name.as_bytes().to_vec();
+                    left.resize(room.max(name.len()), 0x5a);
+                    let right = (given.refusal, given.written, given.count) == (refusal, name.len(), count) && out == left;
+                    self.expect(&format!("mac {edition} {number} with room {room}"), right, given);
+                }
+            }
         }
     }
 
@@ -259,5 +278,18 @@ impl Cases {
             };
             self.expect(&format!("start again in {state:?}"), right, start);
         }
+    }
+}
+
+/// The refusal, the name and the sizes as the header has them in one count.
+fn mac_expected(edition: u32, number: u32, room: usize) -> (u32, &'static str, usize) {
+    let (Ok(edition), Ok(number)) = (u8::try_from(edition), u8::try_from(number)) else {
+        return (16, "", 0);
+    };
+    match macs::kind(edition, number) {
+        Err(macs::UnknownEdition) => (16, "", 0),
+        Ok(_) if room < 10 => (6, "", 0),
+        Ok(None) => (0, "", 0),
+        Ok(Some(kind)) => (0, kind.name, kind.sizes.map_or(0, |(key, code)| 0x8000 + usize::from(key) * 256 + usize::from(code))),
     }
 }

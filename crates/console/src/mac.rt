@@ -1,0 +1,47 @@
+// What an edition of the list of MAC kinds says of a number.
+use connection::refusal;
+use connection::refusal::Refusal;
+use digest::Listing;
+use digest::Named;
+use digest::Sizes;
+use digest::mac_named;
+use lines::text::put;
+use lines::text::put_number;
+
+// `mac NAME KEY CODE`, `mac NAME - -` where the sizes are not shown, `mac unlisted`, or `mac refused 16`.
+pub fn put_mac(edition: u8, mac: u8, text: &mut [u8], at: usize) -> usize {
+    let named = mac_named(edition, mac);
+    let listing = named.listing;
+    let end = put(text, at, b"mac ");
+    match listing {
+        Listing::Listed => put_named(named, text, end),
+        Listing::Unlisted => put(text, end, b"unlisted\n"),
+        Listing::UnknownEdition => {
+            let end = put(text, end, b"refused ");
+            let end = put_number(text, end, refusal::number(Refusal::Argument) as u64);
+            put(text, end, b"\n")
+        }
+    }
+}
+
+fn put_named(named: Named, text: &mut [u8], at: usize) -> usize {
+    let end = put_name(named.name, named.length, text, at);
+    let sizes = named.sizes;
+    match sizes {
+        Sizes::Shown(key, code) => {
+            let end = put(text, end, b" ");
+            let end = put_number(text, end, key as u64);
+            let end = put(text, end, b" ");
+            let end = put_number(text, end, code as u64);
+            put(text, end, b"\n")
+        }
+        Sizes::Unshown => put(text, end, b" - -\n"),
+    }
+}
+
+fn put_name(name: [u8; 10], length: usize, text: &mut [u8], at: usize) -> usize {
+    if 10 < length {
+        return at;
+    }
+    put(text, at, &name[..length])
+}
