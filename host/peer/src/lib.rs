@@ -29,6 +29,8 @@ pub mod parts;
 pub mod report;
 pub mod rng;
 pub mod script;
+pub mod set;
+pub mod sets;
 pub mod sha1;
 pub mod shapes;
 pub mod shore;
