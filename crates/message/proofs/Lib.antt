@@ -4,6 +4,9 @@ pub mod Alerts
 pub mod Buffers
 pub mod Fields
 pub mod Rests
+pub mod SetEnds
+pub mod SetsWritten
+pub mod SetsRead
 pub mod Entries
 pub mod Hellos
 pub mod Replies

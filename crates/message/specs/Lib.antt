@@ -4,6 +4,7 @@ pub mod Alert
 pub mod Buffer
 pub mod Field
 pub mod Handshake
+pub mod Set
 pub mod Keys
 pub mod Entry
 pub mod Hello

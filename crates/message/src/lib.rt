@@ -9,4 +9,5 @@ pub mod hello;
 pub mod keys;
 mod put;
 pub mod server;
+pub mod set;
 pub mod writer;
