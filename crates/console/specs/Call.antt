@@ -7,7 +7,7 @@ use Rattle.digest.specs.Pick.{pick}
 use Rattle.lines.specs.Words.{spacesIn}
 use Rattle.lines.specs.Said.{isNamed, bytesAt, numberAt}
 use Rattle.console.specs.declared.call.Call.{Call}
-use Rattle.console.specs.declared.call.Call.the-variants.{Fresh, Receive, Send, Alert, Close, Start, Bad}
+use Rattle.console.specs.declared.call.Call.the-variants.{Fresh, Receive, Send, Alert, Close, Start, Set, Bad}
 
 -- fresh ID SECRET
 abbrev pub freshWords : List ℕ → Bool
@@ -41,6 +41,14 @@ noWords l = eqb (spacesIn l) 0
 abbrev pub callIf : Call → Bool → Call
 callIf call good = pick good call Bad
 
+-- set SUITE BYTES
+abbrev pub setWords : List ℕ → Bool
+setWords l = pick (eqb (spacesIn l) 2) (pick (numberAt l 1 255) (bytesAt l 2) false) false
+
+-- the call of a line that makes none of the others
+unfoldable pub setCall : List ℕ → Call
+setCall l = pick (isNamed l 0 (115 ∷ 101 ∷ 116 ∷ [])) (callIf Set (setWords l)) Bad
+
 -- the call that a line makes
 unfoldable pub callOf : List ℕ → Call
 callOf l =
@@ -49,9 +57,9 @@ callOf l =
     (pick (isNamed l 0 (115 ∷ 101 ∷ 110 ∷ 100 ∷ [])) (callIf Send (sendWords l))
     (pick (isNamed l 0 (97 ∷ 108 ∷ 101 ∷ 114 ∷ 116 ∷ [])) (callIf Alert (alertWords l))
     (pick (isNamed l 0 (99 ∷ 108 ∷ 111 ∷ 115 ∷ 101 ∷ [])) (callIf Close (noWords l))
-    (pick (isNamed l 0 (115 ∷ 116 ∷ 97 ∷ 114 ∷ 116 ∷ [])) (callIf Start (noWords l)) Bad)))))
+    (pick (isNamed l 0 (115 ∷ 116 ∷ 97 ∷ 114 ∷ 116 ∷ [])) (callIf Start (noWords l)) (setCall l))))))
 
--- any call but `fresh` needs a connection
+-- any call but `fresh` and `set` needs a connection
 abbrev pub needing : Call → Call
 needing Fresh = Fresh
 needing Receive = Bad
@@ -59,6 +67,7 @@ needing Send = Bad
 needing Alert = Bad
 needing Close = Bad
 needing Start = Bad
+needing Set = Set
 needing Bad = Bad
 
 abbrev pub callIn : Bool → Call → Call

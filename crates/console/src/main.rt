@@ -5,6 +5,7 @@ mod console;
 mod line;
 mod outcome;
 mod run;
+mod set;
 mod status;
 
 use console::Console;

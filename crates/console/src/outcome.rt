@@ -52,7 +52,7 @@ pub fn taken(console: Console, received: Received, out: &[u8], text: &mut [u8], 
     state_line(console, text, end)
 }
 
-fn state_line(console: Console, text: &mut [u8], at: usize) -> Ran {
+pub fn state_line(console: Console, text: &mut [u8], at: usize) -> Ran {
     let end = put_status(console, text, at);
     Ran { console, at: end }
 }
@@ -71,7 +71,7 @@ fn put_outcome(name: &[u8], outcome: Outcome, text: &mut [u8], at: usize) -> usi
 }
 
 // `out HEX`, if bytes were written.
-fn put_out(out: &[u8], written: usize, text: &mut [u8], at: usize) -> usize {
+pub fn put_out(out: &[u8], written: usize, text: &mut [u8], at: usize) -> usize {
     if written == 0 {
         return at;
     }

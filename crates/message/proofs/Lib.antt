@@ -7,6 +7,7 @@ pub mod Rests
 pub mod SetEnds
 pub mod SetsWritten
 pub mod SetsRead
+pub mod SetsPut
 pub mod Entries
 pub mod Hellos
 pub mod Replies
@@ -15,6 +16,7 @@ pub mod ListsWritten
 pub mod ListsRead
 pub mod Written
 pub mod Saying
+pub mod Blanks
 pub mod Twelve
 pub mod Cases
 pub mod Hearing

@@ -13,7 +13,7 @@ use lib.Dec.{leb, ltb, eqb}
 use borrow.Author.Tests.{le-leb, lt-ltb, eq-eqb, eqb-true, eqb-false}
 use Rattle.digest.specs.Bytes.{bytes2}
 use Rattle.message.specs.Field.{both, short, long, fieldEnd, shortEnd, longEnd, twoAt, partOf}
-use Rattle.message.specs.Set.{Basis, onb, trinomial, pentanomial, polynomial, CurveField, prime, two, ParameterSet, dh, ec, other, isDiffieHellman, isEllipticCurve, basisBytes, fieldBytes, setBytes, vectorAllowed, basisAllowed, fieldAllowed, curveAllowed, setAllowed, nextEnd, nextLong, basisEnd, curveFieldEnd, fieldIdOf, dhPlaced, ecPlaced, filling, readDh, readEc, readOf, wellFormed, setSound, fieldAt, setAt, setIn}
+use Rattle.message.specs.Set.{Basis, onb, trinomial, pentanomial, polynomial, CurveField, prime, two, ParameterSet, dh, ec, other, isDiffieHellman, isEllipticCurve, basisBytes, fieldBytes, setBytes, vectorAllowed, basisAllowed, fieldAllowed, vectorsAllowed, curveAllowed, setAllowed, nextEnd, nextLong, basisEnd, curveFieldEnd, fieldIdOf, dhPlaced, ecPlaced, filling, readDh, readEc, readOf, wellFormed, setSound, fieldAt, setAt, setIn}
 use Rattle.message.specs.declared.set.Reading.{Reading}
 use Rattle.message.specs.declared.set.Reading.the-variants.{Malformed, DiffieHellman, EllipticCurve}
 use Rattle.message.proofs.Rests.{ShortThere, short-there, short-size, short-piece, LongThere, long-at, long-size, long-piece, bytes2-of, byte-piece}
@@ -253,7 +253,7 @@ module _ (s : List ℕ) (b : (i : ℕ) → getD s i 0 < 256) where
       (record { can = both-true _ _ d (both-true _ _ (wp .can) (wg .can)); laid = sym all })
 
   ec-there : (suite : ℕ) → isEllipticCurve suite ≡ true → wellFormed (readEc s) ≡ true → SetThere suite (readEc s)
-  unfolding readEc setBytes setAllowed curveAllowed
+  unfolding readEc setBytes setAllowed curveAllowed vectorsAllowed
   ec-there suite d h =
       let ef = curveFieldEnd s in
       let ea = nextEnd 1 s ef in

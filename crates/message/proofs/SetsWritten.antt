@@ -10,7 +10,7 @@ use borrow.Author.Tests.{leb-true, ltb-true}
 use Rattle.digest.specs.Pick.{pick}
 use Rattle.digest.specs.Bytes.{bytes2}
 use Rattle.message.specs.Field.{both, short, long, fieldEnd, shortEnd, longEnd, twoAt, partOf}
-use Rattle.message.specs.Set.{Basis, onb, trinomial, pentanomial, polynomial, CurveField, prime, two, ParameterSet, dh, ec, other, isDiffieHellman, isEllipticCurve, basisBytes, fieldBytes, setBytes, vectorAllowed, basisAllowed, fieldAllowed, curveAllowed, setAllowed, nextEnd, nextLong, basisEnd, curveFieldEnd, fieldIdOf, readDh, readEc, readOf, wellFormed, setSound, fieldAt, setAt, setIn}
+use Rattle.message.specs.Set.{Basis, onb, trinomial, pentanomial, polynomial, CurveField, prime, two, ParameterSet, dh, ec, other, isDiffieHellman, isEllipticCurve, basisBytes, fieldBytes, setBytes, vectorAllowed, basisAllowed, fieldAllowed, vectorsAllowed, curveAllowed, setAllowed, nextEnd, nextLong, basisEnd, curveFieldEnd, fieldIdOf, readDh, readEc, readOf, wellFormed, setSound, fieldAt, setAt, setIn}
 use Rattle.message.specs.declared.set.Reading.{Reading}
 use Rattle.message.specs.declared.set.Reading.the-variants.{Skipped}
 use Rattle.message.proofs.Rests as rests
@@ -214,7 +214,7 @@ dh-is e p g hp hg =
 ec-is : (f : CurveField) (a b seed base order cofactor : List ℕ) → curveAllowed f a b seed base order cofactor ≡ true
     → SetIs (readEc (setBytes (ec f a b seed base order cofactor))) (setBytes (ec f a b seed base order cofactor))
     (ec f a b seed base order cofactor)
-unfolding setBytes curveAllowed
+unfolding setBytes curveAllowed vectorsAllowed
 ec-is f a b seed base order cofactor h =
     let hf = both-split (fieldAllowed f) _ h in
     let ha = both-split (vectorAllowed 1 255 a) _ (hf .1) in

@@ -12,5 +12,6 @@ pub mod Given
 pub mod Values
 pub mod Change
 pub mod Said
+pub mod Blank
 pub mod Server
 pub mod Finished

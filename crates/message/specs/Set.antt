@@ -73,13 +73,17 @@ unfoldable pub fieldAllowed : CurveField → Bool
 fieldAllowed (prime p) = vectorAllowed 1 255 p
 fieldAllowed (two m basis) = both (ltb m 65536) (basisAllowed basis)
 
-unfoldable pub curveAllowed : CurveField → List ℕ → List ℕ → List ℕ → List ℕ → List ℕ → List ℕ → Bool
-curveAllowed field a b seed base order cofactor =
-    both (fieldAllowed field)
-    (both (vectorAllowed 1 255 a)
+-- ECCurve curve (a, b, seed), ECPoint base, order and cofactor
+unfoldable pub vectorsAllowed : List ℕ → List ℕ → List ℕ → List ℕ → List ℕ → List ℕ → Bool
+vectorsAllowed a b seed base order cofactor =
+    both (vectorAllowed 1 255 a)
     (both (vectorAllowed 1 255 b)
     (both (vectorAllowed 0 255 seed)
-    (both (vectorAllowed 1 255 base) (both (vectorAllowed 1 255 order) (vectorAllowed 1 255 cofactor))))))
+    (both (vectorAllowed 1 255 base) (both (vectorAllowed 1 255 order) (vectorAllowed 1 255 cofactor)))))
+
+unfoldable pub curveAllowed : CurveField → List ℕ → List ℕ → List ℕ → List ℕ → List ℕ → List ℕ → Bool
+curveAllowed field a b seed base order cofactor =
+    both (fieldAllowed field) (vectorsAllowed a b seed base order cofactor)
 
 -- a set of the kind that its suite has
 unfoldable pub setAllowed : ℕ → ParameterSet → Bool
@@ -194,5 +198,22 @@ setAt s (EllipticCurve c) =
     ec (fieldAt s (c .field)) (bytesAt s (c .a)) (bytesAt s (c .b)) (bytesAt s (c .seed)) (bytesAt s (c .base))
     (bytesAt s (c .order)) (bytesAt s (c .cofactor))
 
+-- what is written of the values at the places: nothing where no set can have them
+unfoldable pub dhWritten : ℕ → List ℕ → List ℕ → List ℕ
+dhWritten e p g = pick (both (vectorAllowed 1 65535 p) (vectorAllowed 1 65535 g)) (setBytes (dh e p g)) []
+
+unfoldable pub fieldWritten : CurveField → List ℕ
+fieldWritten field = pick (fieldAllowed field) (fieldBytes field) []
+
+unfoldable pub ecWritten : CurveField → List ℕ → List ℕ → List ℕ → List ℕ → List ℕ → List ℕ → List ℕ
+ecWritten field a b seed base order cofactor =
+    pick (curveAllowed field a b seed base order cofactor) (setBytes (ec field a b seed base order cofactor)) []
+
+abbrev pub writtenOf : ParameterSet → List ℕ
+writtenOf (dh e p g) = dhWritten e p g
+writtenOf (ec field a b seed base order cofactor) = ecWritten field a b seed base order cofactor
+writtenOf (other s) = []
+
+-- the values of a set that was read
 unfoldable pub setIn : ℕ → List ℕ → ParameterSet
 setIn suite s = setAt s (readOf suite s)

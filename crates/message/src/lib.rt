@@ -10,4 +10,5 @@ pub mod keys;
 mod put;
 pub mod server;
 pub mod set;
+pub mod set_writer;
 pub mod writer;
