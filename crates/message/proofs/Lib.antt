@@ -8,6 +8,7 @@ pub mod SetEnds
 pub mod SetsWritten
 pub mod SetsRead
 pub mod SetsPut
+pub mod SetsSaid
 pub mod Entries
 pub mod Hellos
 pub mod Replies

@@ -251,7 +251,7 @@ ec-is f a b seed base order cofactor h =
     })
 
 -- suites of one kind are not of the other
-dh-not-ec : (suite : ℕ) → isEllipticCurve suite ≡ true → isDiffieHellman suite ≡ false
+pub dh-not-ec : (suite : ℕ) → isEllipticCurve suite ≡ true → isDiffieHellman suite ≡ false
 dh-not-ec suite h =
     let p = leb-true 11 suite (both-split (leb 11 suite) _ h .0) in
     above-dh suite (omega arith)
