@@ -12,6 +12,7 @@ use Rattle.demands.proofs.Replies.{replies-right}
 use Rattle.demands.proofs.Barred.{barred-only-by-fatal, barred-for-good}
 use Rattle.demands.proofs.Sends.{data-sent-right, alert-sent-right}
 use Rattle.demands.proofs.Written.{read-as-written}
+use Rattle.demands.proofs.Sets.{sets}
 use Rattle.demands.proofs.LeftOut.{leaves-out}
 use Rattle.demands.proofs.HandedOut.{handed-out, handed-once}
 use Rattle.demands.proofs.Traps.{empty-then-data, twice-in-one, closed-between}
@@ -38,6 +39,7 @@ second =
     record {
       table = table-holds;
       written = read-as-written;
+      sets = sets;
       record-changes = record-changes-only;
       data-changes = data-changes-only;
       alert-changes = alert-changes-only;

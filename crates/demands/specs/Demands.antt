@@ -12,6 +12,7 @@ use Rattle.demands.specs.Replies.{RepliesRight}
 use Rattle.demands.specs.Barred.{BarredOnlyByFatal, BarredForGood}
 use Rattle.demands.specs.Sends.{DataSentRight, AlertSentRight}
 use Rattle.demands.specs.Written.{ReadAsWritten}
+use Rattle.demands.specs.Sets.{Sets}
 use Rattle.demands.specs.LeftOut.{LeavesOut, talliedIn}
 use Rattle.demands.specs.HandedOut.{HandedOut, HandedOnce}
 use Rattle.demands.specs.Traps.{EmptyThenData, TwiceInOne, ClosedBetween}
@@ -38,6 +39,7 @@ pub record First : Type 0 where
 pub record Second : Type 0 where
   pub table : TableHolds
   pub written : ReadAsWritten
+  pub sets : Sets
   pub record-changes : RecordChangesOnly
   pub data-changes : DataChangesOnly
   pub alert-changes : AlertChangesOnly

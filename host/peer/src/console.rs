@@ -138,7 +138,9 @@ fn set_lines(suite: u8, bytes: &[u8]) -> Vec<String> {
 
 fn run_call(shore: &mut Shore, tally: &mut Tally, call: Call, lines: &mut Vec<String>) {
     match call {
-        Call::Fresh { .. } | Call::Mac { .. } | Call::Set { .. } => unreachable!("these need no connection"),
+        Call::Fresh { .. } | Call::Mac { .. } | Call::Set { .. } => {
+            unreachable!("these need no connection")
+        }
         Call::Receive { datagram, random, room } => {
             write_received(shore.receive(&datagram, &random, room, tally), lines)
         }

@@ -37,6 +37,7 @@ pub mod shore;
 pub mod short;
 pub mod shrink;
 pub mod stored;
+pub mod storedsets;
 pub mod unit;
 pub mod window;
 pub mod wire;

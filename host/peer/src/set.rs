@@ -227,7 +227,10 @@ mod tests {
         let of = |field: &str| said(18, &format!("{field}{rest}"));
         let tail = " a=01 b=02 seed=- base=0304 order=05 cofactor=02";
         assert_eq!(of("02000001"), format!("ec two m=0 onb{tail}"));
-        assert_eq!(of("02007102 0009".replace(' ', "").as_str()), format!("ec two m=113 trinomial 9{tail}"));
+        assert_eq!(
+            of("02007102 0009".replace(' ', "").as_str()),
+            format!("ec two m=113 trinomial 9{tail}")
+        );
         assert_eq!(of("0200710403010203"), format!("ec two m=113 polynomial 010203{tail}"));
         assert_eq!(said(8, "ffff"), "skipped");
     }
