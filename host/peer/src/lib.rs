@@ -30,6 +30,7 @@ pub mod report;
 pub mod rng;
 pub mod script;
 pub mod set;
+pub mod setlines;
 pub mod sets;
 pub mod sha1;
 pub mod shapes;
