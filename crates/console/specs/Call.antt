@@ -7,7 +7,7 @@ use Rattle.digest.specs.Pick.{pick}
 use Rattle.lines.specs.Words.{spacesIn}
 use Rattle.lines.specs.Said.{isNamed, bytesAt, numberAt}
 use Rattle.console.specs.declared.call.Call.{Call}
-use Rattle.console.specs.declared.call.Call.the-variants.{Fresh, Receive, Send, Alert, Close, Start, Mac, Bad}
+use Rattle.console.specs.declared.call.Call.the-variants.{Fresh, Receive, Send, Alert, Close, Start, Mac, Set, Bad}
 
 -- fresh ID SECRET WIDTH
 abbrev pub freshWords : List ℕ → Bool
@@ -45,9 +45,17 @@ noWords l = eqb (spacesIn l) 0
 abbrev pub callIf : Call → Bool → Call
 callIf call good = pick good call Bad
 
+-- set SUITE BYTES
+abbrev pub setWords : List ℕ → Bool
+setWords l = pick (eqb (spacesIn l) 2) (pick (numberAt l 1 255) (bytesAt l 2) false) false
+
+-- a line that asks about a set of parameters
+unfoldable pub setCall : List ℕ → Call
+setCall l = pick (isNamed l 0 (115 ∷ 101 ∷ 116 ∷ [])) (callIf Set (setWords l)) Bad
+
 -- a line that asks a table of the papers
 abbrev pub tableOf : List ℕ → Call
-tableOf l = pick (isNamed l 0 (109 ∷ 97 ∷ 99 ∷ [])) (callIf Mac (macWords l)) Bad
+tableOf l = pick (isNamed l 0 (109 ∷ 97 ∷ 99 ∷ [])) (callIf Mac (macWords l)) (setCall l)
 
 -- the call that a line makes
 unfoldable pub callOf : List ℕ → Call
@@ -59,7 +67,7 @@ callOf l =
     (pick (isNamed l 0 (99 ∷ 108 ∷ 111 ∷ 115 ∷ 101 ∷ [])) (callIf Close (noWords l))
     (pick (isNamed l 0 (115 ∷ 116 ∷ 97 ∷ 114 ∷ 116 ∷ [])) (callIf Start (noWords l)) (tableOf l))))))
 
--- any call but `fresh` and `mac` needs a connection
+-- any call but `fresh`, `mac` and `set` needs a connection
 abbrev pub needing : Call → Call
 needing Fresh = Fresh
 needing Receive = Bad
@@ -68,6 +76,7 @@ needing Alert = Bad
 needing Close = Bad
 needing Start = Bad
 needing Mac = Mac
+needing Set = Set
 needing Bad = Bad
 
 abbrev pub callIn : Bool → Call → Call

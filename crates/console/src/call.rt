@@ -3,6 +3,7 @@ ghost use mathlib.Core.Path.{_≡_};
 ghost use mathlib.Core.Bool.{true, false};
 ghost use Rattle.digest.specs.Pick.{pick};
 ghost use Rattle.console.specs.Call.{freshWords, receiveWords, sendWords, isSense, alertWords, macWords, callIf, tableOf, callOf, callIn};
+use crate::set::set_call;
 use lines::said::bytes_at;
 use lines::said::named;
 use lines::said::number_at;
@@ -22,11 +23,12 @@ pub enum Call {
     Close,
     Start,
     Mac,
+    Set,
     // no call
     Bad,
 }
 
-// Any call but `fresh` and `mac` needs a connection.
+// Any call but `fresh`, `mac` and `set` needs a connection.
 pub fn call_in(connected: bool, call: Call) -> Call
     ensures { λ r. ⌜ r ≡ callIn connected call ⌝ }
 {
@@ -41,6 +43,7 @@ pub fn call_in(connected: bool, call: Call) -> Call
         Call::Close => Call::Bad,
         Call::Start => Call::Bad,
         Call::Mac => Call::Mac,
+        Call::Set => Call::Set,
         Call::Bad => Call::Bad,
     }
 }
@@ -77,10 +80,10 @@ fn table_of(line: &[u8]) -> Call
     if named(line, 0, b"mac") {
         return call_if(Call::Mac, mac_words(line));
     }
-    Call::Bad
+    set_call(line)
 }
 
-fn call_if(call: Call, good: bool) -> Call
+pub fn call_if(call: Call, good: bool) -> Call
     ensures { λ r. ⌜ r ≡ callIf call good ⌝ }
 {
     if good {
@@ -141,7 +144,7 @@ fn is_sense(line: &[u8]) -> bool
     either(named(line, 1, b"clear"), named(line, 1, b"protected"))
 }
 
-fn both(a: bool, b: bool) -> bool
+pub fn both(a: bool, b: bool) -> bool
     ensures { λ r. ⌜ r ≡ pick a b false ⌝ }
 {
     if a {

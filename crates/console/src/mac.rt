@@ -25,8 +25,9 @@ pub fn put_mac(edition: u8, mac: u8, text: &mut [u8], at: usize) -> usize {
 }
 
 fn put_named(named: Named, text: &mut [u8], at: usize) -> usize {
-    let end = put_name(named.name, named.length, text, at);
+    let name = named.name;
     let sizes = named.sizes;
+    let end = put_name(name, named.length, text, at);
     match sizes {
         Sizes::Shown(key, code) => {
             let end = put(text, end, b" ");

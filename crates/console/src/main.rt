@@ -6,6 +6,7 @@ mod line;
 mod mac;
 mod outcome;
 mod run;
+mod set;
 mod status;
 
 use console::Console;

@@ -72,7 +72,7 @@ fn put_outcome(name: &[u8], outcome: Outcome, text: &mut [u8], at: usize) -> usi
 }
 
 // `out HEX`, if bytes were written.
-fn put_out(out: &[u8], written: usize, text: &mut [u8], at: usize) -> usize {
+pub fn put_out(out: &[u8], written: usize, text: &mut [u8], at: usize) -> usize {
     if written == 0 {
         return at;
     }

@@ -9,6 +9,7 @@ use crate::console::Ran;
 use crate::mac::put_mac;
 use crate::outcome;
 use crate::outcome::bad_line;
+use crate::set::run_set;
 use connection::calls;
 use connection::calls::Outcome;
 use connection::receive::receive;
@@ -39,6 +40,7 @@ pub fn run(console: Console, line: &[u8], text: &mut [u8], at: usize) -> Ran {
         Call::Close => run_close(console, text, at),
         Call::Start => run_start(console, text, at),
         Call::Mac => run_mac(console, line, text, at),
+        Call::Set => run_set(console, line, text, at),
         Call::Bad => bad_line(console, text, at),
     }
 }

@@ -15,6 +15,7 @@ use Rattle.demands.proofs.Barred.{barred-only-by-fatal, barred-for-good
 use Rattle.demands.proofs.Fatal.{fatal-in-runs}
 use Rattle.demands.proofs.Sends.{data-sent-right, alert-sent-right}
 use Rattle.demands.proofs.Written.{read-as-written}
+use Rattle.demands.proofs.Sets.{sets}
 use Rattle.demands.proofs.LeftOut.{leaves-out}
 use Rattle.demands.proofs.HandedOut.{handed-out, handed-once}
 use Rattle.demands.proofs.Traps.{empty-then-data, twice-in-one, closed-between}
@@ -45,6 +46,7 @@ second =
       lists-as-written = lists-as-written;
       hellos-as-written = hellos-as-written;
       heard-as-said = heard-as-said;
+      sets = sets;
       record-changes = record-changes-only;
       data-changes = data-changes-only;
       alert-changes = alert-changes-only;

@@ -19,6 +19,7 @@ pub mod Places
 pub mod Example
 pub mod Gateways
 pub mod Written
+pub mod Sets
 pub mod Traps
 pub mod Instances
 pub mod Cases

@@ -14,6 +14,7 @@ use Rattle.demands.specs.Barred.{BarredOnlyByFatal, BarredForGood}
 use Rattle.demands.specs.Fatal.{FatalInRuns}
 use Rattle.demands.specs.Sends.{DataSentRight, AlertSentRight}
 use Rattle.demands.specs.Written.{ReadAsWritten}
+use Rattle.demands.specs.Sets.{Sets}
 use Rattle.demands.specs.LeftOut.{LeavesOut, talliedIn}
 use Rattle.demands.specs.HandedOut.{HandedOut, HandedOnce}
 use Rattle.demands.specs.Traps.{EmptyThenData, TwiceInOne, ClosedBetween}
@@ -46,6 +47,7 @@ pub record Second : Type 0 where
   pub lists-as-written : ListsAsWritten
   pub hellos-as-written : HellosAsWritten
   pub heard-as-said : HeardAsSaid
+  pub sets : Sets
   pub record-changes : RecordChangesOnly
   pub data-changes : DataChangesOnly
   pub alert-changes : AlertChangesOnly

@@ -20,6 +20,7 @@ pub mod Sends
 pub mod Counts
 pub mod Works
 pub mod Written
+pub mod Sets
 pub mod Places
 pub mod Gateways
 pub mod Traps

@@ -14,6 +14,8 @@ use Rattle.message.proofs.writer.write as writer-write
 use Rattle.message.proofs.acceptance.hear as acceptance-hear
 use Rattle.message.proofs.acceptance.accept as acceptance-accept
 use Rattle.message.proofs.server.write as server-write
+use Rattle.message.proofs.set.read as set-read
+use Rattle.message.proofs.set_writer.write as set-writer-write
 use Rattle.message.proofs.alert.read as alert-read
 use Rattle.message.proofs.alert.write as alert-write
 use Rattle.message.proofs.alert.grade as alert-grade
@@ -54,6 +56,12 @@ acceptance-accept-one κs a x y s u e f = (e ∙ sym f, refl)
 
 pub server-write-one : OneOutcome server-write.ended server-write.Reads.Learnt
 server-write-one κs a x y s u e f = (e .0 ∙ sym (f .0), ap (λ w. (tt, (tt, (tt, (w, tt))))) (e .1 ∙ sym (f .1)))
+
+pub set-read-one : OneOutcome set-read.ended set-read.Reads.Learnt
+set-read-one κs a x y s u e f = (e ∙ sym f, refl)
+
+pub set-writer-write-one : OneOutcome set-writer-write.ended set-writer-write.Reads.Learnt
+set-writer-write-one κs a x y s u e f = (e .0 ∙ sym (f .0), ap (λ w. (tt, (tt, (w, tt)))) (e .1 ∙ sym (f .1)))
 
 pub alert-read-one : OneOutcome alert-read.ended alert-read.Reads.Learnt
 alert-read-one κs a x y s u e f = (e ∙ sym f, refl)

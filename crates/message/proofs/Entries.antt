@@ -10,7 +10,8 @@ use lib.Dec.{ltb, eqb}
 use borrow.Author.Tests.{le-ltb, lt-ltb, ltb-true, ltb-false, eqb-true, eqb-false, eq-eqb, ne-eqb}
 use Rattle.digest.specs.Pick.{pick}
 use Rattle.message.specs.Field.{fieldEnd, shortEnd, longEnd, partOf}
-use Rattle.message.specs.Keys.{setSound, specifierEnd, identifierEnd, entryEnd, entriesFrom, keyList, keysEnd}
+use Rattle.message.specs.Keys.{specifierEnd, identifierEnd, entryEnd, entriesFrom, keyList, keysEnd}
+use Rattle.message.specs.Set.{setSound}
 use Rattle.message.proofs.Fields.{Past, past-zero, past-pick, past-field, past-short, past-long, pick-same}
 
 past-specifier : (s : List ℕ) (at suite n : ℕ) → n ≤ at → Past n (specifierEnd s at suite)

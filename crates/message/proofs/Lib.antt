@@ -4,6 +4,11 @@ pub mod Alerts
 pub mod Buffers
 pub mod Fields
 pub mod Rests
+pub mod SetEnds
+pub mod SetsWritten
+pub mod SetsRead
+pub mod SetsPut
+pub mod SetsSaid
 pub mod Entries
 pub mod Hellos
 pub mod Replies
@@ -12,6 +17,7 @@ pub mod ListsWritten
 pub mod ListsRead
 pub mod Written
 pub mod Saying
+pub mod Blanks
 pub mod Twelve
 pub mod Cases
 pub mod Hearing

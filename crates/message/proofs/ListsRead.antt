@@ -11,10 +11,12 @@ use lib.Dec.{ltb, eqb}
 use borrow.Author.Tests.{le-leb, lt-ltb, ltb-true, eq-eqb, eqb-true, eqb-false}
 use Rattle.message.specs.Field.{fieldEnd, shortEnd, longEnd, twoAt, partOf, short, long, both}
 use Rattle.message.specs.Keys.{specifierEnd, identifierEnd, entryEnd, entriesFrom, keyList}
+use Rattle.message.specs.Set.{setBytes, setSound, setIn}
 use Rattle.message.specs.Entry.{Identifier, null, text, binary, hash, x509, Parameters, Entry, identifierBytes, parametersBytes, entryBytes, listBytes, nameAllowed, identifierAllowed, parametersAllowed, listAllowed, identifierAt, parametersAt, entryAt, entriesAt, entriesIn}
 use Rattle.message.proofs.Rests as rests
-use Rattle.message.proofs.Rests.{ShortThere, short-there, short-size, short-piece, long-at, long-size, long-piece, bytes2-of, piece, piece-size, byte-piece}
+use Rattle.message.proofs.Rests.{ShortThere, short-there, short-size, short-piece, long-at, long-size, long-piece, bytes2-of, piece, piece-size, byte-piece, bytes-part}
 use Rattle.message.proofs.Fields.{field-there, by-test, clash, both-true}
+use Rattle.message.proofs.SetsRead.{set-read}
 
 name-can : (name : List ℕ) → 1 ≤ length name → length name ≤ 255 → nameAllowed name ≡ true
 name-can name f g = rw (le-leb 1 (length name) f) (le-leb (length name) 255 g)
@@ -133,45 +135,48 @@ identifier-there s b a l h =
     (λ e4. absurd (h (rw (t, e0, e1, e2, e3, e4) refl)))))))
 
 -- a parameter specifier likewise
-pub record ParametersThere (s : List ℕ) (a e : ℕ) (p : Parameters) : Type 0 where
-  pub can : parametersAllowed p ≡ true
+pub record ParametersThere (s : List ℕ) (a suite e : ℕ) (p : Parameters) : Type 0 where
+  pub can : parametersAllowed suite p ≡ true
   pub laid : drop a s ≡ parametersBytes p ++ drop e s
-  pub past : a < e
 
 parameters-there : (s : List ℕ) → ((i : ℕ) → getD s i 0 < 256) → (a suite : ℕ) → a < length s → (specifierEnd s a suite ≡ 0 → ⊥)
-    → ParametersThere s a (specifierEnd s a suite) (parametersAt s a)
+    → ParametersThere s a suite (specifierEnd s a suite) (parametersAt s a suite)
 unfolding specifierEnd parametersAt parametersBytes parametersAllowed
 parameters-there s b a suite l h =
     let x = getD s a 0 in
-    let C = ParametersThere s a (specifierEnd s a suite) (parametersAt s a) in
+    let C = ParametersThere s a suite (specifierEnd s a suite) (parametersAt s a suite) in
     let t = lt-ltb a (length s) l in
+    let part = partOf s (a + 3) (longEnd s (a + 1)) in
     by-test C (eqb x 255)
-    (λ e0.
-    let p : specifierEnd s a suite ≡ longEnd s (a + 1) = rw (t, e0) refl in
+    (λ e0. by-test C (setSound suite part)
+    (λ e1.
+    let p : specifierEnd s a suite ≡ longEnd s (a + 1) = rw (t, e0, e1) refl in
     let w = long-at s (a + 1) (λ z. h (p ∙ z)) in
     let n = long-size s (a + 1) (longEnd s (a + 1)) w in
     let q : a + 1 + 2 ≡ a + 3 = omega arith in
-    let size : length (partOf s (a + 3) (longEnd s (a + 1))) ≡ twoAt s (a + 1) =
-    ap (λ (k : ℕ). length (partOf s k (longEnd s (a + 1)))) (sym q) ∙ n in
-    rw (t, e0) (record {
-      can = lt-ltb (length (partOf s (a + 3) (longEnd s (a + 1)))) 65536 (omega (arith, size, b (a + 1), b (a + 1 + 1)));
+    let v = set-read suite part (bytes-part s (a + 3) (longEnd s (a + 1)) b) e1 in
+    let size : length (setBytes (setIn suite part)) ≡ twoAt s (a + 1) =
+    ap length (v .1) ∙ ap (λ (k : ℕ). length (partOf s k (longEnd s (a + 1)))) (sym q) ∙ n in
+    rw (t, e0, e1) (record {
+      can = both-true _ _ (v .0)
+          (lt-ltb (length (setBytes (setIn suite part))) 65536 (omega (arith, size, b (a + 1), b (a + 1 + 1))));
       laid = first-byte s b a l 255 (eqb-true x 255 e0)
           ∙ ap (λ (t : List ℕ). 255 ∷ t)
           (long-piece s (a + 1) (longEnd s (a + 1)) (b (a + 1)) (b (a + 1 + 1)) w
-          ∙ ap (λ (k : ℕ). long (partOf s k (longEnd s (a + 1))) ++ drop (longEnd s (a + 1)) s) q);
-      past = omega (arith, w .ends);
+          ∙ ap (λ (k : ℕ). long (partOf s k (longEnd s (a + 1))) ++ drop (longEnd s (a + 1)) s) q
+          ∙ ap (λ (k : List ℕ). long k ++ drop (longEnd s (a + 1)) s) (sym (v .1)));
     }))
+    (λ e1. absurd (h (rw (t, e0, e1) refl))))
     (λ e0.
     let n : x < 255 = omega (arith, b a, eqb-false x 255 e0) in
     rw (t, e0) (record {
       can = lt-ltb x 255 n;
       laid = first-byte s b a l x refl;
-      past = omega arith;
     }))
 
 -- an entry that is there
 pub record EntryThere (s : List ℕ) (a e : ℕ) (n : Entry) : Type 0 where
-  pub can : both (parametersAllowed (n .parameters)) (identifierAllowed (n .identifier)) ≡ true
+  pub can : both (parametersAllowed (n .suite) (n .parameters)) (identifierAllowed (n .identifier)) ≡ true
   pub laid : drop a s ≡ entryBytes n ++ drop e s
 
 -- an identifier is there only within the list
@@ -206,9 +211,9 @@ entry-there s b a l h =
       laid = first-byte s b a l x refl
           ∙ ap (λ (t : List ℕ). x ∷ t)
           (g .laid
-          ∙ ap (λ (t : List ℕ). parametersBytes (parametersAt s (a + 1)) ++ t) (i .laid)
+          ∙ ap (λ (t : List ℕ). parametersBytes (parametersAt s (a + 1) x) ++ t) (i .laid)
           ∙ sym
-          (append-assoc (parametersBytes (parametersAt s (a + 1))) (identifierBytes (identifierAt s c)) (drop (identifierEnd s c) s)));
+          (append-assoc (parametersBytes (parametersAt s (a + 1) x)) (identifierBytes (identifierAt s c)) (drop (identifierEnd s c) s)));
     }))
 
 -- the entries from a place on

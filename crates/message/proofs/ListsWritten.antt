@@ -11,10 +11,12 @@ use borrow.Author.Tests.{lt-ltb, le-ltb, leb-true, ltb-true, eq-eqb, ne-eqb, eqb
 use Rattle.digest.specs.Bytes.{bytes2}
 use Rattle.message.specs.Field.{fieldEnd, shortEnd, longEnd, twoAt, partOf, short, long, both}
 use Rattle.message.specs.Keys.{specifierEnd, identifierEnd, entryEnd, entriesFrom, keyList}
+use Rattle.message.specs.Set.{ParameterSet, setBytes, setAllowed, setSound, setIn}
 use Rattle.message.specs.Entry.{Identifier, null, text, binary, hash, x509, Parameters, indexed, explicit, Entry, identifierBytes, parametersBytes, entryBytes, listBytes, nameAllowed, identifierAllowed, parametersAllowed, listAllowed, identifierAt, parametersAt, entryAt, entriesAt, entriesIn}
 use Rattle.message.proofs.Rests as rests
 use Rattle.message.proofs.Rests.{rest-byte, front-end, front-part, front-rest, short-end, short-part, long-end, long-part}
 use Rattle.message.proofs.Fields.{both-split}
+use Rattle.message.proofs.SetsWritten.{set-written}
 
 -- a name that is allowed
 name-floor : (name : List ℕ) → nameAllowed name ≡ true → 1 ≤ length name
@@ -115,7 +117,7 @@ module _ (s : List ℕ) (a : ℕ) (l : List ℕ) where
 -- a parameter specifier likewise
 pub record ParametersAre (s : List ℕ) (a suite : ℕ) (p : Parameters) : Type 0 where
   pub ends : specifierEnd s a suite ≡ a + length (parametersBytes p)
-  pub are : parametersAt s a ≡ p
+  pub are : parametersAt s a suite ≡ p
 
 module _ (s : List ℕ) (a suite : ℕ) (l : List ℕ) where
   indexed-are : (index : ℕ) → index < 255 → rests.Rest s a (index ∷ l) → ParametersAre s a suite (indexed index)
@@ -128,24 +130,32 @@ module _ (s : List ℕ) (a suite : ℕ) (l : List ℕ) where
         are = rw (y, n) refl;
       }
 
-  explicit-are : (set : List ℕ) → length set < 65536 → rests.Rest s a (255 ∷ (long set ++ l)) → ParametersAre s a suite (explicit set)
+  explicit-are : (set : ParameterSet) → setAllowed suite set ≡ true → length (setBytes set) < 65536
+      → rests.Rest s a (255 ∷ (long (setBytes set) ++ l)) → ParametersAre s a suite (explicit set)
   unfolding specifierEnd parametersAt parametersBytes
-  explicit-are set h w =
-      let y = rest-byte s a 255 (long set ++ l) w in
-      let r1 = front-rest s a 1 (255 ∷ []) (long set ++ l) w refl in
-      let e : longEnd s (a + 1) ≡ a + 1 + 2 + length set = long-end s (a + 1) set l r1 h in
+  explicit-are set g h w =
+      let x = setBytes set in
+      let y = rest-byte s a 255 (long x ++ l) w in
+      let r1 = front-rest s a 1 (255 ∷ []) (long x ++ l) w refl in
+      let e : longEnd s (a + 1) ≡ a + 1 + 2 + length x = long-end s (a + 1) x l r1 h in
       let q : a + 1 + 2 ≡ a + 3 = omega arith in
-      let n : partOf s (a + 3) (a + 1 + 2 + length set) ≡ set =
-      ap (λ (k : ℕ). partOf s k (a + 1 + 2 + length set)) (sym q) ∙ long-part s (a + 1) set l r1 in
-      let p : specifierEnd s a suite ≡ longEnd s (a + 1) = rw (lt-ltb a (length s) (omega (arith, w .size)), y) refl in
-      let z : a + 1 + 2 + length set ≡ a + length (255 ∷ long set) = omega arith in
-      let f : parametersAt s a ≡ explicit (partOf s (a + 3) (longEnd s (a + 1))) = rw y refl in
-      record { ends = p ∙ e ∙ z; are = f ∙ ap (λ (k : ℕ). explicit (partOf s (a + 3) k)) e ∙ ap explicit n }
+      let n : partOf s (a + 3) (longEnd s (a + 1)) ≡ x =
+      ap (λ (k : ℕ). partOf s (a + 3) k) e
+      ∙ ap (λ (k : ℕ). partOf s k (a + 1 + 2 + length x)) (sym q)
+      ∙ long-part s (a + 1) x l r1 in
+      let v = set-written suite set g in
+      let u : setSound suite (partOf s (a + 3) (longEnd s (a + 1))) ≡ true = ap (setSound suite) n ∙ v .0 in
+      let p : specifierEnd s a suite ≡ longEnd s (a + 1) = rw (lt-ltb a (length s) (omega (arith, w .size)), y, u) refl in
+      let z : a + 1 + 2 + length x ≡ a + length (255 ∷ long x) = omega arith in
+      let f : parametersAt s a suite ≡ explicit (setIn suite (partOf s (a + 3) (longEnd s (a + 1)))) = rw y refl in
+      record { ends = p ∙ e ∙ z; are = f ∙ ap (λ (k : List ℕ). explicit (setIn suite k)) n ∙ ap explicit (v .1) }
 
-  parameters-are : (p : Parameters) → parametersAllowed p ≡ true → rests.Rest s a (parametersBytes p ++ l) → ParametersAre s a suite p
+  parameters-are : (p : Parameters) → parametersAllowed suite p ≡ true → rests.Rest s a (parametersBytes p ++ l) → ParametersAre s a suite p
   unfolding parametersBytes parametersAllowed
   parameters-are (indexed index) h w = indexed-are index (ltb-true index 255 h) w
-  parameters-are (explicit set) h w = explicit-are set (ltb-true (length set) 65536 h) w
+  parameters-are (explicit set) h w =
+      let p = both-split (setAllowed suite set) _ h in
+      explicit-are set (p .0) (ltb-true (length (setBytes set)) 65536 (p .1)) w
 
 -- an entry
 pub record EntryIs (s : List ℕ) (a : ℕ) (e : Entry) (l : List ℕ) : Type 0 where
@@ -159,7 +169,7 @@ unfolding parametersBytes
 parameters-some (indexed index) = omega arith
 parameters-some (explicit set) = omega arith
 
-entry-is : (s : List ℕ) (a : ℕ) (e : Entry) (l : List ℕ) → parametersAllowed (e .parameters) ≡ true
+entry-is : (s : List ℕ) (a : ℕ) (e : Entry) (l : List ℕ) → parametersAllowed (e .suite) (e .parameters) ≡ true
     → identifierAllowed (e .identifier) ≡ true
     → rests.Rest s a (entryBytes e ++ l) → EntryIs s a e l
 unfolding entryEnd entryBytes
@@ -178,7 +188,12 @@ entry-is s a e l g h w =
     let z : a + 1 + length ps + length is ≡ a + length (e .suite ∷ (ps ++ is)) = omega arith in
     record {
       ends = rw (lt-ltb a (length s) (omega (arith, w .size)), v, ne-eqb (a + 1 + length ps) 0 n) (i .ends ∙ z);
-      is = λ j. record { suite = y j; parameters = p .are j; identifier = (ap (identifierAt s) v ∙ i .is) j };
+      is = λ j.
+          record {
+            suite = y j;
+            parameters = (ap (parametersAt s (a + 1)) y ∙ p .are) j;
+            identifier = (ap (identifierAt s) v ∙ i .is) j;
+          };
       rest = front-rest s a (length (e .suite ∷ (ps ++ is))) (e .suite ∷ (ps ++ is)) l w refl;
       some = omega arith;
     }
@@ -192,13 +207,13 @@ list-is s [] a (suc n) h w l =
     let z : a ≡ length s = omega (arith, w .size) in
     (rw (le-ltb a (length s) (omega arith)) (eq-eqb a (length s) z), rw (le-ltb a (length s) (omega arith)) refl)
 list-is s (e ∷ es) a zero h w l =
-    let p = both-split (both (parametersAllowed (e .parameters)) (identifierAllowed (e .identifier))) _ h in
-    let q = both-split (parametersAllowed (e .parameters)) _ (p .0) in
+    let p = both-split (both (parametersAllowed (e .suite) (e .parameters)) (identifierAllowed (e .identifier))) _ h in
+    let q = both-split (parametersAllowed (e .suite) (e .parameters)) _ (p .0) in
     let i = entry-is s a e (listBytes es) (q .0) (q .1) w in
     absurd (omega (arith, i .rest .size, i .some))
 list-is s (e ∷ es) a (suc n) h w l =
-    let p = both-split (both (parametersAllowed (e .parameters)) (identifierAllowed (e .identifier))) _ h in
-    let q = both-split (parametersAllowed (e .parameters)) _ (p .0) in
+    let p = both-split (both (parametersAllowed (e .suite) (e .parameters)) (identifierAllowed (e .identifier))) _ h in
+    let q = both-split (parametersAllowed (e .suite) (e .parameters)) _ (p .0) in
     let i = entry-is s a e (listBytes es) (q .0) (q .1) w in
     let k : a < length s = omega (arith, i .rest .size, i .some) in
     let b = a + length (entryBytes e) in

@@ -8,7 +8,7 @@ use native.Mathlib.Omega.{arith}
 use native.Mathlib.Numerals.{add-one}
 use lib.ListN.{length, getD, take, drop, length-drop, length-append, length-take, take-append-drop}
 use lib.Seq.{take-at, drop-at, drop-drop, getD-drop, drop-cons, length-take-le}
-use lib.Dec.{leb, ltb, eqb}
+use lib.Dec.{leb, ltb, eqb, lit<}
 use borrow.Author.Tests.{le-leb, lt-ltb, leb-true, ltb-true}
 use Rattle.digest.specs.Pick.{pick}
 use Rattle.digest.specs.Bytes.{bytes2}
@@ -180,3 +180,13 @@ long-piece m a e h k w =
     ∙ ap (λ (j : ℕ). partOf m (a + 2) j ++ drop j m) (sym (w .ends)))
     ∙ ap (λ (t : List ℕ). t ++ (partOf m (a + 2) e ++ drop e m))
     (sym (bytes2-of (getD m a 0) (getD m (a + 1) 0) h k) ∙ ap bytes2 (sym (long-size m a e w)))
+
+-- a part of bytes is bytes
+bytes-take : (n : ℕ) (s : List ℕ) → ((i : ℕ) → getD s i 0 < 256) → (i : ℕ) → getD (take n s) i 0 < 256
+bytes-take zero s b i = lit< tt
+bytes-take (suc n) [] b i = lit< tt
+bytes-take (suc n) (x ∷ s) b zero = b 0
+bytes-take (suc n) (x ∷ s) b (suc i) = bytes-take n s (λ j. b (suc j)) i
+
+pub bytes-part : (m : List ℕ) (from end : ℕ) → ((i : ℕ) → getD m i 0 < 256) → (i : ℕ) → getD (partOf m from end) i 0 < 256
+bytes-part m from end b = bytes-take (end - from) (drop from m) (λ i. rw (getD-drop from m i 0) (b (from + i)))

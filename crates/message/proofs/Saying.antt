@@ -239,7 +239,7 @@ module _ (v : Values) (planted : List ℕ) where
       ap judged (pair-so k mac w) ∙ rw (null-in (v .methods) c, ne-eqb (v .numbering) 2 n) refl
   accept-only (H.Malformed fault) n = absurd n
 
-  heard-so : allowed v ≡ true → heardOf (helloOf v) planted ≡ judged (acceptanceOf v planted)
+  pub heard-so : allowed v ≡ true → heardOf (helloOf v) planted ≡ judged (acceptanceOf v planted)
   unfolding heardOf
   heard-so h =
       let w = written-read v h in

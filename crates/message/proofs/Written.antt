@@ -2,15 +2,13 @@
 -- and a message that reads as well-formed is the one that is written of its values. From hellos whose lists are given as
 -- bytes (Givens) and from the lists that are written of entries (ListsWritten, ListsRead).
 use mathlib.Core.Path.{_≡_, _∙_, ap, subst}
-use mathlib.Core.List.{List, [], _∷_}
+use mathlib.Core.List.{List}
 use mathlib.Core.Bool.{true}
 use mathlib.Core.Logic.{_↔_}
-use Prim.Native.Nat.{ℕ, zero, suc, _+_, _-_, _<_}
-use lib.ListN.{length, getD, take, drop}
-use lib.Seq.{getD-drop}
-use lib.Dec.{leb, eqb, lit<}
+use Prim.Native.Nat.{ℕ, _<_}
+use lib.ListN.{length, getD}
+use lib.Dec.{leb, eqb}
 use borrow.Author.Tests.{le-leb, eq-eqb}
-use Rattle.message.specs.Field.{partOf}
 use Rattle.message.specs.Entry.{listAllowed, entriesIn}
 use Rattle.message.specs.Hello.{readOf}
 use Rattle.message.specs.Given.{Given, givenOf, helloFrom, fieldsGiven, offersAllowed, givenAllowed, sentOf, givenAt}
@@ -21,20 +19,11 @@ use Rattle.message.specs.declared.hello.Reading.the-variants.{WellFormed
 use Rattle.message.proofs.Givens as givens
 use Rattle.message.proofs.Givens.{allowed-parts}
 use Rattle.message.proofs.Fields.{both-split}
+use Rattle.message.proofs.Rests.{bytes-part}
 use Rattle.message.proofs.ListsWritten.{list-written}
 use Rattle.message.proofs.ListsRead.{list-read}
 pub use Rattle.message.proofs.Givens.{Filled, filled, fills-of}
 pub use Rattle.message.specs.Values.{placesOf}
-
--- a part of bytes is bytes
-bytes-take : (n : ℕ) (s : List ℕ) → Bytes s → Bytes (take n s)
-bytes-take zero s b i = lit< tt
-bytes-take (suc n) [] b i = lit< tt
-bytes-take (suc n) (x ∷ s) b zero = b 0
-bytes-take (suc n) (x ∷ s) b (suc i) = bytes-take n s (λ j. b (suc j)) i
-
-bytes-part : (m : List ℕ) (from end : ℕ) → Bytes m → Bytes (partOf m from end)
-bytes-part m from end b = bytes-take (end - from) (drop from m) (λ i. rw (getD-drop from m i 0) (b (from + i)))
 
 -- values that a hello can have make lists of bytes that it can have
 given-can : (v : Values) → allowed v ≡ true → givenAllowed (bytesOf v) ≡ true

@@ -7,6 +7,7 @@ use lib.Dec.{leb, ltb, eqb}
 use Rattle.digest.specs.Pick.{pick}
 use Rattle.digest.specs.Bytes.{bytes2}
 use Rattle.message.specs.Field.{both, short, long, longEnd, twoAt, partOf}
+use Rattle.message.specs.Set.{ParameterSet, setBytes, setAllowed, setIn}
 use Rattle.message.specs.Keys.{specifierEnd, identifierEnd, entryEnd}
 
 -- Identifier, by its identifier_type: null, text with its character_set and name, binary, key_hash_sha, x509_name
@@ -17,10 +18,10 @@ pub data Identifier : Type 0 where
   hash : List ℕ → Identifier
   x509 : List ℕ → Identifier
 
--- ParameterSpecifier: an index, or in case 255 the contents of an explicit ParameterSet
+-- ParameterSpecifier: an index, or in case 255 an explicit ParameterSet
 pub data Parameters : Type 0 where
   indexed : ℕ → Parameters
-  explicit : List ℕ → Parameters
+  explicit : ParameterSet → Parameters
 
 -- KeyExchangeId
 pub record Entry : Type 0 where
@@ -39,7 +40,7 @@ identifierBytes (x509 name) = 255 ∷ short name
 -- "255 = explicit parameters are present in the next field", with their length in two bytes
 unfoldable pub parametersBytes : Parameters → List ℕ
 parametersBytes (indexed index) = index ∷ []
-parametersBytes (explicit set) = 255 ∷ long set
+parametersBytes (explicit set) = 255 ∷ long (setBytes set)
 
 unfoldable pub entryBytes : Entry → List ℕ
 entryBytes e = e .suite ∷ (parametersBytes (e .parameters) ++ identifierBytes (e .identifier))
@@ -60,15 +61,15 @@ identifierAllowed (binary identifier) = nameAllowed identifier
 identifierAllowed (hash key) = eqb (length key) 20
 identifierAllowed (x509 name) = nameAllowed name
 
--- an index is 0 to 254; 01: "explicit parameters are skipped by their own length", whatever they hold
-unfoldable pub parametersAllowed : Parameters → Bool
-parametersAllowed (indexed index) = ltb index 255
-parametersAllowed (explicit set) = ltb (length set) 65536
+-- an index is 0 to 254; a set is one of its suite, and its length is two bytes
+unfoldable pub parametersAllowed : ℕ → Parameters → Bool
+parametersAllowed suite (indexed index) = ltb index 255
+parametersAllowed suite (explicit set) = both (setAllowed suite set) (ltb (length (setBytes set)) 65536)
 
 unfoldable pub listAllowed : List Entry → Bool
 listAllowed [] = true
 listAllowed (e ∷ es) =
-    both (both (parametersAllowed (e .parameters)) (identifierAllowed (e .identifier))) (listAllowed es)
+    both (both (parametersAllowed (e .suite) (e .parameters)) (identifierAllowed (e .identifier))) (listAllowed es)
 
 -- the entry that stands at a place of a list
 unfoldable pub identifierAt : List ℕ → ℕ → Identifier
@@ -79,15 +80,15 @@ identifierAt s at =
     (pick (eqb (getD s at 0) 254) (hash (partOf s (at + 1) (identifierEnd s at)))
     (x509 (partOf s (at + 2) (identifierEnd s at))))))
 
-unfoldable pub parametersAt : List ℕ → ℕ → Parameters
-parametersAt s at =
-    pick (eqb (getD s at 0) 255) (explicit (partOf s (at + 3) (longEnd s (at + 1)))) (indexed (getD s at 0))
+unfoldable pub parametersAt : List ℕ → ℕ → ℕ → Parameters
+parametersAt s at suite =
+    pick (eqb (getD s at 0) 255) (explicit (setIn suite (partOf s (at + 3) (longEnd s (at + 1))))) (indexed (getD s at 0))
 
 abbrev pub entryAt : List ℕ → ℕ → Entry
 entryAt s at =
     record {
       suite = getD s at 0;
-      parameters = parametersAt s (at + 1);
+      parameters = parametersAt s (at + 1) (getD s at 0);
       identifier = identifierAt s (specifierEnd s (at + 1) (getD s at 0));
     }
 

@@ -6,11 +6,11 @@ use lib.ListN.{length, getD}
 use lib.Dec.{leb, eqb}
 use Rattle.digest.specs.Pick.{pick}
 use Rattle.digest.specs.Bytes.{bytes2}
-use Rattle.message.specs.Field.{both, short, long, partOf}
+use Rattle.message.specs.Field.{both, short, long}
 use Rattle.message.specs.Handshake.{messageOf, clientHello}
 use Rattle.message.specs.Keys.{keyList}
-use Rattle.message.specs.declared.hello.Place.{Place}
 use Rattle.message.specs.declared.hello.Hello.{Hello}
+pub use Rattle.message.specs.Set.{bytesAt}
 
 -- the fields in the order of the structure
 pub record Given : Type 0 where
@@ -71,10 +71,6 @@ givenAllowed v =
 -- what is written of values: nothing where no hello can have them
 unfoldable pub sentOf : Given → List ℕ
 sentOf v = pick (givenAllowed v) (helloFrom v) []
-
--- the bytes that stand at a place
-abbrev pub bytesAt : List ℕ → Place → List ℕ
-bytesAt m p = partOf m (p .from) (p .end)
 
 -- the values that stand at the places of a hello
 abbrev pub givenAt : List ℕ → Hello → Given

@@ -7,21 +7,17 @@ use Rattle.digest.specs.Pick.{pick}
 use Rattle.message.specs.Field.{fieldEnd, shortEnd}
 use Rattle.message.specs.Handshake.{fills, clientHello}
 use Rattle.message.specs.Keys.{keysEnd}
-use Rattle.message.specs.declared.hello.Place.{Place}
 use Rattle.message.specs.declared.hello.Hello.{Hello}
 use Rattle.message.specs.declared.hello.Field.{Field}
 use Rattle.message.specs.declared.hello.Field.the-variants.{Header, Size, Version, Random, SessionId, ClientKeyIds, TrustedKeyIds, CipherSuites, CompressionMethods, SequenceNumberMode, KeyRefresh, Rest}
 use Rattle.message.specs.declared.hello.Reading.{Reading}
 use Rattle.message.specs.declared.hello.Reading.the-variants.{WellFormed, Malformed}
+pub use Rattle.message.specs.Set.{place}
 
 -- CipherSuite cipher_suites<2..2^8-1>, of two bytes each: "the length of an encoded vector must be an even multiple of
 -- the length of a single element" (8.3)
 unfoldable pub suitesEnd : List ℕ → ℕ → ℕ
 suitesEnd m at = pick (eqb (getD m at 0 % 2) 0) (shortEnd 2 255 m at) 0
-
--- where the contents of a field stand
-abbrev pub place : ℕ → ℕ → Place
-place from end = record { from = from; end = end }
 
 -- the fields in the order of the structure, each told by its end: a vector's contents begin after its length
 abbrev pub placed : ℕ → ℕ → ℕ → ℕ → ℕ → ℕ → ℕ → ℕ → ℕ → Hello

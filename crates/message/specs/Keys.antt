@@ -1,17 +1,14 @@
 -- Lists of key exchange identifiers (002 10.5.1.2).
 use mathlib.Core.List.{List}
-use mathlib.Core.Bool.{Bool, true, false}
+use mathlib.Core.Bool.{Bool, false}
 use Prim.Native.Nat.{ℕ, zero, suc, _+_}
 use lib.ListN.{length, getD}
 use lib.Dec.{ltb, eqb}
 use Rattle.digest.specs.Pick.{pick}
 use Rattle.message.specs.Field.{fieldEnd, shortEnd, longEnd, partOf}
+use Rattle.message.specs.Set.{setSound}
 
--- whether an explicit ParameterSet of a suite is sound: 01, "explicit parameters are skipped by their own length"
-abbrev pub setSound : ℕ → List ℕ → Bool
-setSound suite set = true
-
--- ParameterSpecifier: parameter_index, and in case 255 a parameter_set with its own 2-byte length
+-- ParameterSpecifier: parameter_index, and in case 255 a parameter_set with its own 2-byte length, sound for the suite
 unfoldable pub specifierEnd : List ℕ → ℕ → ℕ → ℕ
 specifierEnd s at suite =
     pick (ltb at (length s))

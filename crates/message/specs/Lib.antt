@@ -4,6 +4,7 @@ pub mod Alert
 pub mod Buffer
 pub mod Field
 pub mod Handshake
+pub mod Set
 pub mod Keys
 pub mod Entry
 pub mod Hello
@@ -11,5 +12,6 @@ pub mod Given
 pub mod Values
 pub mod Change
 pub mod Said
+pub mod Blank
 pub mod Server
 pub mod Finished

@@ -1,13 +1,14 @@
 -- What stands in a hello, said of its values: laws that the definitions of reading and of acceptance keep. Proved in
--- proofs/ListsWritten.antt, proofs/ListsRead.antt, proofs/Written.antt and proofs/Saying.antt.
+-- proofs/SetsSaid.antt, proofs/ListsWritten.antt, proofs/ListsRead.antt, proofs/Written.antt and proofs/Saying.antt.
 use mathlib.Core.Path.{_≡_}
-use mathlib.Core.Logic.{_⊎_}
-use mathlib.Core.List.{List}
-use mathlib.Core.Bool.{true}
+use mathlib.Core.Logic.{_⊎_, _↔_}
+use mathlib.Core.List.{List, []}
+use mathlib.Core.Bool.{true, false}
 use Prim.Native.Nat.{ℕ, _+_, _*_, _<_}
 use lib.ListN.{length, getD}
 use Rattle.digest.specs.Mac.{numberOf}
 use Rattle.digest.specs.declared.mac.Mac.{Mac}
+use Rattle.message.specs.Set.{ParameterSet, isDiffieHellman, isEllipticCurve, setBytes, setAllowed, setSound, setIn, writtenOf}
 use Rattle.message.specs.Keys.{keyList}
 use Rattle.message.specs.Entry.{Entry, listBytes, listAllowed, entriesIn}
 use Rattle.message.specs.Hello.{readOf}
@@ -22,6 +23,21 @@ use Rattle.message.specs.declared.acceptance.Heard.the-variants as H
 
 abbrev pub Bytes : List ℕ → Type 0
 Bytes s = (i : ℕ) → getD s i 0 < 256
+
+-- Explicit sets are those that are written of values; what is read can be written back; "sets of other suites stay
+-- skipped", and an empty set of a suite that has sets is malformed.
+pub record SetsAsWritten : Type 0 where
+  pub written : (suite : ℕ) (v : ParameterSet) → setAllowed suite v ≡ true
+      → (setSound suite (setBytes v) ≡ true) × (setIn suite (setBytes v) ≡ v)
+  pub read : (suite : ℕ) (s : List ℕ) → Bytes s → setSound suite s ≡ true
+      → (setAllowed suite (setIn suite s) ≡ true) × (setBytes (setIn suite s) ≡ s)
+  pub image : (suite : ℕ) (s : List ℕ) → Bytes s
+      → (setSound suite s ≡ true) ↔ ((v : ParameterSet) × (setAllowed suite v ≡ true) × (setBytes v ≡ s))
+  pub back : (suite : ℕ) (s : List ℕ) → Bytes s → setSound suite s ≡ true
+      → (isDiffieHellman suite ≡ true) ⊎ (isEllipticCurve suite ≡ true) → writtenOf (setIn suite s) ≡ s
+  pub skipped : (suite : ℕ) (s : List ℕ) → isDiffieHellman suite ≡ false → isEllipticCurve suite ≡ false
+      → setSound suite s ≡ true
+  pub empty : (suite : ℕ) → (isDiffieHellman suite ≡ true) ⊎ (isEllipticCurve suite ≡ true) → setSound suite [] ≡ false
 
 -- Key lists are those that are written of entries.
 pub record ListsAsWritten : Type 0 where

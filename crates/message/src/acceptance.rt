@@ -75,7 +75,7 @@ fn judge(m: &[u8], h: Hello, planted: &[u8]) -> Acceptance
 }
 
 // The byte at a place, or 0 past the end.
-fn byte_at(m: &[u8], at: usize) -> u8
+pub(crate) fn byte_at(m: &[u8], at: usize) -> u8
     ensures { λ r. ⌜ r ≡ getD (now (m .entry)) at 0 ⌝ }
 {
     if at < m.len() {

@@ -2,17 +2,11 @@
 ghost use mathlib.Core.Path.{_≡_};
 ghost use Prim.Native.Nat.{_≤_, _<_};
 ghost use lib.ListN.{length};
-ghost use Rattle.message.specs.Keys.{setSound, specifierEnd, identifierEnd, entryEnd, keyList, keysEnd};
+ghost use Rattle.message.specs.Keys.{specifierEnd, identifierEnd, entryEnd, keyList, keysEnd};
 use crate::field;
+use crate::set;
 
-// Whether an explicit parameter set of a key exchange suite is sound. The sets are skipped by their length, so each is.
-pub(crate) fn set_sound(suite: u8, set: &[u8]) -> bool
-    ensures { λ r. ⌜ r ≡ setSound suite (now (set .entry)) ⌝ }
-{
-    true
-}
-
-// The end of a parameter specifier: the index, and after index 255 the explicit set.
+// The end of a parameter specifier: the index, and after index 255 the explicit set, which must be sound.
 pub(crate) fn specifier_end(s: &[u8], at: usize, suite: u8) -> usize
     ensures { λ r. ⌜ r ≡ specifierEnd (now (s .entry)) at suite ⌝ }
     ensures { λ r. ⌜ r ≤ length (now (s .entry)) ⌝ }
@@ -27,7 +21,7 @@ pub(crate) fn specifier_end(s: &[u8], at: usize, suite: u8) -> usize
     if end == 0 {
         return 0;
     }
-    if set_sound(suite, field::part(s, at + 3, end)) {
+    if set::sound(suite, field::part(s, at + 3, end)) {
         return end;
     }
     0

@@ -9,4 +9,6 @@ pub mod hello;
 pub mod keys;
 mod put;
 pub mod server;
+pub mod set;
+pub mod set_writer;
 pub mod writer;

@@ -4,6 +4,7 @@ use std::io::{self, BufRead, Write};
 
 use crate::hex;
 use crate::macs::{self, Kind, UnknownEdition};
+use crate::set;
 use crate::shore::{Answer, Judged, Received, Refusal, Shore, State, Tally};
 
 const LONGEST_LINE: usize = 8192;
@@ -26,6 +27,7 @@ enum Call {
     Close,
     Start,
     Mac { edition: u8, number: u8 },
+    Set { suite: u8, set: Vec<u8> },
 }
 
 /// Runs every line of the input.
@@ -53,6 +55,8 @@ impl Console {
             lines.push(self.fresh(&identifier, &secret, width));
         } else if let Call::Mac { edition, number } = call {
             lines.push(mac(edition, number));
+        } else if let Call::Set { suite, set } = call {
+            lines.extend(set_lines(suite, &set));
         } else {
             let Some(shore) = &mut self.shore else { return bad_line() };
             run_call(shore, &mut self.tally, call, &mut lines);
@@ -124,9 +128,22 @@ fn mac(edition: u8, number: u8) -> String {
     }
 }
 
+/// An explicit set of a suite: its values, and the set written of them.
+fn set_lines(suite: u8, bytes: &[u8]) -> Vec<String> {
+    match set::read(suite, bytes) {
+        Ok(None) => vec!["set skipped".to_string()],
+        Err(set::Malformed) => vec![refused("set", Refusal::Malformed)],
+        Ok(Some(set)) => {
+            vec![format!("set {}", set.words()), format!("out {}", hex::write(&set.write()))]
+        }
+    }
+}
+
 fn run_call(shore: &mut Shore, tally: &mut Tally, call: Call, lines: &mut Vec<String>) {
     match call {
-        Call::Fresh { .. } | Call::Mac { .. } => unreachable!("these need no connection"),
+        Call::Fresh { .. } | Call::Mac { .. } | Call::Set { .. } => {
+            unreachable!("these need no connection")
+        }
         Call::Receive { datagram, random, room } => {
             write_received(shore.receive(&datagram, &random, room, tally), lines)
         }
@@ -222,6 +239,9 @@ fn read(line: &[u8]) -> Option<Call> {
             edition: number(edition, 255)? as u8,
             number: number(mac, 255)? as u8,
         }),
+        [b"set", suite, set] => {
+            Some(Call::Set { suite: number(suite, 255)? as u8, set: bytes(set)? })
+        }
         [b"close"] => Some(Call::Close),
         [b"start"] => Some(Call::Start),
         _ => None,

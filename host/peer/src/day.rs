@@ -11,6 +11,7 @@ use crate::console::Console;
 use crate::hex;
 use crate::lines;
 use crate::rng::Rng;
+use crate::sets;
 use crate::shore::{Checksum, State};
 use crate::unit::Unit;
 use crate::wire;
@@ -149,6 +150,7 @@ impl<'a> Day<'a> {
             25 => self.wrong_fresh(),
             26 => self.boundary(),
             27 if self.rng.percent(30) => self.mac(),
+            27 => self.set_line(),
             _ => self.ordinary(),
         }
     }
@@ -284,6 +286,16 @@ impl Day<'_> {
 
     fn close(&mut self) {
         self.call(b"close".to_vec());
+    }
+
+    /// An explicit parameter set, sound or wrong.
+    fn set_line(&mut self) {
+        let suite = sets::suite(&mut self.rng);
+        let set = match self.rng.percent(50) {
+            true => sets::sound(&mut self.rng, suite),
+            false => sets::wrong(&mut self.rng, suite),
+        };
+        self.call(format!("set {suite} {}", word(&set)).into_bytes());
     }
 
     fn odd_line(&mut self) {

@@ -155,5 +155,7 @@ pub fn cuts(rng: &mut Rng) -> String {
         })
         .collect();
     let file = dayfile::file(&list);
-    (0..=file.len()).map(|cut| format!("clear\nfile {}\nmend 70000\n", string(&file[..cut]))).collect()
+    (0..=file.len())
+        .map(|cut| format!("clear\nfile {}\nmend 70000\n", string(&file[..cut])))
+        .collect()
 }

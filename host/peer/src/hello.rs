@@ -1,6 +1,7 @@
 //! The two hellos (WTLS 10.5.1.2 and 10.5.1.3).
 
 use crate::keys::Kind;
+use crate::set;
 
 /// A ClientHello message, header included, is at most this long (house rule).
 pub const LARGEST_HELLO: usize = 256;
@@ -59,13 +60,13 @@ fn walk_key_ids(mut list: Reader) -> Option<()> {
     Some(())
 }
 
-/// KeyExchangeId: suite, parameter specifier, identifier. Explicit parameters (index 255) are
-/// skipped by their own length.
+/// KeyExchangeId: suite, parameter specifier, identifier. Explicit parameters (index 255) fill their
+/// own length as those of the suite do.
 fn walk_key_id(list: &mut Reader) -> Option<()> {
-    let _suite = list.uint8()?;
+    let suite = list.uint8()?;
     let parameter_index = list.uint8()?;
     if parameter_index == 255 {
-        list.list16()?;
+        let _set = set::read(suite, list.list16()?.left).ok()?;
     }
     match list.uint8()? {
         0 => {}
@@ -120,12 +121,12 @@ pub fn message(kind: u8, body: &[u8]) -> Vec<u8> {
 }
 
 /// Takes fields from the front; each gives nothing if it would pass the end.
-struct Reader<'a> {
-    left: &'a [u8],
+pub(crate) struct Reader<'a> {
+    pub(crate) left: &'a [u8],
 }
 
 impl<'a> Reader<'a> {
-    fn take(&mut self, count: usize) -> Option<&'a [u8]> {
+    pub(crate) fn take(&mut self, count: usize) -> Option<&'a [u8]> {
         if count > self.left.len() {
             return None;
         }
@@ -134,11 +135,11 @@ impl<'a> Reader<'a> {
         Some(taken)
     }
 
-    fn uint8(&mut self) -> Option<u8> {
+    pub(crate) fn uint8(&mut self) -> Option<u8> {
         Some(self.take(1)?[0])
     }
 
-    fn list8(&mut self, floor: usize, ceiling: usize) -> Option<Reader<'a>> {
+    pub(crate) fn list8(&mut self, floor: usize, ceiling: usize) -> Option<Reader<'a>> {
         let length = usize::from(self.uint8()?);
         if length < floor || length > ceiling {
             return None;
@@ -146,13 +147,13 @@ impl<'a> Reader<'a> {
         Some(Reader { left: self.take(length)? })
     }
 
-    fn list16(&mut self) -> Option<Reader<'a>> {
+    pub(crate) fn list16(&mut self) -> Option<Reader<'a>> {
         let length = self.take(2)?;
         let length = usize::from(u16::from_be_bytes([length[0], length[1]]));
         Some(Reader { left: self.take(length)? })
     }
 
-    fn end(&self) -> Option<()> {
+    pub(crate) fn end(&self) -> Option<()> {
         self.left.is_empty().then_some(())
     }
 }
@@ -203,6 +204,22 @@ mod tests {
         assert!(!well_formed(&[5, 255, 0, 3, 8, 8, 0]));
         assert!(!well_formed(&[5, 1]));
         assert!(!well_formed(&[5]));
+    }
+
+    #[test]
+    fn explicit_sets() {
+        let dh = [0, 0, 1, 23, 0, 1, 5];
+        let entry = |suite: u8, index: u8, set: &[u8]| {
+            [&[suite, index, 0, set.len() as u8][..], set, &[0]].concat()
+        };
+        assert!(well_formed(&entry(2, 255, &dh)));
+        assert!(well_formed(&[entry(4, 255, &dh), entry(5, 255, &dh[1..])].concat()));
+        assert!(!well_formed(&entry(2, 255, &dh[1..])));
+        assert!(!well_formed(&entry(2, 255, &[])));
+        assert!(!well_formed(&entry(11, 255, &dh)));
+        assert!(well_formed(&entry(10, 255, &[])));
+        assert!(well_formed(&entry(19, 255, &[])));
+        assert!(well_formed(&[2, 254, 0]));
     }
 
     #[test]

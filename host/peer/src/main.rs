@@ -3,7 +3,9 @@
 use std::io::{self, BufWriter, Read, Write};
 use std::process::ExitCode;
 
-use peer::{console, dayconsole, dayfiles, days, handshakes, lists, parts, rng, stored, wire};
+use peer::{
+    console, dayconsole, dayfiles, days, handshakes, lists, parts, rng, setlines, stored, wire,
+};
 
 const USAGE: &str = "\
 peer console                       the lines that the console must write for those on stdin
@@ -14,6 +16,8 @@ peer handshakes                    two worked handshakes, one `name hex` to a li
 peer dayconsole                    the lines that the day console must write for those on stdin
 peer dayfiles --seed S --count N   lines for the day console: N lists and damaged files
 peer daycuts --seed S --count N     lines for the day console: every cut of N files, mended
+peer setlines --seed S --count N    lines for the console: N calls, explicit sets by themselves and
+                                   in hellos, sound and wrong
 peer days --seed S --calls N [--spent K] [--keep FILE] --console PROGRAM [ARGUMENT ..]
                                    random days through PROGRAM, each line compared; K days on
                                    which sending numbers run out (else 2 to each 200,000 calls);
@@ -36,6 +40,7 @@ fn main() -> ExitCode {
         ["dayconsole"] => dayconsole::run(io::stdin().lock(), BufWriter::new(io::stdout().lock())),
         ["dayfiles", "--seed", seed, "--count", count] => day_files(seed, count, dayfiles::lines),
         ["daycuts", "--seed", seed, "--count", count] => day_files(seed, count, dayfiles::cuts),
+        ["setlines", "--seed", seed, "--count", count] => set_lines(seed, count),
         ["days", ..] => return run_days(&words[1..]),
         ["lists", "--seed", seed, "--count", count, "--lister", ..] => {
             return run_many(lists::run, seed.parse().ok(), count.parse().ok(), &words[6..])
@@ -69,6 +74,19 @@ fn day_files(seed: &str, count: &str, made: fn(&mut rng::Rng) -> String) -> io::
     let mut output = BufWriter::new(io::stdout().lock());
     for _ in 0..count {
         output.write_all(made(&mut rng).as_bytes())?;
+    }
+    output.flush()
+}
+
+fn set_lines(seed: &str, count: &str) -> io::Result<()> {
+    let (Ok(seed), Ok(count)) = (seed.parse(), count.parse::<u64>()) else {
+        return Err(io::Error::other("seed and count are numbers"));
+    };
+    let mut rng = rng::Rng::new(seed);
+    let mut output = BufWriter::new(io::stdout().lock());
+    writeln!(output, "{}", setlines::fresh())?;
+    for _ in 1..count {
+        writeln!(output, "{}", setlines::line(&mut rng))?;
     }
     output.flush()
 }

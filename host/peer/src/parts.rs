@@ -231,7 +231,10 @@ fn difference(items: &[Item], expected: &[String], got: &str) -> Option<String> 
                     Item::Message(message) => hex::write(message),
                 };
                 let got: Vec<&str> = left.lines().take(2).collect();
-                return Some(format!("item {turn}: {shown}\nexpected\n{lines}got\n{}\n", got.join("\n")));
+                return Some(format!(
+                    "item {turn}: {shown}\nexpected\n{lines}got\n{}\n",
+                    got.join("\n")
+                ));
             }
         }
     }

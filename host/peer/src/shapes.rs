@@ -3,6 +3,8 @@
 
 use crate::keys::Kind;
 use crate::rng::Rng;
+use crate::set::{self, Kind as SetKind};
+use crate::sets;
 use crate::unit::{Hello, Identifier, KeyId, Parameters};
 
 /// An acceptable hello of at most 256 bytes.
@@ -68,9 +70,11 @@ fn key_ids(rng: &mut Rng) -> Vec<KeyId> {
 }
 
 fn key_id(rng: &mut Rng) -> KeyId {
-    let size = rng.under(20);
-    let parameters = match rng.percent(30) {
-        true => Parameters::Explicit(rng.bytes(size)),
+    let any = rng.byte();
+    let explicit = rng.percent(30);
+    let suite = if explicit && rng.percent(60) { sets::suite(rng) } else { any };
+    let parameters = match explicit {
+        true => Parameters::Explicit(sets::sound(rng, suite)),
         false => {
             let any = rng.between(0, 254) as u8;
             Parameters::Index(rng.pick(&[0, 1, 254, any]))
@@ -84,14 +88,15 @@ fn key_id(rng: &mut Rng) -> KeyId {
         3 => Identifier::KeyHash(rng.bytes(20)),
         _ => Identifier::X509Name(rng.bytes(size)),
     };
-    KeyId { suite: rng.byte(), parameters, identifier }
+    KeyId { suite, parameters, identifier }
 }
 
 /// Adds one entry to a key list so that the message has exactly the size, if there is space.
 fn fill(rng: &mut Rng, hello: &mut Hello, size: usize) {
     let Some(missing) = size.checked_sub(hello.message().len() + 5) else { return };
+    let any = rng.byte();
     let entry = KeyId {
-        suite: rng.byte(),
+        suite: if set::kind(any) == SetKind::Skipped { any } else { 5 },
         parameters: Parameters::Explicit(rng.bytes(missing)),
         identifier: Identifier::Null,
     };
@@ -138,7 +143,7 @@ fn other_session(rng: &mut Rng, session: &[u8]) -> Vec<u8> {
 
 /// Malformed in one way. Some ways only look malformed, which the model must see.
 fn malformed(rng: &mut Rng, mut hello: Hello) -> Vec<u8> {
-    match rng.under(12) {
+    match rng.under(14) {
         0 => hello.session.extend(rng.bytes(1)),
         1 => hello.suites = Vec::new(),
         2 => hello.suites.push(rng.pick(&[0, 2, 3])),
@@ -149,9 +154,18 @@ fn malformed(rng: &mut Rng, mut hello: Hello) -> Vec<u8> {
         7 => return cut(rng, hello.message()),
         8 => return longer(rng, hello.message()),
         9 => return other_length(rng, hello.message()),
+        10 => hello.client_key_ids.push(wrong_set(rng)),
+        11 => hello.trusted_key_ids.insert(0, wrong_set(rng)),
         _ => return nudged(rng, hello.message()),
     }
     hello.message()
+}
+
+/// An entry with an explicit set that is wrong, as a rule.
+fn wrong_set(rng: &mut Rng) -> KeyId {
+    let suite = sets::suite(rng);
+    let parameters = Parameters::Explicit(sets::wrong(rng, suite));
+    KeyId { suite, parameters, identifier: Identifier::Null }
 }
 
 fn wrong_key_id(rng: &mut Rng) -> KeyId {

@@ -44,7 +44,9 @@ pub fn header(message: &[u8]) -> Option<Header> {
     if elements.iter().any(wrong) {
         return None;
     }
-    let last = |wanted: u8| elements.iter().rev().find(|element| element.0 == wanted).map(|element| element.1);
+    let last = |wanted: u8| {
+        elements.iter().rev().find(|element| element.0 == wanted).map(|element| element.1)
+    };
     let ports = last(0x05)?;
     let ports = Ports {
         destination: u16::from_be_bytes([ports[0], ports[1]]),
@@ -78,10 +80,21 @@ fn elements(mut header: &[u8]) -> Option<Vec<Element<'_>>> {
 #[derive(Clone, Debug, PartialEq, Eq)]
 pub enum Answer {
     Refused(u8),
-    Waiting { ports: Ports, reference: u8, have: usize, total: u8 },
+    Waiting {
+        ports: Ports,
+        reference: u8,
+        have: usize,
+        total: u8,
+    },
     /// The datagram is the message from `start` on.
-    Received { ports: Ports, start: usize },
-    Gathered { ports: Ports, datagram: Vec<u8> },
+    Received {
+        ports: Ports,
+        start: usize,
+    },
+    Gathered {
+        ports: Ports,
+        datagram: Vec<u8>,
+    },
 }
 
 #[derive(Clone, Debug, Default, PartialEq, Eq)]
@@ -140,7 +153,10 @@ impl Gathering {
 
     /// Reference, parts that have come, and total, by rising reference.
     pub fn waiting(&self) -> Vec<(u8, usize, u8)> {
-        self.held.iter().map(|(&reference, held)| (reference, held.parts.len(), held.total)).collect()
+        self.held
+            .iter()
+            .map(|(&reference, held)| (reference, held.parts.len(), held.total))
+            .collect()
     }
 }
 
@@ -159,12 +175,18 @@ mod tests {
     #[test]
     fn headers() {
         assert!(header(&[6, 5, 4, 0, 1, 0, 2]).is_some());
-        assert!(refused(&[]) && refused(&[0]) && refused(&[1]) && refused(&[7, 5, 4, 0, 1, 0, 2, 9]));
+        assert!(
+            refused(&[]) && refused(&[0]) && refused(&[1]) && refused(&[7, 5, 4, 0, 1, 0, 2, 9])
+        );
         assert!(refused(&[6, 5, 4, 0, 1, 0]) && refused(&[6, 5, 5, 0, 1, 0, 2, 3]));
         // a wrong length counts also where a later element overrides it; a bad total that is overridden does not
         assert!(refused(&[10, 0, 2, 1, 1, 5, 4, 0, 1, 0, 2]));
         assert!(header(&[16, 0, 3, 1, 12, 0, 0, 3, 1, 2, 1, 5, 4, 0, 1, 0, 2]).is_some());
-        assert!(refused(&part(1, 12, 1, &[])) && refused(&part(1, 0, 0, &[])) && refused(&part(1, 2, 3, &[])));
+        assert!(
+            refused(&part(1, 12, 1, &[]))
+                && refused(&part(1, 0, 0, &[]))
+                && refused(&part(1, 2, 3, &[]))
+        );
     }
 
     #[test]
@@ -175,7 +197,9 @@ mod tests {
         assert_eq!(gathering.message(&part(7, 3, 1, b"x")), Answer::Refused(20));
         assert_eq!(gathering.message(&part(7, 2, 2, b"b")), Answer::Refused(20));
         assert_eq!(gathering.waiting(), [(7, 2, 3)]);
-        let Answer::Gathered { datagram, .. } = gathering.message(&part(7, 3, 2, b"b")) else { panic!() };
+        let Answer::Gathered { datagram, .. } = gathering.message(&part(7, 3, 2, b"b")) else {
+            panic!()
+        };
         assert_eq!(datagram, b"abc");
         assert!(gathering.waiting().is_empty());
     }

@@ -11,6 +11,7 @@ use crate::hex;
 use crate::keys::Kind;
 use crate::script::Script;
 use crate::shore::{Received, Shore, Tally};
+use crate::storedsets;
 use crate::unit::{Hello, Identifier, KeyId, Parameters};
 use crate::wire::{self, Content};
 
@@ -22,6 +23,7 @@ pub fn day() -> String {
 pub fn written() -> Script {
     let mut day = Script::new(&session(), &secret());
     before_the_connection(&mut day);
+    storedsets::lines(&mut day);
     idle(&mut day);
     replied(&mut day);
     open_with_sha_80(&mut day);
@@ -41,6 +43,7 @@ pub fn written() -> Script {
     all_in_one_datagram(&mut day);
     bad_lines(&mut day);
     barred(&mut day);
+    storedsets::hellos(&mut day);
     day
 }
 

@@ -145,10 +145,13 @@ returns-6 c =
     (rw (sym (n5 .named5 .ensures) ∙ n6 .before .before .if5 .left)
     (rw (sym (n6 .named6 .ensures) ∙ c .before .before .if6 .taken) (c .call-if6 .ensures ∙ ap (callIf Start) (ap (λ n. eqb n 0) (c .before .spaces2 .ensures))))))))
 
+table-of-requires : tie.Need-table-of-requires
+table-of-requires c κs = search needs
+
 returns-7 : tie.Need-returns-7
 unfolding callOf
 returns-7 c =
-    let n6 = c .before in
+    let n6 = c .before .before in
     let n5 = n6 .before .before .before in
     let n4 = n5 .before .before .before in
     let n3 = n4 .before .before .before in
@@ -159,7 +162,7 @@ returns-7 c =
     (rw (sym (n3 .named3 .ensures) ∙ n4 .before .before .if3 .left)
     (rw (sym (n4 .named4 .ensures) ∙ n5 .before .before .if4 .left)
     (rw (sym (n5 .named5 .ensures) ∙ n6 .before .before .if5 .left)
-    (rw (sym (n6 .named6 .ensures) ∙ c .if6 .left) refl)))))
+    (rw (sym (n6 .named6 .ensures) ∙ c .before .if6 .left) (c .table-of .ensures))))))
 
 pub call-of-spec : {M : Type 1} → statement M
 call-of-spec =
@@ -195,4 +198,5 @@ call-of-spec =
     spaces-requires-2
     call-if-requires-6
     returns-6
+    table-of-requires
     returns-7)

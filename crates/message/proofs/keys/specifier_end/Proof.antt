@@ -4,7 +4,9 @@ use native.Mathlib.Omega.{arith}
 use Rattle.digest.proofs.Picks.{picks}
 use denote.Ref.{now}
 use mathlib.Core.Path.{refl, sym, _∙_, ap}
+use mathlib.Core.Bool.{true, false}
 use Rattle.message.specs.Keys.{specifierEnd}
+use Rattle.message.proofs.SetEnds.{specifier-cut, specifier-by}
 use borrow.Author.Needs.{needs}
 use Rattle.message.proofs.keys.specifier_end.Statement.{statement}
 use Rattle.message.proofs.keys.specifier_end.Tie as tie
@@ -30,8 +32,12 @@ long-end-requires : tie.Need-long-end-requires
 long-end-requires c κs = search needs
 
 returns-3 : tie.Need-returns-3
-unfolding specifierEnd
-returns-3 c = (rw (sym (c .before .long-end .ensures .0)) (search (picks, sym (c .if3 .taken))), omega arith)
+returns-3 c =
+    let b = c .before .before in
+    let a = b .before .before .before .before .args in (
+      specifier-cut (now (a .s)) (a .at) (a .suite) (b .before .before .if1 .left) (omega (arith, b .if2 .left)) (sym (c .before .long-end .ensures .0) ∙ c .if3 .taken),
+      omega arith,
+    )
 
 add-part : tie.Need-add-part
 add-part c = search needs
@@ -39,18 +45,26 @@ add-part c = search needs
 part-requires : tie.Need-part-requires
 part-requires c κs = search needs
 
-set-sound-requires : tie.Need-set-sound-requires
-set-sound-requires c κs = search needs
+sound-requires : tie.Need-sound-requires
+sound-requires c κs = search needs
 
 returns-4 : tie.Need-returns-4
-unfolding specifierEnd
-returns-4 c = (
-  rw (sym (c .before .before .before .before .long-end .ensures .0)) (search picks),
-  c .before .before .before .before .long-end .ensures .1,
-)
+returns-4 c =
+    let e = c .before .before .before .before .long-end .ensures in
+    let b = c .before .before .before .before .before in
+    let a = b .before .before .before .before .args in (
+      specifier-by (now (a .s)) (a .at) (a .suite) (b .before .before .if1 .left) (omega (arith, b .if2 .left)) _ _ _ true (e .0) (c .before .before .part .ensures) (c .before .sound .ensures) (c .if4 .taken),
+      e .1,
+    )
 
 returns-5 : tie.Need-returns-5
-returns-5 c = search needs
+returns-5 c =
+    let e = c .before .before .before .before .long-end .ensures in
+    let b = c .before .before .before .before .before in
+    let a = b .before .before .before .before .args in (
+      specifier-by (now (a .s)) (a .at) (a .suite) (b .before .before .if1 .left) (omega (arith, b .if2 .left)) _ _ _ false (e .0) (c .before .before .part .ensures) (c .before .sound .ensures) (c .if4 .left),
+      omega arith,
+    )
 
 pub specifier-end-spec : {M : Type 1} → statement M
 specifier-end-spec =
@@ -65,6 +79,6 @@ specifier-end-spec =
     returns-3
     add-part
     part-requires
-    set-sound-requires
+    sound-requires
     returns-4
     returns-5)

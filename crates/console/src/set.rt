@@ -1,0 +1,139 @@
+// The line `set SUITE BYTES`: an explicit parameter set is read, its values are told, and the set is written of them.
+ghost use mathlib.Core.Path.{_≡_};
+ghost use Rattle.console.specs.Call.{setWords, setCall};
+use crate::call::Call;
+use crate::call::both;
+use crate::call::call_if;
+use crate::console::Console;
+use crate::console::Ran;
+use crate::outcome::put_out;
+use crate::outcome::state_line;
+use lines::hex::put_bytes;
+use lines::number::number;
+use lines::said::bytes_at;
+use lines::said::named;
+use lines::said::number_at;
+use lines::text::put;
+use lines::text::put_hex;
+use lines::text::put_number;
+use lines::words::spaces;
+use lines::words::word;
+use message::field;
+use message::hello::Place;
+use message::set;
+use message::set::DhParameters;
+use message::set::EcParameters;
+use message::set::FieldId;
+use message::set::Reading;
+use message::set_writer;
+
+// The call of a line that makes none of the others.
+pub fn set_call(line: &[u8]) -> Call
+    ensures { λ r. ⌜ r ≡ setCall (now (line .entry)) ⌝ }
+{
+    if named(line, 0, b"set") {
+        return call_if(Call::Set, set_words(line));
+    }
+    Call::Bad
+}
+
+// set SUITE BYTES
+fn set_words(line: &[u8]) -> bool
+    ensures { λ r. ⌜ r ≡ setWords (now (line .entry)) ⌝ }
+{
+    let rest = both(number_at(line, 1, 255), bytes_at(line, 2));
+    both(spaces(line) == 2, rest)
+}
+
+// It changes nothing, and needs no connection.
+pub fn run_set(console: Console, line: &[u8], text: &mut [u8], at: usize) -> Ran {
+    let suite = number(word(line, 1), 255) as u8;
+    let mut bytes = io::buffer();
+    let n = put_bytes(word(line, 2), &mut bytes);
+    let end = put_set(suite, &bytes[..n], text, at);
+    state_line(console, text, end)
+}
+
+// `set skipped`, `set refused 12`, or the values and `out HEX`.
+fn put_set(suite: u8, s: &[u8], text: &mut [u8], at: usize) -> usize {
+    let reading = set::read(suite, s);
+    let end = put_reading(reading, s, text, at);
+    let mut out = io::buffer();
+    let n = set_writer::write(s, reading, &mut out);
+    put_out(&out, n, text, end)
+}
+
+fn put_reading(reading: Reading, s: &[u8], text: &mut [u8], at: usize) -> usize {
+    match reading {
+        Reading::Skipped => put(text, at, b"set skipped\n"),
+        Reading::Malformed => put(text, at, b"set refused 12\n"),
+        Reading::DiffieHellman(d) => put_dh(d, s, text, at),
+        Reading::EllipticCurve(c) => put_ec(c, s, text, at),
+    }
+}
+
+// `set dh e=E p=HEX g=HEX`
+fn put_dh(d: DhParameters, s: &[u8], text: &mut [u8], at: usize) -> usize {
+    let end = put(text, at, b"set dh e=");
+    let end = put_number(text, end, d.e as u64);
+    let end = put_part(b" p=", d.p, s, text, end);
+    let end = put_part(b" g=", d.g, s, text, end);
+    put(text, end, b"\n")
+}
+
+// `set ec FIELD a=HEX b=HEX seed=HEX base=HEX order=HEX cofactor=HEX`
+fn put_ec(c: EcParameters, s: &[u8], text: &mut [u8], at: usize) -> usize {
+    let end = put(text, at, b"set ec ");
+    let end = put_field(c.field, s, text, end);
+    let end = put_part(b" a=", c.a, s, text, end);
+    let end = put_part(b" b=", c.b, s, text, end);
+    let end = put_part(b" seed=", c.seed, s, text, end);
+    let end = put_part(b" base=", c.base, s, text, end);
+    let end = put_part(b" order=", c.order, s, text, end);
+    let end = put_part(b" cofactor=", c.cofactor, s, text, end);
+    put(text, end, b"\n")
+}
+
+// `prime p=HEX`, or `two m=M` and the basis.
+fn put_field(field: FieldId, s: &[u8], text: &mut [u8], at: usize) -> usize {
+    match field {
+        FieldId::Prime(p) => put_part(b"prime p=", p, s, text, at),
+        FieldId::Onb(m) => {
+            let end = put_two(m, text, at);
+            put(text, end, b" onb")
+        }
+        FieldId::Trinomial(m, k) => {
+            let end = put_two(m, text, at);
+            put_with(b" trinomial ", k, text, end)
+        }
+        FieldId::Pentanomial(m, k1, k2, k3) => {
+            let end = put_two(m, text, at);
+            let end = put_with(b" pentanomial ", k1, text, end);
+            let end = put_with(b" ", k2, text, end);
+            put_with(b" ", k3, text, end)
+        }
+        FieldId::Polynomial(m, p) => {
+            let end = put_two(m, text, at);
+            put_part(b" polynomial ", p, s, text, end)
+        }
+    }
+}
+
+fn put_two(m: u16, text: &mut [u8], at: usize) -> usize {
+    put_with(b"two m=", m, text, at)
+}
+
+fn put_with(name: &[u8], n: u16, text: &mut [u8], at: usize) -> usize {
+    let end = put(text, at, name);
+    put_number(text, end, n as u64)
+}
+
+// A name and the bytes at a place in hex, `-` for none.
+fn put_part(name: &[u8], place: Place, s: &[u8], text: &mut [u8], at: usize) -> usize {
+    let end = put(text, at, name);
+    let bytes = field::part(s, place.from, place.end);
+    if bytes.len() == 0 {
+        return put(text, end, b"-");
+    }
+    put_hex(text, end, bytes)
+}
