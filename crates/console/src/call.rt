@@ -18,7 +18,7 @@ pub enum Call {
     Alert,
     Close,
     Start,
-    // no call
+    // no call on the connection alone: one of message.rt, or none
     Bad,
 }
 
@@ -83,7 +83,7 @@ fn fresh_words(line: &[u8]) -> bool
 }
 
 // receive DATAGRAM RANDOM ROOM
-fn receive_words(line: &[u8]) -> bool
+pub fn receive_words(line: &[u8]) -> bool
     ensures { λ r. ⌜ r ≡ receiveWords (now (line .entry)) ⌝ }
 {
     let rest = both(bytes_at(line, 2), number_at(line, 3, ROOM));
@@ -117,7 +117,7 @@ fn is_sense(line: &[u8]) -> bool
     either(named(line, 1, b"clear"), named(line, 1, b"protected"))
 }
 
-fn both(a: bool, b: bool) -> bool
+pub fn both(a: bool, b: bool) -> bool
     ensures { λ r. ⌜ r ≡ pick a b false ⌝ }
 {
     if a {

@@ -52,7 +52,8 @@ pub fn taken(console: Console, received: Received, out: &[u8], text: &mut [u8], 
     state_line(console, text, end)
 }
 
-fn state_line(console: Console, text: &mut [u8], at: usize) -> Ran {
+// The state line alone.
+pub fn state_line(console: Console, text: &mut [u8], at: usize) -> Ran {
     let end = put_status(console, text, at);
     Ran { console, at: end }
 }

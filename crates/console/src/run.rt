@@ -6,8 +6,8 @@ use crate::call::call_in;
 use crate::call::call_of;
 use crate::console::Console;
 use crate::console::Ran;
+use crate::message;
 use crate::outcome;
-use crate::outcome::bad_line;
 use connection::calls;
 use connection::calls::Outcome;
 use connection::receive::receive;
@@ -37,12 +37,12 @@ pub fn run(console: Console, line: &[u8], text: &mut [u8], at: usize) -> Ran {
         }
         Call::Close => run_close(console, text, at),
         Call::Start => run_start(console, text, at),
-        Call::Bad => bad_line(console, text, at),
+        Call::Bad => message::run(console, line, text, at),
     }
 }
 
 // The output that a line lends a part of: as many bytes as it may ask for at most.
-fn output() -> [u8; 2048]
+pub fn output() -> [u8; 2048]
     ensures { λ r. ⌜ 2048 ≡ length r ⌝ }
 {
     [0; 2048]

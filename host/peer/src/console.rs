@@ -4,7 +4,9 @@ use std::io::{self, BufRead, Write};
 
 use crate::hex;
 use crate::macs::{self, Kind, UnknownEdition};
+use crate::messages;
 use crate::shore::{Answer, Judged, Received, Refusal, Shore, State, Tally};
+use crate::short::Gathering;
 
 const LONGEST_LINE: usize = 8192;
 const MOST_ROOM: usize = 2048;
@@ -13,6 +15,7 @@ const MOST_ROOM: usize = 2048;
 pub struct Console {
     shore: Option<Shore>,
     tally: Tally,
+    gathering: Gathering,
 }
 
 /// A line that could be read.
@@ -24,6 +27,8 @@ enum Call {
     Close,
     Start,
     Mac { edition: u8, number: u8 },
+    Message { message: Vec<u8>, random: Vec<u8>, room: usize },
+    Drop { reference: u8 },
 }
 
 /// Runs every line of the input.
@@ -53,7 +58,7 @@ impl Console {
             lines.push(mac(edition, number));
         } else {
             let Some(shore) = &mut self.shore else { return bad_line() };
-            run_call(shore, &mut self.tally, call, &mut lines);
+            run_call(shore, &mut self.tally, &mut self.gathering, call, &mut lines);
         }
         lines.push(self.state_line());
         lines
@@ -67,12 +72,17 @@ impl Console {
         self.shore.as_ref()
     }
 
-    /// A refused fresh leaves connection and tally as they were.
+    pub fn gathering(&self) -> &Gathering {
+        &self.gathering
+    }
+
+    /// A refused fresh leaves connection, tally and gathering as they were.
     fn fresh(&mut self, identifier: &[u8], secret: &[u8]) -> String {
         match Shore::fresh(identifier, secret) {
             Ok(shore) => {
                 self.shore = Some(shore);
                 self.tally = Tally::default();
+                self.gathering = Gathering::default();
                 "fresh ok".to_string()
             }
             Err(refusal) => refused("fresh", refusal),
@@ -82,7 +92,7 @@ impl Console {
     fn state_line(&self) -> String {
         let Some(shore) = &self.shore else {
             return "state None n=- marks=00000000 arrived=0 sent=-,- checksum=00000000 \
-                    tally=0,0,0,0"
+                    tally=0,0,0,0 parts=-"
                 .to_string();
         };
         let newest = shore.window().newest();
@@ -96,9 +106,10 @@ impl Console {
         let Tally { handed_out, forged, too_old, repeated } = self.tally;
         format!(
             "state {:?} n={highest} marks={mask:08x} arrived={arrived} sent={sent} checksum={} \
-             tally={handed_out},{forged},{too_old},{repeated}",
+             tally={handed_out},{forged},{too_old},{repeated} parts={}",
             shore.state(),
-            hex::write(&shore.last_checksum())
+            hex::write(&shore.last_checksum()),
+            messages::parts(&self.gathering)
         )
     }
 }
@@ -107,7 +118,7 @@ fn bad_line() -> Vec<String> {
     vec!["bad line".to_string()]
 }
 
-fn refused(call: &str, refusal: Refusal) -> String {
+pub fn refused(call: &str, refusal: Refusal) -> String {
     format!("{call} refused {}", refusal as u8)
 }
 
@@ -121,7 +132,13 @@ fn mac(edition: u8, number: u8) -> String {
     }
 }
 
-fn run_call(shore: &mut Shore, tally: &mut Tally, call: Call, lines: &mut Vec<String>) {
+fn run_call(
+    shore: &mut Shore,
+    tally: &mut Tally,
+    gathering: &mut Gathering,
+    call: Call,
+    lines: &mut Vec<String>,
+) {
     match call {
         Call::Fresh { .. } | Call::Mac { .. } => unreachable!("these need no connection"),
         Call::Receive { datagram, random, room } => {
@@ -131,6 +148,13 @@ fn run_call(shore: &mut Shore, tally: &mut Tally, call: Call, lines: &mut Vec<St
         Call::Alert { protected, level, description, record, room } => {
             let sent = shore.alert(protected, level, description, &record, room);
             write_sent("alert", sent, lines)
+        }
+        Call::Message { message, random, room } => {
+            messages::run(shore, tally, gathering, &message, &random, room, lines)
+        }
+        Call::Drop { reference } => {
+            gathering.drop_reference(reference);
+            lines.push("drop ok".to_string());
         }
         Call::Close => write_done("close", shore.close(), lines),
         Call::Start => write_done("start", shore.start(), lines),
@@ -154,7 +178,7 @@ fn write_sent(call: &str, sent: Result<Vec<u8>, Refusal>, lines: &mut Vec<String
     }
 }
 
-fn write_received(received: Received, lines: &mut Vec<String>) {
+pub fn write_received(received: Received, lines: &mut Vec<String>) {
     match received {
         Received::Refused(refusal) => lines.push(refused("receive", refusal)),
         Received::Unframed(fault) => {
@@ -217,6 +241,12 @@ fn read(line: &[u8]) -> Option<Call> {
             edition: number(edition, 255)? as u8,
             number: number(mac, 255)? as u8,
         }),
+        [b"message", message, random, room] => Some(Call::Message {
+            message: bytes(message)?,
+            random: bytes(random)?,
+            room: number(room, MOST_ROOM)?,
+        }),
+        [b"drop", reference] => Some(Call::Drop { reference: number(reference, 255)? as u8 }),
         [b"close"] => Some(Call::Close),
         [b"start"] => Some(Call::Start),
         _ => None,

@@ -1,0 +1,2 @@
+-- The proofs of the call above receive.
+pub mod Taking

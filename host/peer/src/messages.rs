@@ -1,0 +1,69 @@
+//! A short message, as the console takes one: it is gathered, and the datagram that it shows is received.
+
+use crate::console::{refused, write_received};
+use crate::hex;
+use crate::shore::{Refusal, Shore, Tally};
+use crate::short::{Answer, Gathering, Ports};
+
+/// Our random, and the least room for a reply: a receive asks for them, and a message before it is looked at.
+const RANDOM: usize = 16;
+const ROOM: usize = 128;
+
+/// 16, 6, then 19 to 22 of the gathering, then what the datagram gets.
+pub fn run(
+    shore: &mut Shore,
+    tally: &mut Tally,
+    gathering: &mut Gathering,
+    message: &[u8],
+    random: &[u8],
+    room: usize,
+    lines: &mut Vec<String>,
+) {
+    if random.len() != RANDOM {
+        return lines.push(refused("message", Refusal::Argument));
+    }
+    if room < ROOM {
+        return lines.push(refused("message", Refusal::Room));
+    }
+    let datagram = match gathering.message(message) {
+        Answer::Refused(number) => return lines.push(format!("message refused {number}")),
+        Answer::Waiting { ports, reference, have, total } => {
+            return lines
+                .push(format!("message waiting {reference} {have} {total} {}", both(ports)));
+        }
+        Answer::Received { ports, start } => {
+            let datagram = message[start..].to_vec();
+            lines.push(format!("message received {start} {} {}", datagram.len(), both(ports)));
+            datagram
+        }
+        Answer::Gathered { ports, datagram } => {
+            lines.push(format!("message gathered {} {}", word(&datagram), both(ports)));
+            datagram
+        }
+    };
+    write_received(shore.receive(&datagram, random, room, tally), lines);
+}
+
+fn both(ports: Ports) -> String {
+    format!("ports {} {}", ports.destination, ports.originator)
+}
+
+fn word(bytes: &[u8]) -> String {
+    match bytes {
+        [] => "-".to_string(),
+        _ => hex::write(bytes),
+    }
+}
+
+/// `REF:HAVE/TOTAL,..` by rising reference, `-` for none.
+pub fn parts(gathering: &Gathering) -> String {
+    let waiting = gathering.waiting();
+    if waiting.is_empty() {
+        return "-".to_string();
+    }
+    let words: Vec<String> = waiting
+        .iter()
+        .map(|(reference, have, total)| format!("{reference}:{have}/{total}"))
+        .collect();
+    words.join(",")
+}
