@@ -132,7 +132,11 @@ fn run_drop(console: Console, line: &[u8], text: &mut [u8], at: usize) -> Ran {
     let gatherer = console.gatherer;
     let store = console.store;
     let end = put(text, at, b"drop ok\n");
-    state_line(console.with_gathering(gatherer.drop(reference), store), text, end)
+    state_line(
+        console.with_gathering(gatherer.drop(reference), store),
+        text,
+        end,
+    )
 }
 
 // `message refused R`, `message waiting REF HAVE TOTAL ports D O`, `message received START LEN ports D O` or `message

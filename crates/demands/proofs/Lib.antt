@@ -23,3 +23,4 @@ pub mod Exactly
 pub mod Replies
 pub mod InRuns
 pub mod Demands
+pub mod Messages

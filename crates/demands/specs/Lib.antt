@@ -25,4 +25,5 @@ pub mod Traps
 pub mod Example
 pub mod Instances
 pub mod Exactly
+pub mod Messages
 pub mod Demands

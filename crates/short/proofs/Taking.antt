@@ -14,7 +14,7 @@ use Rattle.gather.specs.declared.gatherer.Step.{Step}
 use Rattle.connection.specs.Receive.{receivedOf, outputOf}
 use Rattle.connection.specs.declared.calls.Connection.{Connection}
 use Rattle.connection.specs.declared.receive.Received.{Received}
-use Rattle.short.specs.Message.{isShown, nothingOf, takenOf, heardOf, leaves, received, refusing, messageOf}
+use Rattle.short.specs.Message.{isShown, nothingOf, takenOf, heardOf, leaves, gatheredOf, received, refusing, messageOf}
 use Rattle.short.specs.declared.take.Messaged.{Messaged}
 
 -- ---- the datagram
@@ -47,21 +47,20 @@ module _ (c : Connection) (g : Gatherer) (answer : Answer) (message assembly ran
 -- ---- the message
 
 module _ (c : Connection) (g : Gatherer) (store message assembly random out : List ℕ) where
-
   pub message-random : (r : Messaged) → (length random ≡ 16 → ⊥) → r ≡ refusing c g Argument
       → leaves r store assembly out ≡ messageOf c g store message assembly random out
-  unfolding messageOf
+  unfolding messageOf gatheredOf takenOf heardOf
   message-random r h e = rw (ne-eqb (length random) 16 h) (ap (λ (x : Messaged). leaves x store assembly out) e)
 
   pub message-store : (r : Messaged) → length random ≡ 16 → length store < 5600 → r ≡ refusing c g Argument
       → leaves r store assembly out ≡ messageOf c g store message assembly random out
-  unfolding messageOf
+  unfolding messageOf gatheredOf takenOf heardOf
   message-store r h l e =
       rw (eq-eqb (length random) 16 h, lt-ltb (length store) 5600 l) (ap (λ (x : Messaged). leaves x store assembly out) e)
 
   pub message-room : (r : Messaged) → length random ≡ 16 → 5600 ≤ length store → length out < 128 → r ≡ refusing c g Room
       → leaves r store assembly out ≡ messageOf c g store message assembly random out
-  unfolding messageOf
+  unfolding messageOf gatheredOf takenOf heardOf
   message-room r h l m e =
       rw (eq-eqb (length random) 16 h, le-ltb (length store) 5600 l, lt-ltb (length out) 128 m)
       (ap (λ (x : Messaged). leaves x store assembly out) e)
@@ -71,7 +70,7 @@ module _ (c : Connection) (g : Gatherer) (store message assembly random out : Li
       → r ≡ takenOf c (s .gatherer) (s .answer) message assembly′ random (length out)
       → out′ ≡ heardOf c (s .answer) message assembly′ random out
       → leaves r store′ assembly′ out′ ≡ messageOf c g store message assembly random out
-  unfolding messageOf
+  unfolding messageOf gatheredOf
   message-on s r store′ assembly′ out′ h l m es er eo =
       rw (eq-eqb (length random) 16 h, le-ltb (length store) 5600 l, le-ltb (length out) 128 m)
       ((λ j. leaves (er j) store′ assembly′ (eo j)) ∙ ap (λ (x : Left). received c message random out x) es)

@@ -5,7 +5,7 @@ use Prim.Native.Nat.{ℕ}
 use lib.ListN.{length}
 use lib.Dec.{eqb, ltb}
 use Rattle.digest.specs.Pick.{pick}
-use Rattle.gather.specs.Gatherer.{Left, stepOf, datagramOf}
+use Rattle.gather.specs.Gatherer.{Left, said, stepOf, datagramOf}
 use Rattle.gather.specs.declared.refusal.Refusal.{Refusal}
 use Rattle.gather.specs.declared.refusal.Refusal.the-variants.{Argument, Room}
 use Rattle.gather.specs.declared.gatherer.Gatherer.{Gatherer}
@@ -52,21 +52,25 @@ pub record Leaves : Type 0 where
 abbrev pub leaves : Messaged → List ℕ → List ℕ → List ℕ → Leaves
 leaves r store assembly out = record { back = r; store = store; assembly = assembly; out = out }
 
--- the step, and then the datagram
+-- What the gatherer makes of a message, whatever the connection: 16 for the random and the store, 6 for the output, and then its
+-- own step, which has 6 for the assembly buffer, and 19 to 22. "They come after 16 and 6 and before 1, in that order".
+unfoldable pub gatheredOf : Gatherer → List ℕ → List ℕ → List ℕ → List ℕ → ℕ → Left
+gatheredOf g store message assembly random room =
+    pick (eqb (length random) 16)
+    (pick (ltb (length store) 5600) (said g (A.Refused Argument) store assembly)
+    (pick (ltb room 128) (said g (A.Refused Room) store assembly) (stepOf g store message assembly)))
+    (said g (A.Refused Argument) store assembly)
+
+-- and then the datagram that it shows: 1 and what follows, by receive
 abbrev pub received : Connection → List ℕ → List ℕ → List ℕ → Left → Leaves
 received c message random out l =
     leaves (takenOf c (l .gatherer) (l .answer) message (l .assembly) random (length out)) (l .store) (l .assembly)
     (heardOf c (l .answer) message (l .assembly) random out)
 
-abbrev pub refusing : Connection → Gatherer → Refusal → Messaged
-refusing c g refusal = record { gatherer = g; answer = A.Refused refusal; received = nothingOf c }
-
--- "they come after 16 and 6 and before 1, in that order": 16 for the random and the store, 6 for the output, 6 for the
--- assembly buffer and 19 to 22 by the gatherer, 1 and what follows by receive
 unfoldable pub messageOf : Connection → Gatherer → List ℕ → List ℕ → List ℕ → List ℕ → List ℕ → Leaves
 messageOf c g store message assembly random out =
-    pick (eqb (length random) 16)
-    (pick (ltb (length store) 5600) (leaves (refusing c g Argument) store assembly out)
-    (pick (ltb (length out) 128) (leaves (refusing c g Room) store assembly out)
-    (received c message random out (stepOf g store message assembly))))
-    (leaves (refusing c g Argument) store assembly out)
+    received c message random out (gatheredOf g store message assembly random (length out))
+
+-- a refusal of the message itself
+abbrev pub refusing : Connection → Gatherer → Refusal → Messaged
+refusing c g refusal = record { gatherer = g; answer = A.Refused refusal; received = nothingOf c }
