@@ -18,7 +18,7 @@ pub enum Call {
     Alert,
     Close,
     Start,
-    // no call on the connection alone: one of message.rt, or none
+    // no call on the connection alone: one of gathering.rt, or none
     Bad,
 }
 

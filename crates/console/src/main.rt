@@ -2,8 +2,8 @@
 // state that it left, are written to standard output.
 mod call;
 mod console;
+mod gathering;
 mod line;
-mod message;
 mod outcome;
 mod run;
 mod status;

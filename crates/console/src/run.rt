@@ -6,7 +6,7 @@ use crate::call::call_in;
 use crate::call::call_of;
 use crate::console::Console;
 use crate::console::Ran;
-use crate::message;
+use crate::gathering;
 use crate::outcome;
 use connection::calls;
 use connection::calls::Outcome;
@@ -37,7 +37,7 @@ pub fn run(console: Console, line: &[u8], text: &mut [u8], at: usize) -> Ran {
         }
         Call::Close => run_close(console, text, at),
         Call::Start => run_start(console, text, at),
-        Call::Bad => message::run(console, line, text, at),
+        Call::Bad => gathering::run(console, line, text, at),
     }
 }
 

@@ -1,6 +1,6 @@
 // The state line.
 use crate::console::Console;
-use crate::message::put_parts;
+use crate::gathering::put_parts;
 use connection::handshake::Handshake;
 use connection::state::State;
 use connection::tally::Tally;

@@ -93,9 +93,9 @@ messages-run l ps = record { same-connection = connections l ps; same-steps = st
 -- demand 3 holds of the gathered datagrams, and the messages leave what they leave
 pub messages-leave-out : MessagesLeaveOut
 unfolding MessagesLeaveOut LeavesOut
-messages-leave-out c open g g′ ps ps′ out =
-    let same = leaves-out c open (callsIn g ps) (callsIn g′ ps′) out in (
+messages-leave-out c is-open g g′ ps ps′ out =
+    let same = leaves-out c is-open (callsIn g ps) (callsIn g′ ps′) out in (
       connections (record { connection = c; gathering = g }) ps ∙ same .same-connection
-      ∙ sym (connections (record { connection = c; gathering = g′ }) ps′),
+          ∙ sym (connections (record { connection = c; gathering = g′ }) ps′),
       same .same-handed,
     )

@@ -1,6 +1,7 @@
 // Short messages: `message BYTES RANDOM ROOM`, `drop REF`, and what the state line says of the gathering.
 ghost use mathlib.Core.Path.{_≡_};
-ghost use Rattle.console.specs.Message.{dropWords, shortIf, shortOf};
+ghost use Prim.Native.Nat.{_≤_};
+ghost use Rattle.console.specs.Gathering.{dropWords, shortIf, shortOf};
 use crate::call::both;
 use crate::call::receive_words;
 use crate::console::Console;
@@ -23,6 +24,7 @@ use lines::text::put_hex;
 use lines::text::put_number;
 use lines::words::spaces;
 use lines::words::word;
+use short::Messaged;
 
 pub enum Short {
     Message,
@@ -102,6 +104,18 @@ fn take(
     at: usize,
 ) -> Ran {
     let size = room(asked, out);
+    gathered(console, bytes, random, &mut out[..size], text, at)
+}
+
+// A message gathered, and the datagram that it shows received.
+fn gathered(
+    console: Console,
+    bytes: &[u8],
+    random: &[u8],
+    out: &mut [u8],
+    text: &mut [u8],
+    at: usize,
+) -> Ran {
     let connection = console.connection;
     let gatherer = console.gatherer;
     let mut store = console.store;
@@ -113,13 +127,27 @@ fn take(
         bytes,
         &mut assembly,
         random,
-        &mut out[..size],
+        out,
     );
+    told(console, messaged, store, bytes, &assembly, out, text, at)
+}
+
+// What the message gave: the gatherer's answer, what its datagram got, and the state.
+fn told<'a>(
+    console: Console,
+    messaged: Messaged,
+    store: [u8; 5600],
+    bytes: &'a [u8],
+    assembly: &'a [u8],
+    out: &[u8],
+    text: &mut [u8],
+    at: usize,
+) -> Ran {
     let answer = messaged.answer;
     let received = messaged.received;
     let counted = console.counted(received);
     let left = counted.with_gathering(messaged.gatherer, store);
-    let end = put_answer(answer, gather::datagram(answer, bytes, &assembly), text, at);
+    let end = put_answer(answer, gather::datagram(answer, bytes, assembly), text, at);
     if short::shows(answer) {
         return taken(left, received, out, text, end);
     }
@@ -265,10 +293,18 @@ fn have(s: Slot) -> usize {
     let mut count: usize = 0;
     let mut i: usize = 0;
     while i < 11 {
-        if sizes[i] != 0 {
-            count += 1;
-        }
+        count += held(sizes[i]);
         i += 1;
     }
     count
+}
+
+// 1 for a place that is held.
+fn held(size: u16) -> usize
+    ensures { λ r. ⌜ r ≤ 1 ⌝ }
+{
+    if size == 0 {
+        return 0;
+    }
+    1
 }

@@ -7,8 +7,8 @@ use Rattle.digest.specs.Pick.{pick}
 use Rattle.lines.specs.Words.{spacesIn}
 use Rattle.lines.specs.Said.{isNamed, numberAt}
 use Rattle.console.specs.Call.{receiveWords}
-use Rattle.console.specs.declared.message.Short.{Short}
-use Rattle.console.specs.declared.message.Short.the-variants.{Message, Drop, Bad}
+use Rattle.console.specs.declared.gathering.Short.{Short}
+use Rattle.console.specs.declared.gathering.Short.the-variants.{Message, Drop, Bad}
 
 -- drop REF
 abbrev pub dropWords : List ℕ → Bool

@@ -1,0 +1,1 @@
+-- The proofs of short messages on lent bytes.
