@@ -25,23 +25,30 @@ pub fn run(
     if room < ROOM {
         return lines.push(refused("message", Refusal::Room));
     }
-    let datagram = match gathering.message(message) {
-        Answer::Refused(number) => return lines.push(format!("message refused {number}")),
+    let answer = gathering.message(message);
+    lines.push(words(&answer, message));
+    let datagram = match &answer {
+        Answer::Refused(_) | Answer::Waiting { .. } => return,
+        Answer::Received { start, .. } => &message[*start..],
+        Answer::Gathered { datagram, .. } => datagram,
+    };
+    write_received(shore.receive(datagram, random, room, tally), lines);
+}
+
+/// The first line of a message: what the gathering made of it.
+pub fn words(answer: &Answer, message: &[u8]) -> String {
+    match answer {
+        Answer::Refused(number) => format!("message refused {number}"),
         Answer::Waiting { ports, reference, have, total } => {
-            return lines
-                .push(format!("message waiting {reference} {have} {total} {}", both(ports)));
+            format!("message waiting {reference} {have} {total} {}", both(*ports))
         }
         Answer::Received { ports, start } => {
-            let datagram = message[start..].to_vec();
-            lines.push(format!("message received {start} {} {}", datagram.len(), both(ports)));
-            datagram
+            format!("message received {start} {} {}", message.len() - start, both(*ports))
         }
         Answer::Gathered { ports, datagram } => {
-            lines.push(format!("message gathered {} {}", word(&datagram), both(ports)));
-            datagram
+            format!("message gathered {} {}", word(datagram), both(*ports))
         }
-    };
-    write_received(shore.receive(&datagram, random, room, tally), lines);
+    }
 }
 
 fn both(ports: Ports) -> String {

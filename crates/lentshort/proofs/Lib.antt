@@ -1,1 +1,0 @@
--- The proofs of short messages on lent bytes.
