@@ -24,7 +24,7 @@ pub enum Call {
     Start,
     Mac,
     Set,
-    // no call
+    // no call on the connection alone: one of gathering.rt, or none
     Bad,
 }
 
@@ -102,7 +102,7 @@ fn fresh_words(line: &[u8]) -> bool
 }
 
 // receive DATAGRAM RANDOM ROOM
-fn receive_words(line: &[u8]) -> bool
+pub fn receive_words(line: &[u8]) -> bool
     ensures { λ r. ⌜ r ≡ receiveWords (now (line .entry)) ⌝ }
 {
     let rest = both(bytes_at(line, 2), number_at(line, 3, ROOM));

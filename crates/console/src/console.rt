@@ -3,12 +3,15 @@ use connection::calls::Connection;
 use connection::handshake::blank;
 use connection::receive::Received;
 use connection::tally::Tally;
+use gather::Gatherer;
 
-// One connection and one tally; no connection while no `fresh` has succeeded.
+// One connection, one tally and one gatherer with its store; no connection while no `fresh` has succeeded.
 pub struct Console {
     pub connected: bool,
     pub connection: Connection,
     pub tally: Tally,
+    pub gatherer: Gatherer,
+    pub store: [u8; 5600],
 }
 
 impl Console {
@@ -19,15 +22,19 @@ impl Console {
             connected: false,
             connection,
             tally: Tally::fresh(),
+            gatherer: Gatherer::fresh(),
+            store: [0; 5600],
         }
     }
 
-    // A fresh connection and a fresh tally.
+    // A fresh connection, a fresh tally and a fresh gatherer.
     pub fn of(connection: Connection) -> Console {
         Console {
             connected: true,
             connection,
             tally: Tally::fresh(),
+            gatherer: Gatherer::fresh(),
+            store: [0; 5600],
         }
     }
 
@@ -36,17 +43,24 @@ impl Console {
         let connection = received.connection;
         let answers = received.answers;
         let tally = self.tally;
-        Console {
-            connected: true,
-            connection,
-            tally: tally.with_answers(answers),
-        }
+        let mut c = self;
+        c.connection = connection;
+        c.tally = tally.with_answers(answers);
+        c
     }
 
     // The console after a call on its connection.
     pub fn with_connection(self, connection: Connection) -> Console {
         let mut c = self;
         c.connection = connection;
+        c
+    }
+
+    // The console after a short message or a drop.
+    pub fn with_gathering(self, gatherer: Gatherer, store: [u8; 5600]) -> Console {
+        let mut c = self;
+        c.gatherer = gatherer;
+        c.store = store;
         c
     }
 }

@@ -6,9 +6,9 @@ use crate::call::call_in;
 use crate::call::call_of;
 use crate::console::Console;
 use crate::console::Ran;
+use crate::gathering;
 use crate::mac::put_mac;
 use crate::outcome;
-use crate::outcome::bad_line;
 use crate::set::run_set;
 use connection::calls;
 use connection::calls::Outcome;
@@ -41,12 +41,12 @@ pub fn run(console: Console, line: &[u8], text: &mut [u8], at: usize) -> Ran {
         Call::Start => run_start(console, text, at),
         Call::Mac => run_mac(console, line, text, at),
         Call::Set => run_set(console, line, text, at),
-        Call::Bad => bad_line(console, text, at),
+        Call::Bad => gathering::run(console, line, text, at),
     }
 }
 
 // The output that a line lends a part of: as many bytes as it may ask for at most.
-fn output() -> [u8; 2048]
+pub fn output() -> [u8; 2048]
     ensures { λ r. ⌜ 2048 ≡ length r ⌝ }
 {
     [0; 2048]

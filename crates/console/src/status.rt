@@ -1,5 +1,6 @@
 // The state line.
 use crate::console::Console;
+use crate::gathering::put_parts;
 use connection::handshake::Handshake;
 use connection::state::State;
 use connection::tally::Tally;
@@ -8,7 +9,7 @@ use lines::text::put_number;
 use lines::text::put_word;
 use record::window::Window;
 
-// `state NAME n=N marks=M arrived=K sent=P,C checksum=X tally=H,F,O,R`.
+// `state NAME n=N marks=M arrived=K sent=P,C checksum=X tally=H,F,O,R parts=REF:HAVE/TOTAL,..`.
 pub fn put_status(console: Console, text: &mut [u8], at: usize) -> usize {
     let connection = console.connection;
     let h = connection.handshake;
@@ -21,7 +22,10 @@ pub fn put_status(console: Console, text: &mut [u8], at: usize) -> usize {
     let sent = h.sent;
     let sums = sent.checksums;
     let end = put_sending(protection.protected, protection.clear, sums, text, end);
-    put_tally(tally, text, end)
+    let end = put_tally(tally, text, end);
+    let gatherer = console.gatherer;
+    let end = put_parts(gatherer, text, end);
+    put(text, end, b"\n")
 }
 
 fn put_name(connected: bool, state: State, text: &mut [u8], at: usize) -> usize {
@@ -87,8 +91,7 @@ fn put_tally(tally: Tally, text: &mut [u8], at: usize) -> usize {
     let end = put_count(tally.handed, text, end);
     let end = put_next(tally.forged, text, end);
     let end = put_next(tally.old, text, end);
-    let end = put_next(tally.repeated, text, end);
-    put(text, end, b"\n")
+    put_next(tally.repeated, text, end)
 }
 
 // A number behind another.

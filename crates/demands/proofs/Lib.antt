@@ -28,3 +28,4 @@ pub mod Replies
 pub mod InRuns
 pub mod Fatal
 pub mod Demands
+pub mod Messages

@@ -28,4 +28,5 @@ pub mod Example
 pub mod Instances
 pub mod Cases
 pub mod Exactly
+pub mod Messages
 pub mod Demands

@@ -5,7 +5,9 @@ use std::io::{self, BufRead, Write};
 use crate::hex;
 use crate::macs::{self, Kind, UnknownEdition};
 use crate::set;
+use crate::messages;
 use crate::shore::{Answer, Judged, Received, Refusal, Shore, State, Tally};
+use crate::short::Gathering;
 
 const LONGEST_LINE: usize = 8192;
 const MOST_ROOM: usize = 2048;
@@ -16,6 +18,7 @@ const MOST_NUMBER: usize = 999_999_999;
 pub struct Console {
     shore: Option<Shore>,
     tally: Tally,
+    gathering: Gathering,
 }
 
 /// A line that could be read.
@@ -28,6 +31,8 @@ enum Call {
     Start,
     Mac { edition: u8, number: u8 },
     Set { suite: u8, set: Vec<u8> },
+    Message { message: Vec<u8>, random: Vec<u8>, room: usize },
+    Drop { reference: u8 },
 }
 
 /// Runs every line of the input.
@@ -59,7 +64,7 @@ impl Console {
             lines.extend(set_lines(suite, &set));
         } else {
             let Some(shore) = &mut self.shore else { return bad_line() };
-            run_call(shore, &mut self.tally, call, &mut lines);
+            run_call(shore, &mut self.tally, &mut self.gathering, call, &mut lines);
         }
         lines.push(self.state_line());
         lines
@@ -73,12 +78,17 @@ impl Console {
         self.shore.as_ref()
     }
 
-    /// A refused fresh leaves connection and tally as they were.
+    pub fn gathering(&self) -> &Gathering {
+        &self.gathering
+    }
+
+    /// A refused fresh leaves connection, tally and gathering as they were.
     fn fresh(&mut self, identifier: &[u8], secret: &[u8], width: u32) -> String {
         match Shore::fresh(identifier, secret, width) {
             Ok(shore) => {
                 self.shore = Some(shore);
                 self.tally = Tally::default();
+                self.gathering = Gathering::default();
                 "fresh ok".to_string()
             }
             Err(refusal) => refused("fresh", refusal),
@@ -88,7 +98,7 @@ impl Console {
     fn state_line(&self) -> String {
         let Some(shore) = &self.shore else {
             return "state None n=- marks=0000000000000000 arrived=0 sent=-,- checksum=00000000 \
-                    tally=0,0,0,0"
+                    tally=0,0,0,0 parts=-"
                 .to_string();
         };
         let newest = shore.window().newest();
@@ -103,9 +113,10 @@ impl Console {
         let Tally { handed_out, forged, too_old, repeated } = self.tally;
         format!(
             "state {:?} n={highest} marks={mask:016x} arrived={arrived} sent={sent} checksum={} \
-             tally={handed_out},{forged},{too_old},{repeated}",
+             tally={handed_out},{forged},{too_old},{repeated} parts={}",
             shore.state(),
-            hex::write(&shore.last_checksum())
+            hex::write(&shore.last_checksum()),
+            messages::parts(&self.gathering)
         )
     }
 }
@@ -114,7 +125,7 @@ fn bad_line() -> Vec<String> {
     vec!["bad line".to_string()]
 }
 
-fn refused(call: &str, refusal: Refusal) -> String {
+pub fn refused(call: &str, refusal: Refusal) -> String {
     format!("{call} refused {}", refusal as u8)
 }
 
@@ -139,7 +150,13 @@ fn set_lines(suite: u8, bytes: &[u8]) -> Vec<String> {
     }
 }
 
-fn run_call(shore: &mut Shore, tally: &mut Tally, call: Call, lines: &mut Vec<String>) {
+fn run_call(
+    shore: &mut Shore,
+    tally: &mut Tally,
+    gathering: &mut Gathering,
+    call: Call,
+    lines: &mut Vec<String>,
+) {
     match call {
         Call::Fresh { .. } | Call::Mac { .. } | Call::Set { .. } => {
             unreachable!("these need no connection")
@@ -151,6 +168,13 @@ fn run_call(shore: &mut Shore, tally: &mut Tally, call: Call, lines: &mut Vec<St
         Call::Alert { protected, level, description, record, room } => {
             let sent = shore.alert(protected, level, description, &record, room);
             write_sent("alert", sent, lines)
+        }
+        Call::Message { message, random, room } => {
+            messages::run(shore, tally, gathering, &message, &random, room, lines)
+        }
+        Call::Drop { reference } => {
+            gathering.drop_reference(reference);
+            lines.push("drop ok".to_string());
         }
         Call::Close => write_done("close", shore.close(), lines),
         Call::Start => write_done("start", shore.start(), lines),
@@ -174,7 +198,7 @@ fn write_sent(call: &str, sent: Result<Vec<u8>, Refusal>, lines: &mut Vec<String
     }
 }
 
-fn write_received(received: Received, lines: &mut Vec<String>) {
+pub fn write_received(received: Received, lines: &mut Vec<String>) {
     match received {
         Received::Refused(refusal) => lines.push(refused("receive", refusal)),
         Received::Unframed(fault) => {
@@ -242,6 +266,12 @@ fn read(line: &[u8]) -> Option<Call> {
         [b"set", suite, set] => {
             Some(Call::Set { suite: number(suite, 255)? as u8, set: bytes(set)? })
         }
+        [b"message", message, random, room] => Some(Call::Message {
+            message: bytes(message)?,
+            random: bytes(random)?,
+            room: number(room, MOST_ROOM)?,
+        }),
+        [b"drop", reference] => Some(Call::Drop { reference: number(reference, 255)? as u8 }),
         [b"close"] => Some(Call::Close),
         [b"start"] => Some(Call::Start),
         _ => None,

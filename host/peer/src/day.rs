@@ -4,6 +4,7 @@
 
 mod records;
 mod sent;
+mod short;
 mod traffic;
 
 use crate::alert;
@@ -35,6 +36,7 @@ pub fn random(seed: u64, model: &mut Console, sink: &mut Sink) {
 /// A day on which the protected or the clear sending numbers run out.
 pub fn spent(seed: u64, protected: bool, model: &mut Console, sink: &mut Sink) {
     let mut day = Day::new(seed, model, sink);
+    day.by_messages = 0;
     day.fresh();
     day.reach(if protected { State::Open } else { State::Replied });
     while !day.over && !day.is_spent(protected) {
@@ -74,6 +76,12 @@ struct Day<'a> {
     delay: usize,
     /// Whether connections are closed again soon, so that there are many handshakes.
     restless: bool,
+    /// How many of a hundred datagrams come as short messages, the messages on their way, those that
+    /// came, and the last reference.
+    by_messages: usize,
+    messages: Vec<Vec<u8>>,
+    came: Vec<Vec<u8>>,
+    reference: u8,
 }
 
 impl<'a> Day<'a> {
@@ -88,6 +96,10 @@ impl<'a> Day<'a> {
             disorder: rng.weigh(&[(3, 10), (4, 100), (3, 400)]),
             delay: rng.under(6),
             restless: rng.percent(40),
+            by_messages: rng.weigh(&[(4, 0), (2, 30), (4, 90)]),
+            messages: Vec::new(),
+            came: Vec::new(),
+            reference: rng.byte(),
             rng,
             model,
             sink,
@@ -147,6 +159,7 @@ impl<'a> Day<'a> {
             19..=20 => self.odd_receive(),
             21..=24 => self.call_shore(),
             25 if self.rng.percent(15) => self.fresh(),
+            27..=32 if self.by_messages > 0 => self.odd_message(),
             25 => self.wrong_fresh(),
             26 => self.boundary(),
             27 if self.rng.percent(30) => self.mac(),
@@ -314,12 +327,20 @@ impl Day<'_> {
     fn receive(&mut self, datagram: &[u8]) {
         let random = self.rng.bytes(16);
         let room = self.rng.weigh(&[(8, 128), (1, 129), (1, 2048)]);
+        if self.rng.percent(self.by_messages) {
+            return self.by_messages(datagram);
+        }
         self.receive_with(datagram, &random, room);
     }
 
     fn receive_with(&mut self, datagram: &[u8], random: &[u8], room: usize) {
         let line = format!("receive {} {} {room}", word(datagram), word(random));
         let out = self.call(line.into_bytes());
+        self.took(datagram, out);
+    }
+
+    /// The shore took a datagram, and may have replied.
+    fn took(&mut self, datagram: &[u8], out: Option<Vec<u8>>) {
         self.arrived.push(datagram.to_vec());
         if self.arrived.len() > 60 {
             self.arrived.remove(0);

@@ -25,6 +25,7 @@ pub mod keys;
 pub mod lines;
 pub mod lists;
 pub mod macs;
+pub mod messages;
 pub mod parts;
 pub mod report;
 pub mod rng;

@@ -12,7 +12,7 @@ pub fn odd(rng: &mut Rng, good: &[u8]) -> Vec<u8> {
     }
 }
 
-const FIXED: [&str; 37] = [
+const FIXED: [&str; 44] = [
     "",
     " ",
     "-",
@@ -50,6 +50,13 @@ const FIXED: [&str; 37] = [
     "alert Clear 1 0 - 9",
     "alert both 1 0 - 9",
     "record clear 1 0 - 9",
+    "message 00 -",
+    "message 00 - 128 0",
+    "messages 00 - 128",
+    "message  - 128",
+    "drop",
+    "drop 1 1",
+    "drop -",
 ];
 
 /// Lines of about 8,192 bytes, and such that say nothing.
@@ -92,8 +99,10 @@ fn with_number(rng: &mut Rng) -> Vec<u8> {
         "0000000128",
         "",
     ]);
-    match rng.under(6) {
+    match rng.under(8) {
         0 => format!("send 00 {number}"),
+        5 => format!("message 06050400010002 808182838485868788898a8b8c8d8e8f {number}"),
+        6 => format!("drop {number}"),
         1 => format!("receive 44 808182838485868788898a8b8c8d8e8f {number}"),
         2 => format!("alert clear {number} 0 - 9"),
         3 => format!("alert protected 1 {number} - 30"),

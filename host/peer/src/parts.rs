@@ -76,8 +76,8 @@ fn message(rng: &mut Rng, earlier: &[Vec<u8>]) -> Vec<u8> {
     }
 }
 
-/// One byte of the header changed.
-fn in_header(rng: &mut Rng, mut message: Vec<u8>) -> Vec<u8> {
+/// One byte of the header changed; the message has one.
+pub fn in_header(rng: &mut Rng, mut message: Vec<u8>) -> Vec<u8> {
     let place = rng.under(usize::from(message[0]) + 1);
     message[place] = match rng.under(4) {
         0 => rng.byte(),

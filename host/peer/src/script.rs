@@ -79,6 +79,18 @@ impl Script {
         lines
     }
 
+    /// The same for a short message.
+    pub fn message(&mut self, message: &[u8]) -> Vec<String> {
+        let random = self.next_random();
+        self.receives += 1;
+        let lines = self.line(&format!("message {} {} 128", word(message), word(&random)));
+        if let Some(reply) = lines.iter().find_map(|line| line.strip_prefix("out ")) {
+            let reply = hex::read(reply.as_bytes()).expect("the model writes hex");
+            self.unit.hear_reply(&reply).expect("the unit reads the model's reply");
+        }
+        lines
+    }
+
     /// 80..8f at first; each receive lends another, so that a resent reply cannot have used it.
     pub fn next_random(&self) -> Vec<u8> {
         let mut random: Vec<u8> = (0x80..0x90).collect();

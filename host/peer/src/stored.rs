@@ -41,6 +41,7 @@ pub fn written() -> Script {
     spec(&mut day);
     wrong_finished(&mut day);
     all_in_one_datagram(&mut day);
+    short_messages(&mut day);
     bad_lines(&mut day);
     barred(&mut day);
     storedsets::hellos(&mut day);
@@ -54,6 +55,8 @@ fn before_the_connection(day: &mut Script) {
     day.line("send 00 14");
     day.line("receive 44000000 808182838485868788898a8b8c8d8e8f 128");
     day.line("alert clear 1 0 - 9");
+    day.line("message 06050400010002 808182838485868788898a8b8c8d8e8f 128");
+    day.line("drop 1");
     day.line("fresh a0a1a2a3a4a5a6 303132333435363738393a3b3c3d3e3f40414243 32");
     day.line("fresh a0a1a2a3a4a5a6a7 - 32");
     mac_kinds(day);
@@ -476,6 +479,72 @@ fn all_in_one_datagram(day: &mut Script) {
     day.receive(&datagram);
 }
 
+/// A short message with ports 9,202 and 49,153, and a place: reference, total, place.
+fn short_message(place: Option<[u8; 3]>, part: &[u8]) -> Vec<u8> {
+    let ports = [5, 4, 0x23, 0xf2, 0xc0, 1];
+    match place {
+        None => [&[6], &ports[..], part].concat(),
+        Some(place) => [&[11], &ports[..], &[0, 3], &place[..], part].concat(),
+    }
+}
+
+fn short_messages(day: &mut Script) {
+    day.heading(
+        "a flag with short messages only: a report in two parts, the second first and twice",
+    );
+    let report = day.record(Content::Data, 12, b"position by short message");
+    day.message(&short_message(Some([7, 2, 2]), &report[10..]));
+    day.message(&short_message(Some([7, 2, 2]), &report[10..]));
+    day.message(&short_message(Some([7, 2, 2]), b"other bytes"));
+    day.message(&short_message(Some([7, 3, 1]), &report[..10]));
+    day.message(&short_message(Some([7, 2, 1]), &report[..10]));
+    day.heading("one alone, one of total 1, both while a reference waits; a late copy waits anew");
+    day.message(&short_message(Some([7, 2, 1]), &report[..10]));
+    let report = day.record(Content::Data, 13, b"single");
+    day.message(&short_message(None, &report));
+    day.message(&short_message(Some([7, 1, 1]), &report));
+    day.line("drop 9");
+    day.line("drop 7");
+    day.heading("no ports; an element past its end; of wrong length; total 12; place 0; nothing");
+    for message in [
+        &[5, 0, 3, 9, 2, 1, 0x64][..],
+        &[6, 5, 5, 0, 1, 0, 2],
+        &[5, 5, 3, 0, 1, 0],
+        &[11, 5, 4, 0, 1, 0, 2, 0, 3, 9, 12, 1],
+        &[11, 5, 4, 0, 1, 0, 2, 0, 3, 9, 2, 0],
+        &[],
+    ] {
+        day.message(message);
+    }
+    day.heading("four references wait, a fifth finds no room; dropped, it does");
+    for reference in [200, 3, 90, 4, 5] {
+        day.message(&short_message(Some([reference, 2, 1]), &[0x64; 100]));
+    }
+    day.line("drop 90");
+    day.message(&short_message(Some([5, 11, 11]), &[]));
+    day.heading("1,401 bytes together drop the reference; a gathered datagram that is refused too");
+    day.message(&short_message(Some([3, 2, 2]), &[0x64; 1301]));
+    day.message(&short_message(Some([4, 2, 2]), &[0x64; 100]));
+    day.message(&short_message(None, &[]));
+    day.message(&short_message(Some([1, 2, 2]), &[]));
+    day.message(&short_message(Some([1, 2, 1]), &[]));
+    day.heading("16 and 6 leave the gathering; so do a close and a start");
+    let last = short_message(Some([200, 2, 2]), &[0x64]);
+    day.line(&format!("message {} 00 128", word(&last)));
+    day.line(&format!("message {} {} 127", word(&last), word(&day.next_random())));
+    day.line("close");
+    day.line("start");
+    day.message(&last);
+    day.line("close");
+    day.line("start");
+    day.heading("a handshake by short messages");
+    let hello = day.hello_datagram(0x29, Kind::Sha80, 3);
+    day.message(&short_message(Some([31, 2, 1]), &hello[..20]));
+    day.message(&short_message(Some([31, 2, 2]), &hello[20..]));
+    let flight = day.unit.flight().expect("a reply was heard");
+    day.message(&short_message(None, &flight));
+}
+
 fn bad_lines(day: &mut Script) {
     day.heading("bad lines");
     for line in [
@@ -501,6 +570,11 @@ fn bad_lines(day: &mut Script) {
         "alert clear 256 0 - 9",
         "alert clear 1 256 - 9",
         "alert clear 01 0 - 9",
+        "message 00 00",
+        "message 00 00 2049",
+        "drop",
+        "drop 256",
+        "drop 0 0",
     ] {
         day.line(line);
     }

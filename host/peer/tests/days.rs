@@ -34,17 +34,18 @@ fn the_stored_day_has_everything_but_spent_numbers() {
     let day = stored::written();
     let kinds = kinds(day.output());
     let mut wanted: Vec<String> =
-        (1..=18).filter(|r| *r != 15).map(|r| format!("refused {r}")).collect();
-    let answers = "reply resent spec open again data warning critical fatal barred";
+        (1..=22).filter(|r| *r != 15).map(|r| format!("refused {r}")).collect();
+    let answers =
+        "reply resent spec open again data warning critical fatal barred waiting received gathered";
     let states = "None Idle Replied Spec Open Closed Barred";
     wanted.extend(answers.split(' ').chain(states.split(' ')).map(str::to_string));
-    let calls = ["fresh ok", "send ok", "alert ok", "close ok", "start ok", "bad line"];
+    let calls = ["fresh ok", "send ok", "alert ok", "close ok", "start ok", "drop ok", "bad line"];
     wanted.extend(calls.map(str::to_string));
     for kind in wanted {
         assert!(kinds.contains(&kind), "the stored day lacks {kind}");
     }
     let lines = day.input().lines().count();
-    assert!((150..=300).contains(&lines), "{lines} lines");
+    assert!((150..=400).contains(&lines), "{lines} lines");
 }
 
 #[test]
@@ -81,7 +82,7 @@ fn no_difference_from_the_model_itself() {
 
 /// A console that is the model but for one edit of its lines.
 fn broken(edit: &str) -> Output {
-    days(5, 8000, &["sh", "-c", &format!("{PEER} console | sed -e '{edit}'")])
+    days(5, 12_000, &["sh", "-c", &format!("{PEER} console | sed -e '{edit}'")])
 }
 
 #[test]
@@ -94,6 +95,8 @@ fn differences_are_found() {
         "s/^\\(out 64.*\\)a$/\\1b/",
         "s/state Barred/state Closed/",
         "s/^0 again/0 open/",
+        "s/^message refused 20/message refused 21/",
+        "s/parts=\\(.*\\):1\\/2/parts=\\1:2\\/2/",
         "2000d",
         "$d",
         "$a more",

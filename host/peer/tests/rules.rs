@@ -45,11 +45,11 @@ receive 43000001002501101112131415161718191a1b1c1d1e1f08a0a1a2a3a4a5a6a700000000
 ";
     let expected = "\
 fresh ok
-state Idle n=- marks=0000000000000000 arrived=0 sent=-,- checksum=00000000 tally=0,0,0,0
+state Idle n=- marks=0000000000000000 arrived=0 sent=-,- checksum=00000000 tally=0,0,0,0 parts=-
 receive records 1
 0 reply 74
 out c30000002302002001808182838485868788898a8b8c8d8e8f08a0a1a2a3a4a5a6a7000002000203c1000100010163000014000cfa4961929527af28decdac18e8e0268c07a8c14188c6
-state Replied n=- marks=0000000000000000 arrived=0 sent=1,2 checksum=e663d639 tally=0,0,0,0
+state Replied n=- marks=0000000000000000 arrived=0 sent=1,2 checksum=e663d639 tally=0,0,0,0 parts=-
 ";
     let mut output = Vec::new();
     console::run(input.as_bytes(), &mut output).unwrap();

@@ -3,6 +3,7 @@
 //! nothing, that only the counted bytes of the output were written, and that the connection loads from what was saved.
 
 use gateway::{Answer, Connection, Refusal, Sense, Tally};
+use peer::short::{self, Gathering};
 
 /// What lies in the output before a call.
 const BLANK: u8 = 0xa5;
@@ -11,6 +12,8 @@ const BLANK: u8 = 0xa5;
 pub struct Library {
     connection: Option<Connection>,
     tally: Tally,
+    /// Short messages are gathered by the second implementation; what they show is received by the library.
+    gathering: Gathering,
     /// How many datagrams were received.
     pub datagrams: u64,
     /// What was wrong beyond the lines.
@@ -38,6 +41,7 @@ impl Library {
             Ok(connection) => {
                 self.connection = Some(connection);
                 self.tally = Tally::default();
+                self.gathering = Gathering::default();
                 "fresh ok".to_string()
             }
             Err(refusal) => refused("fresh", refusal),
@@ -63,6 +67,13 @@ impl Library {
                     .send_alert(sense, level, description, &bytes(record), &mut out)
                     .map(<[u8]>::to_vec);
                 self.sent("alert", sent, &out, lines);
+            }
+            ["message", message, random, room] => {
+                self.message(&mut connection, &bytes(message), &bytes(random), number(room), lines)
+            }
+            ["drop", reference] => {
+                self.gathering.drop_reference(number(reference) as u8);
+                lines.push("drop ok".to_string());
             }
             ["close"] => lines.push(done("close", connection.close())),
             ["start"] => lines.push(done("start", connection.start())),
@@ -126,6 +137,33 @@ impl Library {
         }
     }
 
+    /// The message as the second implementation gathers it, and what it shows as the library receives it.
+    fn message(
+        &mut self,
+        connection: &mut Connection,
+        message: &[u8],
+        random: &[u8],
+        room: usize,
+        lines: &mut Vec<String>,
+    ) {
+        if random.len() != gateway::RANDOM_SIZE || room < gateway::REPLY_ROOM {
+            let refusal =
+                if random.len() != gateway::RANDOM_SIZE { Refusal::Argument } else { Refusal::Room };
+            return lines.push(refused("message", refusal));
+        }
+        let answer = self.gathering.message(message);
+        lines.push(peer::messages::words(&answer, message));
+        match answer {
+            short::Answer::Received { start, .. } => {
+                self.receive(connection, &message[start..], random, room, lines)
+            }
+            short::Answer::Gathered { datagram, .. } => {
+                self.receive(connection, &datagram, random, room, lines)
+            }
+            short::Answer::Refused(_) | short::Answer::Waiting { .. } => {}
+        }
+    }
+
     fn sent(
         &mut self,
         call: &str,
@@ -156,7 +194,7 @@ impl Library {
     /// The state as the bytes of the connection and of the tally show it (crates/lent/specs/Saved.antt has the places).
     fn state_line(&self) -> String {
         let Some(connection) = &self.connection else {
-            return "state None n=- marks=0000000000000000 arrived=0 sent=-,- checksum=00000000 tally=0,0,0,0"
+            return "state None n=- marks=0000000000000000 arrived=0 sent=-,- checksum=00000000 tally=0,0,0,0 parts=-"
                 .to_string();
         };
         let saved = connection.save();
@@ -169,14 +207,15 @@ impl Library {
         };
         let tally = self.tally;
         format!(
-            "state {:?} n={n} marks={marks:016x} arrived={} sent={sent} checksum={} tally={},{},{},{}",
+            "state {:?} n={n} marks={marks:016x} arrived={} sent={sent} checksum={} tally={},{},{},{} parts={}",
             connection.state(),
             connection.arrived(),
             hex(&saved[458..462]),
             tally.handed_out(),
             tally.forged(),
             tally.too_old(),
-            tally.repeated()
+            tally.repeated(),
+            peer::messages::parts(&self.gathering)
         )
     }
 }

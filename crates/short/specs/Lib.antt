@@ -1,0 +1,3 @@
+-- The definitions of the call above receive (02, P2).
+pub mod Message
+pub mod Meaning
