@@ -16,7 +16,7 @@ use Rattle.digest.specs.declared.mac.Mac.{Mac}
 use Rattle.digest.specs.declared.mac.Mac.the-variants.{Sha80, Sha}
 use Rattle.record.specs.Code.{codeBy, fragmentBy}
 use Rattle.record.specs.Keys.{keyNumber}
-use Rattle.record.specs.Window.{acceptOf, acceptBy, windowWidth, heldWidth}
+use Rattle.record.specs.Window.{acceptOf, acceptBy, heldWidth}
 use Rattle.record.specs.Written.{recordOf, byteFor}
 use Rattle.record.specs.Datagram.{framed, framingOf}
 use Rattle.record.specs.declared.header.Content.the-variants as C
@@ -48,7 +48,7 @@ use Rattle.demands.specs.Calls.{mayAlert, alert-sent}
 use Rattle.demands.specs.Events.{Event, took, Sound, AllSound, connectionOf, after}
 use Rattle.demands.specs.Past.{isData}
 use Rattle.demands.specs.Traps.{lastSealed}
-use Rattle.demands.specs.Example.{exampleId, exampleSecret, exampleRandom, exampleOut, exampleData}
+use Rattle.demands.specs.Example.{exampleId, exampleSecret, exampleWidth, exampleRandom, exampleOut, exampleData}
 use Rattle.demands.specs.Instances.{exampleFresh}
 use Rattle.demands.specs.Cases.{OpenWith, Answered, Crossed, SentClear, Cases}
 use Rattle.demands.proofs.Table.{row-is}
@@ -62,7 +62,7 @@ use Rattle.demands.proofs.Traps.{w₀, w₇, alone, alone-framed, alone
 
 -- ---- both MAC kinds
 
-open-with : (w : Walk exampleId exampleSecret exampleRandom exampleData) (mac : Mac) → w .h₃ .protection .keys .mac ≡ mac → OpenWith mac
+open-with : (w : Walk exampleId exampleSecret exampleWidth exampleRandom exampleData) (mac : Mac) → w .h₃ .protection .keys .mac ≡ mac → OpenWith mac
 open-with w mac e =
     let leaves : after exampleFresh (opening exampleId exampleSecret exampleRandom exampleData refl w) ≡ w .h₃
     = opening-leaves exampleId exampleSecret exampleRandom exampleData refl w in
@@ -80,7 +80,7 @@ open-with w mac e =
 
 -- ---- the worked run, and what it leaves
 
-abbrev w : Walk exampleId exampleSecret exampleRandom exampleData
+abbrev w : Walk exampleId exampleSecret exampleWidth exampleRandom exampleData
 w = example-walk
 
 abbrev h : Handshake
@@ -167,44 +167,44 @@ module _ (s : ℕ) (inside : s ≤ 65535) where
   with-sound =
       sound-more run (took exampleRandom data-with data-record ∷ []) run-sound ((refl, record { before = []; behind = []; framing = data-framed }), tt)
 
-  with-leaves : (y : Window) (n : ℕ) → acceptOf w₀ s ≡ A.New y n → after exampleFresh run-with ≡ withWindow h y
+  with-leaves : (y : Window) (n : ℕ) → acceptOf (w₀ exampleWidth) s ≡ A.New y n → after exampleFresh run-with ≡ withWindow h y
   unfolding run-with after w₀
   with-leaves y n e =
       after-more exampleFresh run (took exampleRandom data-with data-record ∷ [])
       ∙ ap (λ z. judgedRecord z exampleRandom data-with data-record .handshake) (run-leaves ∙ begun)
-      ∙ ap (λ j. j .handshake) (row-is (withWindow h w₀) exampleRandom data-with data-record (handed-row w₀ y n e))
+      ∙ ap (λ j. j .handshake) (row-is (withWindow h (w₀ exampleWidth)) exampleRandom data-with data-record (handed-row (w₀ exampleWidth) y n e))
     where
-      begun : h ≡ withWindow h w₀
+      begun : h ≡ withWindow h (w₀ exampleWidth)
       begun = λ i. withWindow h (w .window-is i)
 
 -- ---- the windows
 
-unfoldable w₄₀ : Window
-w₄₀ = record { width = windowWidth; highest = 40; marks = 1 }
+unfoldable w₈₀ : Window
+w₈₀ = record { width = exampleWidth; highest = 80; marks = 1 }
 
 unfoldable w₉ : Window
-w₉ = record { width = windowWidth; highest = 9; marks = 513 }
+w₉ = record { width = exampleWidth; highest = 9; marks = 513 }
 
 unfoldable w₉₇ : Window
-w₉₇ = record { width = windowWidth; highest = 9; marks = 517 }
+w₉₇ = record { width = exampleWidth; highest = 9; marks = 517 }
 
-takes-40 : acceptOf w₀ 40 ≡ A.New w₄₀ 1
-unfolding w₀ w₄₀ acceptBy heldWidth ones
-takes-40 = refl
+takes-80 : acceptOf (w₀ exampleWidth) 80 ≡ A.New w₈₀ 1
+unfolding w₀ w₈₀ acceptBy heldWidth ones
+takes-80 = refl
 
-old-7 : acceptOf w₄₀ 7 ≡ A.TooOld
-unfolding w₄₀ acceptBy heldWidth ones
+old-7 : acceptOf w₈₀ 7 ≡ A.TooOld
+unfolding w₈₀ acceptBy heldWidth ones
 old-7 = refl
 
-takes-7 : acceptOf w₀ 7 ≡ A.New w₇ 2
+takes-7 : acceptOf (w₀ exampleWidth) 7 ≡ A.New (w₇ exampleWidth) 2
 unfolding w₀ w₇ acceptBy heldWidth ones
 takes-7 = refl
 
-again-7 : acceptOf w₇ 7 ≡ A.Repeated
+again-7 : acceptOf (w₇ exampleWidth) 7 ≡ A.Repeated
 unfolding w₇ acceptBy heldWidth ones
 again-7 = refl
 
-takes-9 : acceptOf w₀ 9 ≡ A.New w₉ 2
+takes-9 : acceptOf (w₀ exampleWidth) 9 ≡ A.New w₉ 2
 unfolding w₀ w₉ acceptBy heldWidth ones
 takes-9 = refl
 
@@ -218,20 +218,20 @@ seven = lit≤ tt
 nine : 9 ≤ 65535
 nine = lit≤ tt
 
-forty : 40 ≤ 65535
-forty = lit≤ tt
+eighty : 80 ≤ 65535
+eighty = lit≤ tt
 
 -- ---- too old, repeated, late
 
 too-old : Answered (W.Refused X.TooOld)
 too-old =
-    at-open (run-with 40 forty) (withWindow h w₄₀) (with-sound 40 forty) (with-leaves 40 forty w₄₀ 1 takes-40) (w .open-is) refl (data-with 7 seven) (data-record 7 seven) _
-    (data-framed 7 seven) (data-protected 7 seven) (data-whole 7 seven) (old-row 7 seven w₄₀ old-7)
+    at-open (run-with 80 eighty) (withWindow h w₈₀) (with-sound 80 eighty) (with-leaves 80 eighty w₈₀ 1 takes-80) (w .open-is) refl (data-with 7 seven) (data-record 7 seven) _
+    (data-framed 7 seven) (data-protected 7 seven) (data-whole 7 seven) (old-row 7 seven w₈₀ old-7)
 
 repeated : Answered (W.Refused X.Repeated)
 repeated =
-    at-open (run-with 7 seven) (withWindow h w₇) (with-sound 7 seven) (with-leaves 7 seven w₇ 2 takes-7) (w .open-is) refl (data-with 7 seven) (data-record 7 seven) _
-    (data-framed 7 seven) (data-protected 7 seven) (data-whole 7 seven) (repeated-row 7 seven w₇ again-7)
+    at-open (run-with 7 seven) (withWindow h (w₇ exampleWidth)) (with-sound 7 seven) (with-leaves 7 seven (w₇ exampleWidth) 2 takes-7) (w .open-is) refl (data-with 7 seven) (data-record 7 seven) _
+    (data-framed 7 seven) (data-protected 7 seven) (data-whole 7 seven) (repeated-row 7 seven (w₇ exampleWidth) again-7)
 
 crossed : Crossed
 unfolding at-open alone w₉ keyNumber

@@ -43,25 +43,25 @@ pub example-walk : Walk exampleId exampleSecret exampleWidth exampleRandom examp
 example-walk =
     walk exampleId exampleSecret exampleWidth example-held exampleHello exampleRandom exampleOut exampleData examplePlan refl (lit≤ tt) example-heard (lit≤ tt) (lit≤ tt)
 
-pub sha-walk : Walk exampleId exampleSecret exampleRandom exampleData
+pub sha-walk : Walk exampleId exampleSecret exampleWidth exampleRandom exampleData
 sha-walk =
-    walk exampleId exampleSecret shaHello exampleRandom exampleOut exampleData shaPlan refl (lit≤ tt) sha-heard (lit≤ tt) (lit≤ tt)
+    walk exampleId exampleSecret exampleWidth example-held shaHello exampleRandom exampleOut exampleData shaPlan refl (lit≤ tt) sha-heard (lit≤ tt) (lit≤ tt)
 
 pub example-mac : example-walk .h₃ .protection .keys .mac ≡ Sha80
 unfolding example-walk
-example-mac = walk-mac exampleId exampleSecret exampleHello exampleRandom exampleOut exampleData examplePlan refl (lit≤ tt) example-heard (lit≤ tt) (lit≤ tt)
+example-mac = walk-mac exampleId exampleSecret exampleWidth example-held exampleHello exampleRandom exampleOut exampleData examplePlan refl (lit≤ tt) example-heard (lit≤ tt) (lit≤ tt)
 
 pub sha-mac : sha-walk .h₃ .protection .keys .mac ≡ Sha
 unfolding sha-walk
-sha-mac = walk-mac exampleId exampleSecret shaHello exampleRandom exampleOut exampleData shaPlan refl (lit≤ tt) sha-heard (lit≤ tt) (lit≤ tt)
+sha-mac = walk-mac exampleId exampleSecret exampleWidth example-held shaHello exampleRandom exampleOut exampleData shaPlan refl (lit≤ tt) sha-heard (lit≤ tt) (lit≤ tt)
 
 pub example-refresh : example-walk .h₃ .protection .keys .refresh ≡ 3
 unfolding example-walk
-example-refresh = walk-refresh exampleId exampleSecret exampleHello exampleRandom exampleOut exampleData examplePlan refl (lit≤ tt) example-heard (lit≤ tt) (lit≤ tt)
+example-refresh = walk-refresh exampleId exampleSecret exampleWidth example-held exampleHello exampleRandom exampleOut exampleData examplePlan refl (lit≤ tt) example-heard (lit≤ tt) (lit≤ tt)
 
 pub example-clear : example-walk .h₁ .protection .clear ≡ 2
 unfolding example-walk
-example-clear = walk-clear exampleId exampleSecret exampleHello exampleRandom exampleOut exampleData examplePlan refl (lit≤ tt) example-heard (lit≤ tt) (lit≤ tt)
+example-clear = walk-clear exampleId exampleSecret exampleWidth example-held exampleHello exampleRandom exampleOut exampleData examplePlan refl (lit≤ tt) example-heard (lit≤ tt) (lit≤ tt)
 
 -- a walk as events: the first three from fresh are Open, and the fourth is data
 module _ (id secret random bytes : List ℕ) (lr : length random ≡ 16) {width : ℕ} (w : Walk id secret width random bytes) where

@@ -6,12 +6,12 @@ use mathlib.Core.Bool.{Bool, true, false}
 use mathlib.Core.List.{List, [], _∷_}
 use Prim.Native.Nat.{ℕ}
 use Rattle.record.specs.History.{windowOf, arrivedOf}
-use Rattle.record.specs.Window.{acceptOf, windowWidth}
+use Rattle.record.specs.Window.{acceptOf}
 use Rattle.record.specs.declared.header.Content.{Content}
 use Rattle.record.specs.declared.header.Content.the-variants as C
 use Rattle.record.specs.declared.reader.Record.{Record}
 use Rattle.record.specs.declared.window.Acceptance.the-variants as A
-use Rattle.record.proofs.Histories.{new-means, all-below, held-ours}
+use Rattle.record.proofs.Histories.{new-means, all-below}
 use Rattle.message.specs.declared.alert.Alert.{Alert}
 use Rattle.connection.specs.Calls.{sessionOf}
 use Rattle.connection.specs.Judge.{judgedRecord}
@@ -45,40 +45,40 @@ alert-allowed S.Open e = inr refl
 alert-allowed S.Closed e = true-false false e refl
 alert-allowed S.Barred e = true-false false e refl
 
-module _ (session : Session) (past : List Happened) (h : Handshake) (p : Progress session past h) (random d : List ℕ) (r : Record) (at : RecordOf d r) where
+module _ (session : Session) {width : ℕ} (past : List Happened) (h : Handshake) (p : Progress session width past h) (random d : List ℕ) (r : Record) (at : RecordOf d r) where
   past-live : Guarded h r → barredIn past ≡ false
   past-live g = live session past h (p .kept) (sealed-live (h .state) (r .content) (g .kind))
 
-  guard : Alerted (h .state) → (c : List ℕ) (a : Alert) → FatalAt windowWidth session past d r c a → Guarded h r
+  guard : Alerted (h .state) → (c : List ℕ) (a : Alert) → FatalAt width session past d r c a → Guarded h r
   guard s c a f =
       record {
         protection = f .genuine .is-sealed .is-protected;
         kind = ap (sealedAllowed (h .state)) (f .alert) ∙ allowed-alert (h .state) s;
       }
 
-  new-by-past : (c : List ℕ) (a : Alert) → FatalAt windowWidth session past d r c a
-      → acceptOf (h .protection .window) (r .number) ≡ A.New (windowOf windowWidth (r .number ∷ acceptedIn past)) (arrivedOf windowWidth (r .number ∷ acceptedIn past))
+  new-by-past : (c : List ℕ) (a : Alert) → FatalAt width session past d r c a
+      → acceptOf (h .protection .window) (r .number) ≡ A.New (windowOf width (r .number ∷ acceptedIn past)) (arrivedOf width (r .number ∷ acceptedIn past))
   new-by-past c a f =
       ap (λ w. acceptOf w (r .number)) (p .kept .window-is)
-      ∙ due-new windowWidth held-ours (acceptedIn past) (r .number) (f .not-before) (f .recent)
+      ∙ due-new width (p .kept .held) (acceptedIn past) (r .number) (f .not-before) (f .recent)
 
-  bars-so : Alerted (h .state) → (c : List ℕ) (a : Alert) → FatalAt windowWidth session past d r c a
+  bars-so : Alerted (h .state) → (c : List ℕ) (a : Alert) → FatalAt width session past d r c a
       → (judgedRecord h random d r .answer ≡ W.Barred (a .description)) × (next h (took random d r) .state ≡ S.Barred)
   bars-so s c a f =
       let g : Guarded h r = guard s c a f in
       let coded : Sealed (keysOf h) d r c = subst (λ k. Sealed k d r c) (sym (keys-are session past h p (past-live g))) (f .genuine .is-sealed) in
-      let n : New h d r c (windowOf windowWidth (r .number ∷ acceptedIn past))
-      = record { guarded = g; coded = coded; arrived = arrivedOf windowWidth (r .number ∷ acceptedIn past); accepted = new-by-past c a f } in
-      let is = row-is h random d r (row-barred c (windowOf windowWidth (r .number ∷ acceptedIn past)) a n (f .alert) (f .well-formed) (f .fatal)) in
+      let n : New h d r c (windowOf width (r .number ∷ acceptedIn past))
+      = record { guarded = g; coded = coded; arrived = arrivedOf width (r .number ∷ acceptedIn past); accepted = new-by-past c a f } in
+      let is = row-is h random d r (row-barred c (windowOf width (r .number ∷ acceptedIn past)) a n (f .alert) (f .well-formed) (f .fatal)) in
       (ap (λ j. j .answer) is, ap (λ j. j .handshake .state) is)
 
   only-so : h .state ≢ S.Barred → next h (took random d r) .state ≡ S.Barred
-      → Alerted (h .state) × ((c : List ℕ) × (a : Alert) × FatalAt windowWidth session past d r c a)
+      → Alerted (h .state) × ((c : List ℕ) × (a : Alert) × FatalAt width session past d r c a)
   only-so nb z =
       let f : FatalRow h d r = by-fatal h random d r nb (row-of h random d r) z in
       let g : Guarded h r = f .new .guarded in
       let e = sym (ap (λ w. acceptOf w (r .number)) (p .kept .window-is)) ∙ f .new .accepted in
-      let q = new-means windowWidth (acceptedIn past) (r .number) (f .w) (f .new .arrived) (sym (by-history windowWidth held-ours (acceptedIn past) (r .number)) ∙ e) in (
+      let q = new-means width (acceptedIn past) (r .number) (f .w) (f .new .arrived) (sym (by-history width (p .kept .held) (acceptedIn past) (r .number)) ∙ e) in (
         alert-allowed (h .state) (sym (ap (sealedAllowed (h .state)) (f .alert)) ∙ g .kind),
         (
           f .c,
@@ -89,16 +89,16 @@ module _ (session : Session) (past : List Happened) (h : Handshake) (p : Progres
             well-formed = f .well-formed;
             fatal = f .fatal;
             not-before = q .1;
-            recent = all-below windowWidth (acceptedIn past) (r .number) (q .0);
+            recent = all-below width (acceptedIn past) (r .number) (q .0);
           },
         ),
       )
 
-  pub fatal-exactly : FatalExactly windowWidth session past h random d r
+  pub fatal-exactly : FatalExactly width session past h random d r
   fatal-exactly = record { bars = bars-so; only = only-so }
 
 pub fatal-in-runs : FatalInRuns
 unfolding FatalInRuns
-fatal-in-runs id secret es sound random d r at =
-    let h₀ : Handshake = freshWith id secret in
-    fatal-exactly (sessionOf id secret) (history h₀ es []) (after h₀ es) (progress-all (sessionOf id secret) es [] h₀ sound (progress-fresh id secret)) random d r at
+fatal-in-runs id secret width held es sound random d r at =
+    let h₀ : Handshake = freshWith id secret width in
+    fatal-exactly (sessionOf id secret) (history h₀ es []) (after h₀ es) (progress-all (sessionOf id secret) es [] h₀ sound (progress-fresh id secret width held)) random d r at

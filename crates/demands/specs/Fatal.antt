@@ -7,7 +7,7 @@ use mathlib.Core.Bool.{Bool, true, false}
 use mathlib.Core.List.{List, []}
 use Prim.Native.Nat.{ℕ, _+_, _<_}
 use Rattle.record.specs.History.{accepted}
-use Rattle.record.specs.Window.{windowWidth}
+use Rattle.record.specs.Window.{Held}
 use Rattle.record.specs.declared.header.Content.the-variants as C
 use Rattle.record.specs.declared.reader.Record.{Record}
 use Rattle.message.specs.Alert.{alertOf}
@@ -51,6 +51,7 @@ pub record FatalExactly (width : ℕ) (session : Session) (past : List Happened)
 
 unfoldable pub FatalInRuns : Type 0
 FatalInRuns =
-    (id secret : List ℕ) (es : List Event) → AllSound es → (random d : List ℕ) (r : Record) → RecordOf d r
-    → FatalExactly windowWidth (sessionOf id secret) (history (freshWith id secret) es []) (after (freshWith id secret) es)
-    random d r
+    (id secret : List ℕ) (width : ℕ) → Held width → (es : List Event) → AllSound es → (random d : List ℕ) (r : Record)
+    → RecordOf d r
+    → FatalExactly width (sessionOf id secret) (history (freshWith id secret width) es [])
+    (after (freshWith id secret width) es) random d r

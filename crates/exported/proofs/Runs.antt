@@ -435,10 +435,10 @@ fresh-picked false state c o t d = let z : _≡_ {A = ℕ} 0 1 = cc in absurd (o
 
 pub fresh-is-layer-4 : FreshIsLayer4
 unfolding FreshIsLayer4 freshLoads FreshHolds
-fresh-is-layer-4 id secret state size eight twenty kept =
-    let made = fresh-holds id secret (leaving O.Done (freshWith id secret)) .1 (fresh-done eight twenty) in
+fresh-is-layer-4 id secret width state size eight twenty held kept =
+    let made = fresh-holds id secret width (leaving O.Done (freshWith id secret width)) .1 (fresh-done eight twenty held) in
     kept
-    ∙ fresh-picked (eqb (length state) stateSize) state (freshOf id secret .connection) (freshOf id secret .outcome) (eq-eqb (length state) stateSize size)
+    ∙ fresh-picked (eqb (length state) stateSize) state (freshOf id secret width .connection) (freshOf id secret width .outcome) (eq-eqb (length state) stateSize size)
     (ap (λ x. x .outcome) made)
     ∙ ap (λ x. Is (x .connection)) made
 

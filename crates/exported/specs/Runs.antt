@@ -7,6 +7,7 @@ use mathlib.Core.List.{List, [], _∷_, _++_}
 use Prim.Native.Nat.{ℕ}
 use lib.ListN.{length}
 use Rattle.digest.specs.Pick.{pick}
+use Rattle.record.specs.Window.{Held}
 use Rattle.connection.specs.declared.calls.Connection.{Connection}
 use Rattle.lent.specs.Saved.{stateSize, isSaved, Loaded, Is, loaded}
 use Rattle.lent.specs.Counts.{tallyIn, TallyRanged}
@@ -186,9 +187,9 @@ RunsAreLayer4 =
 -- a fresh connection in lent bytes is layer 4's, from which its runs begin
 unfoldable pub FreshIsLayer4 : Type 0
 FreshIsLayer4 =
-    (id secret state : List ℕ) → length state ≡ stateSize → length id ≡ 8 → length secret ≡ 20
-    → loaded (freshState id secret state) ≡ freshLoads id secret state
-    → loaded (freshState id secret state) ≡ Is (connectionOf (freshWith id secret))
+    (id secret : List ℕ) (width : ℕ) (state : List ℕ) → length state ≡ stateSize → length id ≡ 8 → length secret ≡ 20
+    → Held width → loaded (freshState id secret width state) ≡ freshLoads id secret width state
+    → loaded (freshState id secret width state) ≡ Is (connectionOf (freshWith id secret width))
 
 -- 16 before layer 4's call: every lent byte is as it was.
 pub record Refused16 (state tally : List ℕ) (call : Exported) : Type 0 where
