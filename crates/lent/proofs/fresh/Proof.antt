@@ -1,18 +1,47 @@
 -- `fresh`: the room, then the call.
 use mathlib.Core.Path.{_≡_, refl, _∙_, ap}
-use Rattle.digest.proofs.Picks.{picks}
-use Rattle.lent.specs.Saved.{loaded}
-use Rattle.lent.specs.Calls.{freshResult, freshState, freshLoads, resultOf, refusalIn, leftIn, leftLoaded}
+use mathlib.Core.Logic.{_≢_}
+use mathlib.Core.List.{List}
+use Prim.Native.Nat.{ℕ}
+use lib.ListN.{length}
+use native.Mathlib.Omega.{arith}
+use borrow.Author.Tests.{eq-eqb, ne-eqb}
+use Rattle.connection.specs.Calls.{freshOf}
+use Rattle.connection.specs.declared.calls.Called.{Called}
+use Rattle.lent.specs.Saved.{stateSize, loaded}
+use Rattle.lent.specs.Calls.{freshResult, freshState, freshLoads, resultOf, notTaken, refusalIn, leftIn, leftLoaded}
 use borrow.Author.Needs.{needs}
 use Rattle.lent.proofs.fresh.Statement.{statement}
 use Rattle.lent.proofs.fresh.Tie as tie
+
+-- another room
+no-room : (id secret : List ℕ) (width : ℕ) (state after : List ℕ) (r : ℕ) → length state ≢ stateSize → r ≡ notTaken → after ≡ state
+    → (r ≡ freshResult id secret width (length state)) × ((after ≡ freshState id secret width state) × (loaded after ≡ freshLoads id secret width state))
+unfolding freshResult freshState freshLoads
+no-room id secret width state after r n e f = (
+  rw (ne-eqb (length state) stateSize n) e,
+  (rw (ne-eqb (length state) stateSize n) f, rw (ne-eqb (length state) stateSize n) (ap loaded f)),
+)
+
+-- what the call left, in its room
+in-room : (id secret : List ℕ) (width : ℕ) (state after : List ℕ) (r : ℕ) (k : Called) → length state ≡ stateSize → k ≡ freshOf id secret width
+    → r ≡ resultOf (refusalIn (k .outcome)) 0 0 → after ≡ leftIn state (k .connection) (k .outcome)
+    → loaded after ≡ leftLoaded state (k .connection) (k .outcome)
+    → (r ≡ freshResult id secret width (length state)) × ((after ≡ freshState id secret width state) × (loaded after ≡ freshLoads id secret width state))
+unfolding freshResult freshState freshLoads
+in-room id secret width state after r k s m e f g = (
+  rw (eq-eqb (length state) stateSize s) (e ∙ ap (λ x. resultOf (refusalIn (x .outcome)) 0 0) m),
+  (
+    rw (eq-eqb (length state) stateSize s) (f ∙ ap (λ x. leftIn state (x .connection) (x .outcome)) m),
+    rw (eq-eqb (length state) stateSize s) (g ∙ ap (λ x. leftLoaded state (x .connection) (x .outcome)) m),
+  ),
+)
 
 not-taken-requires : tie.Need-not-taken-requires
 not-taken-requires c κs = search needs
 
 returns : tie.Need-returns
-unfolding freshResult freshState freshLoads
-returns c = let same : c .before .before .before .before .before .args .state .now ≡ c .before .before .before .before .before .args .state .now = refl in let no = c .not-taken .ensures in let still : loaded (c .before .before .before .before .before .args .state .now) ≡ loaded (c .before .before .before .before .before .args .state .now) = refl in (search picks, (search picks, search picks))
+returns c = no-room _ _ _ _ _ _ (λ z. omega arith) (c .not-taken .ensures) refl
 
 fresh-requires : tie.Need-fresh-requires
 fresh-requires c κs = search needs
@@ -24,12 +53,9 @@ same-length : tie.Need-same-length
 same-length c = search needs
 
 returns-2 : tie.Need-returns-2
-unfolding freshResult freshState freshLoads
 returns-2 c =
-    let result = c .before .before .leave-called .ensures .0 ∙ ap (λ k. resultOf (refusalIn (k .outcome)) 0 0) (c .before .before .before .before .fresh .ensures) in
-    let left = c .before .before .leave-called .ensures .1 .0 ∙ ap (λ k. leftIn (c .before .before .before .before .before .before .before .before .before .args .state .now) (k .connection) (k .outcome)) (c .before .before .before .before .fresh .ensures) in
-    let loads = c .before .before .leave-called .ensures .1 .1 ∙ ap (λ k. leftLoaded (c .before .before .before .before .before .before .before .before .before .args .state .now) (k .connection) (k .outcome)) (c .before .before .before .before .fresh .ensures) in
-    (search picks, (search picks, search picks))
+    in-room _ _ _ _ _ _ _ (omega arith) (c .before .before .before .before .fresh .ensures) (c .before .before .leave-called .ensures .0)
+    (c .before .before .leave-called .ensures .1 .0) (c .before .before .leave-called .ensures .1 .1)
 
 pub fresh-spec : {M : Type 1} → statement M
 fresh-spec =
