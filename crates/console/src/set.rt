@@ -83,12 +83,23 @@ fn put_dh(d: DhParameters, s: &[u8], text: &mut [u8], at: usize) -> usize {
 
 // `set ec FIELD a=HEX b=HEX seed=HEX base=HEX order=HEX cofactor=HEX`
 fn put_ec(c: EcParameters, s: &[u8], text: &mut [u8], at: usize) -> usize {
+    let field = c.field;
     let end = put(text, at, b"set ec ");
-    let end = put_field(c.field, s, text, end);
-    let end = put_part(b" a=", c.a, s, text, end);
+    let end = put_field(field, s, text, end);
+    let end = put_curve(c, s, text, end);
+    put_point(c, s, text, end)
+}
+
+// ECCurve: a, b and the seed.
+fn put_curve(c: EcParameters, s: &[u8], text: &mut [u8], at: usize) -> usize {
+    let end = put_part(b" a=", c.a, s, text, at);
     let end = put_part(b" b=", c.b, s, text, end);
-    let end = put_part(b" seed=", c.seed, s, text, end);
-    let end = put_part(b" base=", c.base, s, text, end);
+    put_part(b" seed=", c.seed, s, text, end)
+}
+
+// The base point, its order and the cofactor.
+fn put_point(c: EcParameters, s: &[u8], text: &mut [u8], at: usize) -> usize {
+    let end = put_part(b" base=", c.base, s, text, at);
     let end = put_part(b" order=", c.order, s, text, end);
     let end = put_part(b" cofactor=", c.cofactor, s, text, end);
     put(text, end, b"\n")
