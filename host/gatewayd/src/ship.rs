@@ -18,6 +18,14 @@ pub struct Ship {
     /// Handshakes under way, the oldest first.
     pub started: Vec<Handshake>,
     pub tally: Tally,
+    /// The tally as the store has it.
+    pub saved: Tally,
+    /// Of the row in the store from which this ship was made.
+    pub version: i64,
+    /// How often a Finished has opened a connection: numbers begin anew with each.
+    pub opening: i64,
+    /// No number of ours is spent before the next opening: the store is of an earlier time, and some may be spent already.
+    pub mute: bool,
     /// The sender of the last genuine new record.
     pub route: Option<SocketAddr>,
     /// Which of our addresses that record came to.
@@ -59,6 +67,10 @@ impl Ship {
             hello: Vec::new(),
             started: Vec::new(),
             tally: Tally::default(),
+            saved: Tally::default(),
+            version: 0,
+            opening: 0,
+            mute: false,
             route: None,
             ours: None,
             newest: 0,
