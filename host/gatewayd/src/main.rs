@@ -4,6 +4,7 @@ use gatewayd::options::{self, Command, HELP};
 use gatewayd::run::{self, Ended, Failure};
 use gatewayd::signals;
 use gatewayd::socket::Socket;
+use gatewayd::store::setup;
 use std::os::unix::process::CommandExt;
 use std::process::ExitCode;
 
@@ -11,6 +12,7 @@ fn main() -> ExitCode {
     match options::read(std::env::args_os().skip(1)) {
         Ok(Command::Help) => print!("{HELP}"),
         Ok(Command::Version) => println!("gatewayd {}", env!("CARGO_PKG_VERSION")),
+        Ok(Command::SetUp) => print!("{}", setup::script()),
         Ok(Command::Run(options)) => {
             let ended = run::run(&options);
             if let Err(failure) = ended.and_then(|ended| match ended {

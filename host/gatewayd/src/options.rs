@@ -11,6 +11,7 @@ gatewayd: the shore end of the link, over UDP. One connection for each planted s
 
     gatewayd --sessions FILE --state DIRECTORY [OPTIONS]
     gatewayd --sessions FILE --store ADDRESS [OPTIONS]
+    gatewayd --set-up | psql DATABASE     roles and tables for --store, once
 
     --sessions FILE        planted sessions, one to a line: identifier (16 hexadecimal digits),
                            secret (40), the ship's name. Refused if others can read it, and if it
@@ -41,6 +42,7 @@ Exit status: 0 ended by a signal, 2 wrong command line, 3 sessions file, 4 store
 pub enum Command {
     Help,
     Version,
+    SetUp,
     Run(Options),
 }
 
@@ -86,6 +88,7 @@ pub fn read(mut words: impl Iterator<Item = OsString>) -> Result<Command, String
         match &word[..] {
             "--help" | "-h" => return Ok(Command::Help),
             "--version" | "-V" => return Ok(Command::Version),
+            "--set-up" => return Ok(Command::SetUp),
             _ => said.option(&word, || words.next())?,
         }
     }

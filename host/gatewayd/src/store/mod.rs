@@ -8,8 +8,9 @@ pub mod place;
 pub mod postgres;
 mod pq;
 pub mod row;
-pub mod schema;
+mod schema;
 pub mod secret;
+pub mod setup;
 pub mod sqlite;
 
 use crate::clock::Moment;

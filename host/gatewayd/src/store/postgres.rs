@@ -11,7 +11,7 @@ pub struct Postgres {
     in_transaction: bool,
 }
 
-const WORDS: Words = Words {
+pub const WORDS: Words = Words {
     bytes: "BYTEA",
     serial: "BIGSERIAL PRIMARY KEY",
     now: "CAST(EXTRACT(EPOCH FROM now()) * 1000 AS BIGINT)",

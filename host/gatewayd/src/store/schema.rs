@@ -3,7 +3,7 @@
 use super::engine::{Engine, Fault, Value, Words};
 
 /// Of the tables, and of what stands in them.
-const VERSION: i64 = 1;
+pub const VERSION: i64 = 1;
 
 const TABLES: &str = "\
 CREATE TABLE store (version INTEGER NOT NULL);

@@ -18,6 +18,8 @@ use std::time::Duration;
 
 pub struct Place {
     pub path: PathBuf,
+    /// A server for the store; else it is in the state directory.
+    pub server: Option<String>,
 }
 
 impl Place {
@@ -35,7 +37,7 @@ impl Place {
         let path = directory.join(format!("gatewayd-{name}-{}", std::process::id()));
         let _ = fs::remove_dir_all(&path);
         fs::create_dir_all(&path).unwrap();
-        Place { path }
+        Place { path, server: None }
     }
 
     pub fn sessions(&self) -> PathBuf {
@@ -53,12 +55,15 @@ impl Place {
     }
 
     pub fn at(&self) -> Where {
-        Where::Directory(self.state())
+        match &self.server {
+            Some(address) => Where::Server(address.clone()),
+            None => Where::Directory(self.state()),
+        }
     }
 
     /// The reports in the store, in the order of arrival. A gateway that starts may hold readers up for a moment.
     pub fn lines(&self, wanted: &Wanted) -> Vec<Line> {
-        if !self.state().join("store.db").exists() {
+        if self.server.is_none() && !self.state().join("store.db").exists() {
             return Vec::new();
         }
         for _ in 0..100 {
@@ -121,7 +126,11 @@ impl Gatewayd {
             fs::OpenOptions::new().create(true).append(true).open(place.path.join("log")).unwrap();
         let mut command = Command::new(env!("CARGO_BIN_EXE_gatewayd"));
         command.args(["--listen", listen, "--sessions"]).arg(place.sessions());
-        command.arg("--state").arg(place.state()).args(more).stdout(Stdio::piped()).stderr(log);
+        match &place.server {
+            Some(address) => command.arg("--store").arg(address),
+            None => command.arg("--state").arg(place.state()),
+        };
+        command.args(more).stdout(Stdio::piped()).stderr(log);
         command
     }
 
@@ -177,6 +186,22 @@ impl Gatewayd {
         let mut line = String::new();
         self.out.read_line(&mut line).unwrap();
         assert!(line.contains(&format!(" listens on {}:", self.address)), "{line}");
+    }
+
+    /// Started as often as it needs: the store may be away.
+    pub fn start_at_last(place: &Place, listen: &str, more: &[&str]) -> Gatewayd {
+        for _ in 0..500 {
+            let mut child = Gatewayd::command(place, listen, more).spawn().unwrap();
+            let mut out = BufReader::new(child.stdout.take().unwrap());
+            let mut line = String::new();
+            out.read_line(&mut line).unwrap();
+            if line.contains(" listens on ") {
+                return Gatewayd { child, address: listen.parse().unwrap(), out };
+            }
+            child.wait().unwrap();
+            std::thread::sleep(Duration::from_millis(20));
+        }
+        panic!("it does not start: {}", fs::read_to_string(place.path.join("log")).unwrap());
     }
 
     fn begin(place: &Place, mut command: Command) -> Gatewayd {
