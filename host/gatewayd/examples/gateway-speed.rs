@@ -44,7 +44,9 @@ fn main() -> Outcome<()> {
     let (datagrams, repetitions): (usize, usize) = (datagrams.parse()?, repetitions.parse()?);
     println!("reports of {REPORT_SIZE} bytes, {datagrams} datagrams, at most {WINDOW} under way");
     println!("medians of {repetitions}");
-    println!("ships  reports/s    echo/s  ratio  inserts/s  ratio  processor/report  memory    start");
+    println!(
+        "ships  reports/s    echo/s  ratio  inserts/s  ratio  processor/report  memory    start"
+    );
     for ships in [1, 100, 10_000] {
         let mut figures: [Vec<f64>; 8] = Default::default();
         for repetition in 0..repetitions {
@@ -58,7 +60,8 @@ fn main() -> Outcome<()> {
             let inserts = measure_inserts(&at, ships, datagrams)?;
             let ratios = [taken.rate / echo, taken.rate / inserts];
             let time = 1e6 * taken.time / datagrams as f64;
-            let all = [taken.rate, echo, ratios[0], inserts, ratios[1], time, taken.memory, taken.start];
+            let all =
+                [taken.rate, echo, ratios[0], inserts, ratios[1], time, taken.memory, taken.start];
             figures.iter_mut().zip(all).for_each(|(figures, figure)| figures.push(figure));
             fs::remove_dir_all(work)?;
         }
@@ -324,7 +327,8 @@ fn measure_echo(ships: usize, datagrams: usize) -> Outcome<f64> {
     let mut echo =
         Running(Command::new(std::env::current_exe()?).arg("echo").stdout(Stdio::piped()).spawn()?);
     let address = first_address(&mut echo.0)?;
-    let sockets = (0..ships).map(|ship| connected(ship, address)).collect::<io::Result<Vec<_>>>()?;
+    let sockets =
+        (0..ships).map(|ship| connected(ship, address)).collect::<io::Result<Vec<_>>>()?;
     // As long as a protected record with the report: header 3, code 10.
     let datagram = [0x61; 3 + REPORT_SIZE + 10];
     let mut buffer = [0; 2048];

@@ -1,6 +1,6 @@
 //! The command line.
 
-use crate::store::Where;
+use crate::store::{Start, Where};
 use std::ffi::OsString;
 use std::net::SocketAddr;
 use std::path::PathBuf;
@@ -21,6 +21,8 @@ gatewayd: the shore end of the link, over UDP. One connection for each planted s
                            postgres://USER@HOST/DATABASE, as for psql
     --restored             the store is of an earlier time (a backup): on the connections in it
                            nothing more is sent until each is opened again
+    --afresh               every connection is a fresh one, and the ships say hello again; reports
+                           and barred sessions stay
     --listen ADDRESS:PORT  where to listen  [127.0.0.1:9202]; not asked if a socket was handed over
                            (LISTEN_FDS, as systemd does it)
     --reopen-after SECONDS a hello is answered beside an open connection that has been silent for so
@@ -50,7 +52,7 @@ pub enum Command {
 pub struct Options {
     pub sessions: PathBuf,
     pub store: Where,
-    pub restored: bool,
+    pub start: Start,
     pub listen: SocketAddr,
     pub reopen_after: Duration,
     pub warn_every: Duration,
@@ -63,7 +65,7 @@ struct Said {
     sessions: Option<PathBuf>,
     state: Option<PathBuf>,
     store: Option<String>,
-    restored: bool,
+    start: Start,
     listen: SocketAddr,
     reopen_after: Duration,
     warn_every: Duration,
@@ -76,7 +78,7 @@ pub fn read(mut words: impl Iterator<Item = OsString>) -> Result<Command, String
         sessions: None,
         state: None,
         store: None,
-        restored: false,
+        start: Start::AsItWas,
         listen: SocketAddr::from(([127, 0, 0, 1], 9202)),
         reopen_after: Duration::from_secs(5),
         warn_every: Duration::from_secs(60),
@@ -96,7 +98,7 @@ pub fn read(mut words: impl Iterator<Item = OsString>) -> Result<Command, String
     Ok(Command::Run(Options {
         sessions,
         store: Where::said(said.state, said.store)?,
-        restored: said.restored,
+        start: said.start,
         listen: said.listen,
         reopen_after: said.reopen_after,
         warn_every: said.warn_every,
@@ -116,7 +118,8 @@ impl Said {
             "--sessions" => self.sessions = Some(value()?.into()),
             "--state" => self.state = Some(value()?.into()),
             "--store" => self.store = Some(text(value()?)?),
-            "--restored" => self.restored = true,
+            "--restored" => self.start = Start::Restored,
+            "--afresh" => self.start = Start::Afresh,
             "--listen" => {
                 let value = text(value()?)?;
                 self.listen =

@@ -53,8 +53,7 @@ pub fn run(options: &Options) -> Result<Ended, Failure> {
     signals::listen();
     let failure = |status: u8| move |what: String| Failure { status, what };
     let sessions = sessions::load(&options.sessions).map_err(failure(3))?;
-    let opened =
-        Store::open(&options.store, sessions, options.restored).map_err(failure(4))?;
+    let opened = Store::open(&options.store, sessions, options.start).map_err(failure(4))?;
     let listen =
         |error: io::Error| Failure { status: 5, what: format!("{}: {error}", options.listen) };
     let socket = Socket::open(options.listen).map_err(listen)?;

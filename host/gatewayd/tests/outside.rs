@@ -55,7 +55,8 @@ fn barred_for_good() {
     for another_secret in [false, true] {
         if another_secret {
             let sessions = fs::read_to_string(place.sessions()).unwrap();
-            fs::write(place.sessions(), sessions.replace("01010101 ship 0", "01010102 ship 0")).unwrap();
+            fs::write(place.sessions(), sessions.replace("01010101 ship 0", "01010102 ship 0"))
+                .unwrap();
         }
         let gatewayd = Gatewayd::start(&place, ANY, &[]);
         let mut ship = Ship::new(0, gatewayd.address);
@@ -294,7 +295,9 @@ fn refusals_are_counted() {
     let tallies = gatewayd.end();
     assert!(tallies.contains("1\t3\t0\t1\topen\tship 0"), "{tallies}");
     let store = rusqlite::Connection::open(place.state().join("store.db")).unwrap();
-    let mut found = store.prepare("SELECT refusal, SUM(count) FROM refusals GROUP BY refusal ORDER BY 1").unwrap();
+    let mut found = store
+        .prepare("SELECT refusal, SUM(count) FROM refusals GROUP BY refusal ORDER BY 1")
+        .unwrap();
     let pairs = found.query_map([], |row| Ok((row.get(0)?, row.get(1)?))).unwrap();
     assert_eq!(pairs.map(Result::unwrap).collect::<Vec<(i64, i64)>>(), [(9, 3), (11, 1)]);
     // The tally is saved at the end, too.

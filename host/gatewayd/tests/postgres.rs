@@ -34,7 +34,18 @@ impl Server {
         assert!(owner.unwrap().success());
         let server = Server { directory };
         let data = server.data();
-        server.run(&["initdb", "-D", &data, "-A", "trust", "-U", "postgres", "--no-sync", "-E", "UTF8"]);
+        server.run(&[
+            "initdb",
+            "-D",
+            &data,
+            "-A",
+            "trust",
+            "-U",
+            "postgres",
+            "--no-sync",
+            "-E",
+            "UTF8",
+        ]);
         server.begin();
         server.sql("postgres", "CREATE DATABASE fleet");
         server
@@ -45,7 +56,8 @@ impl Server {
     }
 
     fn begin(&self) {
-        let words = format!("-k {} -c listen_addresses= -c max_connections=40", self.directory.display());
+        let words =
+            format!("-k {} -c listen_addresses= -c max_connections=40", self.directory.display());
         let log = self.directory.join("log").display().to_string();
         self.run(&["pg_ctl", "-D", &self.data(), "-w", "-l", &log, "-o", &words, "start"]);
     }
@@ -74,7 +86,19 @@ impl Server {
     fn psql(&self, database: &str, role: &str, sql: &str) -> Output {
         let host = self.directory.display().to_string();
         Command::new("psql")
-            .args(["-qAt", "-v", "ON_ERROR_STOP=1", "-h", &host, "-U", role, "-d", database, "-c", sql])
+            .args([
+                "-qAt",
+                "-v",
+                "ON_ERROR_STOP=1",
+                "-h",
+                &host,
+                "-U",
+                role,
+                "-d",
+                database,
+                "-c",
+                sql,
+            ])
             .output()
             .unwrap()
     }
@@ -413,7 +437,9 @@ fn roles_and_refusals_to_start() {
     };
     assert_eq!(told(&[]).lines().count(), 2);
     assert_eq!(told(&["--missing"]), "ship 0\t1\t2\t2\t1\n");
-    for forbidden in ["SELECT connection FROM ships", "SELECT handshakes FROM ships", "DELETE FROM reports"] {
+    for forbidden in
+        ["SELECT connection FROM ships", "SELECT handshakes FROM ships", "DELETE FROM reports"]
+    {
         let output = server.psql("fleet", "planner", forbidden);
         let said = String::from_utf8(output.stderr).unwrap();
         assert!(said.contains("permission denied"), "{forbidden}: {said}");

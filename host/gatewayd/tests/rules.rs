@@ -10,7 +10,7 @@ use gatewayd::note::Note;
 use gatewayd::refusals::Counts;
 use gatewayd::sessions::Session;
 use gatewayd::store::row::Clocks;
-use gatewayd::store::{Outcome, Store};
+use gatewayd::store::{Outcome, Start, Store};
 use gatewayd::way::Way;
 use peer::keys::Kind;
 use peer::unit::Hello;
@@ -598,7 +598,7 @@ fn a_barred_session_stays_out() {
     let open = |secrets: fn(usize) -> [u8; 20]| {
         let session =
             |ship| Session { id: identifier(ship), secret: secrets(ship), ship: name(ship) };
-        Store::open(&place.at(), vec![session(0), session(1)], false).unwrap()
+        Store::open(&place.at(), vec![session(0), session(1)], Start::AsItWas).unwrap()
     };
     let mut world = World::with(2, 0, None);
     let mut store = open(secret).store;

@@ -11,7 +11,7 @@ use gatewayd::reports::Wanted;
 use gatewayd::sessions::Session;
 use gatewayd::shore::{Shore, Told};
 use gatewayd::socket::Datagram;
-use gatewayd::store::{Store, Where};
+use gatewayd::store::{Start, Store, Where};
 use gatewayd::way::Way;
 use std::fs;
 use std::path::Path;
@@ -27,17 +27,14 @@ struct World {
 
 impl World {
     fn open(state: &Path) -> World {
-        World::with(state, false)
+        World::with(state, Start::AsItWas)
     }
 
-    fn with(state: &Path, restored: bool) -> World {
+    fn with(state: &Path, start: Start) -> World {
         let sessions = vec![Session { id: identifier(0), secret: secret(0), ship: name(0) }];
-        let opened = Store::open(&Where::Directory(state.into()), sessions, restored).unwrap();
-        let rules = Rules {
-            reopen_after: Duration::ZERO,
-            warn_every: Duration::ZERO,
-            hint_every: None,
-        };
+        let opened = Store::open(&Where::Directory(state.into()), sessions, start).unwrap();
+        let rules =
+            Rules { reopen_after: Duration::ZERO, warn_every: Duration::ZERO, hint_every: None };
         let fleet = Fleet::new(opened.ships, rules);
         World { shore: Shore::new(fleet, opened.store, Randoms::open().unwrap()) }
     }
@@ -166,8 +163,7 @@ fn openings() {
     }
     let found: Vec<(i64, u16)> =
         place.lines(&Wanted::all()).iter().map(|line| (line.opening, line.number)).collect();
-    let expected =
-        [(1, 1), (1, 10), (2, 1), (2, 2), (2, 10), (3, 1), (3, 2), (3, 3), (3, 10)];
+    let expected = [(1, 1), (1, 10), (2, 1), (2, 2), (2, 10), (3, 1), (3, 2), (3, 3), (3, 10)];
     assert_eq!(found, expected);
 }
 
@@ -209,7 +205,7 @@ fn a_restored_backup() {
     assert!(spent.notes.iter().any(|(_, _, note)| *note == Note::Warned));
     drop(world);
     lay(&place.state(), [&backup[0], &backup[1]]);
-    let mut world = World::with(&place.state(), true);
+    let mut world = World::with(&place.state(), Start::Restored);
     world.take(&ship.data(1));
     world.take(&ship.data(2));
     assert_eq!(numbers(&place.state()), [1, 2]);
@@ -220,6 +216,33 @@ fn a_restored_backup() {
     assert!(world.take(&flight).send.is_empty());
     let ship = opened(&mut world, 2);
     assert_eq!(world.take(&ship.unit.flight().unwrap()).send.len(), 1);
+}
+
+/// Connections of another layout are refused; afresh, the ship says hello again, and its openings go on.
+#[test]
+fn another_layout() {
+    let place = Place::in_memory("layout");
+    let mut world = World::open(&place.state());
+    let ship = opened(&mut world, 1);
+    world.take(&ship.data(1));
+    drop(world);
+    let store = rusqlite::Connection::open(place.state().join("store.db")).unwrap();
+    let sql = "UPDATE store SET layout = '1, 457 and 16 bytes'; UPDATE ships SET connection = x'00', tally = x'00'";
+    store.execute_batch(sql).unwrap();
+    let sessions = || vec![Session { id: identifier(0), secret: secret(0), ship: name(0) }];
+    let refused = Store::open(&place.at(), sessions(), Start::AsItWas).err().unwrap();
+    assert!(refused.contains("connections of layout 1, 457 and 16 bytes"), "{refused}");
+    let mut world = World::with(&place.state(), Start::Afresh);
+    world.take(&ship.data(2));
+    assert_eq!(numbers(&place.state()), [1]);
+    let ship = opened(&mut world, 2);
+    world.take(&ship.data(1));
+    drop(world);
+    let mut world = World::open(&place.state());
+    world.take(&ship.data(2));
+    let found: Vec<(i64, u16)> =
+        place.lines(&Wanted::all()).iter().map(|line| (line.opening, line.number)).collect();
+    assert_eq!(found, [(1, 1), (2, 1), (2, 2)]);
 }
 
 fn reports(place: &Place, words: &[&str]) -> Output {

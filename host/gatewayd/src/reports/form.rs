@@ -97,10 +97,7 @@ mod tests {
             number: 17,
             bytes: vec![0x48, 0x69],
         };
-        assert_eq!(
-            Form::Text.line(&line),
-            "a\"b,c\t2026-11-15T00:00:00.007Z\t2\t17\t2\t4869\n"
-        );
+        assert_eq!(Form::Text.line(&line), "a\"b,c\t2026-11-15T00:00:00.007Z\t2\t17\t2\t4869\n");
         assert_eq!(
             Form::Json.line(&line),
             concat!(
@@ -109,10 +106,7 @@ mod tests {
                 "\n"
             )
         );
-        assert_eq!(
-            Form::Csv.line(&line),
-            "\"a\"\"b,c\",2026-11-15T00:00:00.007Z,2,17,2,4869\n"
-        );
+        assert_eq!(Form::Csv.line(&line), "\"a\"\"b,c\",2026-11-15T00:00:00.007Z,2,17,2,4869\n");
         let gap = Gap { ship: "Sea Star".to_string(), opening: 1, first: 3, last: 5 };
         assert_eq!(Form::Text.gap(&gap), "Sea Star\t1\t3\t5\t3\n");
         assert_eq!(

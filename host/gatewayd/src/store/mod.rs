@@ -56,7 +56,19 @@ pub struct Store {
     writer: i64,
     /// The store's clock at the last look.
     looked: i64,
+    start: Start,
     _lock: Option<File>,
+}
+
+/// How the gateway starts from the store.
+#[derive(Clone, Copy, PartialEq, Eq, Debug)]
+pub enum Start {
+    AsItWas,
+    /// The store is of an earlier time, so numbers of ours may have been spent that it does not know: no more are spent on the
+    /// connections in it.
+    Restored,
+    /// Every connection is a fresh one; reports, openings and barred sessions stay.
+    Afresh,
 }
 
 /// A store that was opened, and the ships as it knows them.
@@ -86,13 +98,12 @@ const AT_ONCE: usize = 1000;
 const LONGEST: i64 = 60_000;
 
 impl Store {
-    /// Opens the store and brings back each planted session as it was. `restored`: the store is of an earlier time, so numbers of
-    /// ours may have been spent that it does not know; no more are spent on the connections in it.
-    pub fn open(at: &Where, sessions: Vec<Session>, restored: bool) -> Result<Opened, String> {
+    /// Opens the store and brings back each planted session.
+    pub fn open(at: &Where, sessions: Vec<Session>, start: Start) -> Result<Opened, String> {
         let (name, lock, engine) = connect(at)?;
         let told = |what: &str| format!("{name}: {what}");
         let writer = writer().map_err(|error| told(&error.to_string()))?;
-        let mut store = Store { engine, writer, looked: 0, _lock: lock };
+        let mut store = Store { engine, writer, looked: 0, start, _lock: lock };
         let clocks = Clocks { time: Moment::now(), now: Instant::now() };
         let mut ships = Vec::new();
         for session in sessions {
@@ -100,10 +111,17 @@ impl Store {
         }
         let mut opened = || -> Result<(), Fault> {
             schema::check(store.engine.as_mut())?;
+            if start == Start::Afresh {
+                let layout = [schema::layout()[..].into()];
+                store.engine.query("UPDATE store SET layout = $1", &layout)?;
+            }
+            schema::check_layout(store.engine.as_mut())?;
             store.looked = store.clock()?;
-            let (new, other) = store.load(&mut ships, restored, clocks)?;
+            let (new, other) = store.load(&mut ships, clocks)?;
             store.add(&mut ships, &new, clocks)?;
-            store.change(&mut ships, &other, restored, clocks)
+            store.change(&mut ships, &other, clocks)?;
+            store.start = Start::AsItWas;
+            Ok(())
         };
         opened().map_err(|fault| told(fault.what()))?;
         Ok(Opened { store, ships })
@@ -117,12 +135,11 @@ impl Store {
     fn load(
         &mut self,
         ships: &mut [Ship],
-        restored: bool,
         clocks: Clocks,
     ) -> Result<(Vec<usize>, Vec<usize>), Fault> {
         let mut saved: HashMap<Identifier, Saved> = HashMap::new();
         for row in self.engine.query(&format!("SELECT {COLUMNS} FROM ships"), &[])? {
-            let row = Saved::read(&row).map_err(Fault::Broken)?;
+            let row = self.read(&row)?;
             saved.insert(row.identifier, row);
         }
         let (mut new, mut other) = (Vec::new(), Vec::new());
@@ -133,7 +150,7 @@ impl Store {
             };
             row.restore(ship, clocks).map_err(Fault::Broken)?;
             ship.heard = clocks.now;
-            if restored || row.name != ship.session.ship {
+            if self.start != Start::AsItWas || row.name != ship.session.ship {
                 other.push(index);
             }
         }
@@ -145,7 +162,8 @@ impl Store {
         let into = format!("INSERT INTO ships ({COLUMNS})");
         for some in new.chunks(AT_ONCE) {
             let wanted = identified(ships, some);
-            let row = |(_, index): &(Identifier, usize)| row::of(&ships[*index], self.writer, clocks);
+            let row =
+                |(_, index): &(Identifier, usize)| row::of(&ships[*index], self.writer, clocks);
             let rows: Vec<Row> = wanted.iter().map(row).collect();
             self.engine.begin()?;
             self.engine.put(&into, &rows, "ON CONFLICT (identifier) DO NOTHING")?;
@@ -158,19 +176,14 @@ impl Store {
         Ok(())
     }
 
-    /// Rows under another name, or of an earlier time.
-    fn change(
-        &mut self,
-        ships: &mut [Ship],
-        other: &[usize],
-        restored: bool,
-        clocks: Clocks,
-    ) -> Result<(), Fault> {
+    /// Rows under another name, of an earlier time, or to begin afresh.
+    fn change(&mut self, ships: &mut [Ship], other: &[usize], clocks: Clocks) -> Result<(), Fault> {
         for some in other.chunks(AT_ONCE) {
             let changed = identified(ships, some);
             self.engine.begin()?;
             self.restore(ships, &changed, clocks)?;
-            some.iter().for_each(|index| ships[*index].mute |= restored);
+            let mute = self.start == Start::Restored;
+            some.iter().for_each(|index| ships[*index].mute |= mute);
             let outcome = Outcome { changed, reports: Vec::new() };
             self.save(&outcome, ships, &Counts::default(), clocks)?;
         }
@@ -193,7 +206,11 @@ impl Store {
 
     /// Locks the rows of ships, in their order, for the length of the transaction that begins here. False if any of them is not the
     /// one from which its ship was made.
-    pub fn lock(&mut self, changed: &BTreeSet<(Identifier, usize)>, ships: &[Ship]) -> Result<bool, Fault> {
+    pub fn lock(
+        &mut self,
+        changed: &BTreeSet<(Identifier, usize)>,
+        ships: &[Ship],
+    ) -> Result<bool, Fault> {
         self.engine.begin()?;
         if !self.engine.is_shared() {
             return Ok(true);
@@ -230,10 +247,18 @@ impl Store {
             );
             let values: Vec<Value> = some.iter().map(|(id, _)| id[..].into()).collect();
             for row in self.engine.query(&sql, &values)? {
-                rows.push(Saved::read(&row).map_err(Fault::Broken)?);
+                rows.push(self.read(&row)?);
             }
         }
         Ok(rows)
+    }
+
+    fn read(&self, row: &Row) -> Result<Saved, Fault> {
+        let mut saved = Saved::read(row).map_err(Fault::Broken)?;
+        if self.start == Start::Afresh {
+            saved.forget();
+        }
+        Ok(saved)
     }
 
     /// Writes what a run came to and ends the transaction. When this is done, it is on the disk.

@@ -18,10 +18,18 @@ pub const WORDS: Words = Words {
     lock: "FOR UPDATE",
 };
 /// What the address may say otherwise. A server that is gone is noticed within these times.
-const OPTIONS: [(&str, &str); 3] =
-    [("fallback_application_name", "gatewayd"), ("connect_timeout", "5"), ("tcp_user_timeout", "10000")];
-/// A commit is on the disk when it is done, whatever the server's default; and nobody waits for a lock for ever.
-const TO_WRITE: [&str; 2] = ["SET synchronous_commit TO on", "SET lock_timeout TO '10s'"];
+const OPTIONS: [(&str, &str); 3] = [
+    ("fallback_application_name", "gatewayd"),
+    ("connect_timeout", "5"),
+    ("tcp_user_timeout", "10000"),
+];
+/// A commit is on the disk when it is done, whatever the server's default; nobody waits for a lock for ever, and a gateway that was
+/// stopped in its transaction does not keep its locks.
+const TO_WRITE: [&str; 3] = [
+    "SET synchronous_commit TO on",
+    "SET lock_timeout TO '10s'",
+    "SET idle_in_transaction_session_timeout TO '10s'",
+];
 const TO_READ: [&str; 1] = ["SET default_transaction_read_only TO on"];
 /// Values in one statement: the protocol counts them in 16 bits.
 const MOST_VALUES: usize = 30_000;
@@ -42,8 +50,8 @@ impl Postgres {
     fn client(&mut self) -> Result<&mut Client, Fault> {
         if self.client.as_ref().is_none_or(|client| !client.is_there()) {
             self.client = None;
-            let mut client =
-                Client::connect(&self.address, &OPTIONS).map_err(|error| Fault::Away(error.what))?;
+            let mut client = Client::connect(&self.address, &OPTIONS)
+                .map_err(|error| Fault::Away(error.what))?;
             let settings = if self.read_only { &TO_READ[..] } else { &TO_WRITE };
             for setting in settings {
                 client.run(setting, &[]).map_err(fault)?;
@@ -111,19 +119,17 @@ impl Engine for Postgres {
     }
 }
 
-/// By the code, whose first two characters are its class: 08 the connection, 40 the transaction was rolled back, 53 no room or no
-/// memory, 55P03 a lock waited for in vain, 57P the server ends or begins, 58 its system.
+/// Codes, or their beginnings, of a server that is not there for us now: 08 the connection, 25006 it may only be read, 25P03 we were
+/// silent too long, 53 no room or no memory, 55P03 a lock waited for in vain, 57P it ends or begins, 58 its system.
+const AWAY: [&str; 7] = ["08", "25006", "25P03", "53", "55P03", "57P", "58"];
+
+/// By its code; those of class 40 ask for the transaction once more.
 fn fault(error: Error) -> Fault {
     let Error { code, what } = error;
     match code.as_deref() {
         None => Fault::Away(what),
-        Some(code) if code.starts_with("40") || code == "55P03" => Fault::Again(what),
-        Some(code)
-            if ["08", "53", "57P", "58"].iter().any(|class| code.starts_with(class))
-                || code == "25006" =>
-        {
-            Fault::Away(what)
-        }
+        Some(code) if code.starts_with("40") => Fault::Again(what),
+        Some(code) if AWAY.iter().any(|class| code.starts_with(class)) => Fault::Away(what),
         Some(_) => Fault::Broken(what),
     }
 }

@@ -12,7 +12,8 @@ use serde_json::json;
 use std::net::SocketAddr;
 use std::time::Instant;
 
-pub const COLUMNS: &str = "identifier, name, planting, connection, hello, handshakes, tally, route, \
+pub const COLUMNS: &str =
+    "identifier, name, planting, connection, hello, handshakes, tally, route, \
                            newest, opening, mute, heard, barred, version, writer, changed";
 
 /// What a write changes of a row that is there. Once barred is barred for good.
@@ -33,7 +34,7 @@ pub struct Saved {
     connection: Vec<u8>,
     hello: Vec<u8>,
     handshakes: Vec<Started>,
-    tally: Tally,
+    tally: Vec<u8>,
     route: Option<SocketAddr>,
     newest: u16,
     opening: i64,
@@ -102,7 +103,6 @@ impl Saved {
     fn fields(row: &[Value]) -> Option<Saved> {
         let bytes = |column: usize| row.get(column)?.bytes().map(<[u8]>::to_vec);
         let int = |column: usize| row.get(column)?.int();
-        let tally = <[u8; TALLY_SIZE]>::try_from(bytes(6)?).ok()?;
         let route = match row.get(7)? {
             Value::Null => None,
             text => Some(text.text()?.parse().ok()?),
@@ -114,7 +114,7 @@ impl Saved {
             connection: bytes(3)?,
             hello: bytes(4)?,
             handshakes: read_handshakes(row.get(5)?.text()?)?,
-            tally: Tally::load(tally),
+            tally: bytes(6)?,
             route,
             newest: int(8)?.try_into().ok()?,
             opening: int(9)?,
@@ -123,6 +123,11 @@ impl Saved {
             barred: *row.get(12)? != Value::Null,
             version: int(13)?,
         })
+    }
+
+    /// Of what was planted, nothing goes on.
+    pub fn forget(&mut self) {
+        self.planting.clear();
     }
 
     /// Makes the ship what the row says, with what it has counted and not saved yet. One that has been planted anew, with another
@@ -139,8 +144,10 @@ impl Saved {
         let secret = &ship.session.secret;
         ship.connection = secret::put_back(&self.connection, secret).map_err(told)?;
         ship.hello = self.hello.clone();
-        ship.tally = plus(self.tally, minus(ship.tally, ship.saved));
-        ship.saved = self.tally;
+        let tally = self.tally[..].try_into().map_err(|_| format!("the tally of {}", self.name))?;
+        let tally = Tally::load(tally);
+        ship.tally = plus(tally, minus(ship.tally, ship.saved));
+        ship.saved = tally;
         ship.route = self.route.map(way::plain);
         ship.newest = self.newest;
         ship.mute = self.mute;

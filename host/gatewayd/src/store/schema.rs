@@ -1,12 +1,16 @@
 //! The tables, one form for every engine.
 
 use super::engine::{Engine, Fault, Value, Words};
+use gateway::{Connection, ID_SIZE, SECRET_SIZE, STATE_SIZE, TALLY_SIZE};
 
 /// Of the tables, and of what stands in them.
 pub const VERSION: i64 = 1;
 
 const TABLES: &str = "\
-CREATE TABLE store (version INTEGER NOT NULL);
+CREATE TABLE store (
+    version INTEGER NOT NULL,
+    layout TEXT NOT NULL        -- of the connections and tallies
+);
 
 CREATE TABLE ships (
     identifier BYTES PRIMARY KEY,
@@ -61,17 +65,24 @@ pub fn statements(words: &Words) -> Vec<String> {
     text.split(';').map(str::trim).filter(|sql| !sql.is_empty()).map(str::to_string).collect()
 }
 
+/// The layout of what the library saves: the number in its mark, and the sizes.
+pub fn layout() -> String {
+    let fresh = Connection::fresh(&[1; ID_SIZE], &[1; SECRET_SIZE]).expect("sizes are right");
+    format!("{}, {STATE_SIZE} and {TALLY_SIZE} bytes", fresh.save()[3])
+}
+
 /// Makes the tables in a store that has none.
 pub fn make(engine: &mut dyn Engine) -> Result<(), Fault> {
     engine.begin()?;
     for sql in statements(engine.words()) {
         engine.query(&sql, &[])?;
     }
-    engine.query("INSERT INTO store (version) VALUES ($1)", &[VERSION.into()])?;
+    let values = [VERSION.into(), layout()[..].into()];
+    engine.query("INSERT INTO store (version, layout) VALUES ($1, $2)", &values)?;
     engine.commit()
 }
 
-/// Whether the tables are those of this gateway.
+/// Whether the tables are those of this program.
 pub fn check(engine: &mut dyn Engine) -> Result<(), Fault> {
     let found = engine.query("SELECT version FROM store", &[])?;
     match found.first().and_then(|row| row.first()).and_then(Value::int) {
@@ -80,5 +91,19 @@ pub fn check(engine: &mut dyn Engine) -> Result<(), Fault> {
             "tables of version {other}, and this program knows {VERSION}"
         ))),
         None => Err(Fault::Broken("tables without a version".to_string())),
+    }
+}
+
+/// Whether the connections in them are those of this library.
+pub fn check_layout(engine: &mut dyn Engine) -> Result<(), Fault> {
+    let found = engine.query("SELECT layout FROM store", &[])?;
+    let found = found.first().and_then(|row| row.first()).and_then(Value::text).unwrap_or("none");
+    match found == layout() {
+        true => Ok(()),
+        false => Err(Fault::Broken(format!(
+            "connections of layout {found}, and this gateway knows {}: start it once with --afresh, \
+             and the ships say hello again",
+            layout()
+        ))),
     }
 }

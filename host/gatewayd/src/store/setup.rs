@@ -13,6 +13,7 @@ END $$;
 
 const RIGHTS: &str = "\
 GRANT SELECT ON store TO gatewayd, planner;
+GRANT UPDATE (layout) ON store TO gatewayd;
 GRANT SELECT, INSERT, UPDATE ON ships TO gatewayd;
 GRANT SELECT (identifier, name, tally, route, opening, heard, barred) ON ships TO planner;
 GRANT SELECT, INSERT ON reports TO gatewayd;
@@ -27,6 +28,7 @@ pub fn script() -> String {
     let tables = schema::statements(&WORDS).join(";\n\n");
     format!(
         "\\set ON_ERROR_STOP on\nBEGIN;\n{ROLES}\n{tables};\n\n\
-         INSERT INTO store (version) VALUES ({VERSION});\n\n{RIGHTS}COMMIT;\n"
+         INSERT INTO store (version, layout) VALUES ({VERSION}, '{}');\n\n{RIGHTS}COMMIT;\n",
+        schema::layout()
     )
 }

@@ -11,8 +11,7 @@ pub struct Sqlite {
     connection: Connection,
 }
 
-const WORDS: Words =
-    Words { bytes: "BLOB", serial: "INTEGER PRIMARY KEY", now: "0", lock: "" };
+const WORDS: Words = Words { bytes: "BLOB", serial: "INTEGER PRIMARY KEY", now: "0", lock: "" };
 /// Somebody else's lock is waited for so long; then the gateway looks at its signals.
 const PATIENCE: Duration = Duration::from_millis(200);
 const STATEMENTS: usize = 32;
