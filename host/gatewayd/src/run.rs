@@ -35,6 +35,9 @@ pub enum Ended {
 const RUN: usize = 256;
 /// What was only counted is saved so often.
 const COUNTS_EVERY: Duration = Duration::from_secs(10);
+/// The pause in which more datagrams may join a run, as a part of what the last one took.
+const PAUSE_PART: u32 = 16;
+const LONGEST_PAUSE: Duration = Duration::from_millis(1);
 
 struct Gateway {
     socket: Socket,
@@ -45,6 +48,8 @@ struct Gateway {
     datagrams: u64,
     told_dropped: (u64, Instant),
     saved_counts: Instant,
+    /// How long the last run took.
+    last_run: Duration,
     log_every: Duration,
     on_terminal: bool,
 }
@@ -80,6 +85,7 @@ pub fn run(options: &Options) -> Result<Ended, Failure> {
         datagrams: 0,
         told_dropped: (0, now),
         saved_counts: now,
+        last_run: Duration::ZERO,
         log_every: options.log_every,
         on_terminal: io::stderr().is_terminal(),
     };
@@ -121,8 +127,10 @@ impl Gateway {
         }
     }
 
+    /// A commit is shared by what has arrived: where it takes long, what follows closely is waited for.
     fn next(&mut self) -> Result<Vec<Datagram>, String> {
-        self.inbox.next(RUN).map_err(|error| error.to_string())
+        let pause = (self.last_run / PAUSE_PART).min(LONGEST_PAUSE);
+        self.inbox.next(RUN, pause).map_err(|error| error.to_string())
     }
 
     /// A sessions file that cannot be used would be the end: better go on with the one that was.
@@ -141,6 +149,7 @@ impl Gateway {
         let told = self.shore.take(run, counts, &mut |what| waiting.goes_on(what));
         waiting.end();
         let Told { send, mut notes } = told.map_err(|what| format!("store: {what}"))?;
+        self.last_run = now.elapsed();
         if counts {
             self.saved_counts = now;
         }

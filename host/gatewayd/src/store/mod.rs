@@ -3,7 +3,9 @@
 //! What the gateway remembers of a ship is a guess where others write to the store, too: each ship has a version, and what a run came
 //! to is written only where the versions of the rows, locked, are those from which it was made.
 
+mod at;
 pub mod engine;
+mod open;
 pub mod place;
 pub mod postgres;
 mod pq;
@@ -16,39 +18,15 @@ pub mod sqlite;
 use crate::clock::Moment;
 use crate::fleet::Report;
 use crate::refusals::Counts;
-use crate::sessions::{Identifier, Session};
+use crate::sessions::Identifier;
 use crate::ship::Ship;
 use engine::{places, Engine, Fault, Row, Value};
 use row::{Clocks, Saved, CHANGED, COLUMNS};
-use std::collections::{BTreeSet, HashMap};
+use std::collections::BTreeSet;
 use std::fs::File;
-use std::path::PathBuf;
-use std::time::Instant;
 
-/// Where the store is.
-#[derive(Clone, PartialEq, Eq, Debug)]
-pub enum Where {
-    /// SQLite, in the state directory.
-    Directory(PathBuf),
-    /// PostgreSQL, at this address; any number of gateways.
-    Server(String),
-}
-
-impl Where {
-    /// Of the words `--state` and `--store`, one of which is said.
-    pub fn said(state: Option<PathBuf>, address: Option<String>) -> Result<Where, String> {
-        match (state, address) {
-            (_, Some(address)) if is_server(&address) => Ok(Where::Server(address)),
-            (_, Some(address)) => Err(format!("--store: {address} is no postgres://..")),
-            (Some(state), None) => Ok(Where::Directory(state)),
-            (None, None) => Err("--state DIRECTORY or --store ADDRESS is missing".to_string()),
-        }
-    }
-}
-
-fn is_server(address: &str) -> bool {
-    ["postgres://", "postgresql://"].iter().any(|start| address.starts_with(start))
-}
+pub use at::{open_to_read, Where};
+pub use open::{Opened, Start};
 
 pub struct Store {
     engine: Box<dyn Engine>,
@@ -58,23 +36,6 @@ pub struct Store {
     looked: i64,
     start: Start,
     _lock: Option<File>,
-}
-
-/// How the gateway starts from the store.
-#[derive(Clone, Copy, PartialEq, Eq, Debug)]
-pub enum Start {
-    AsItWas,
-    /// The store is of an earlier time, so numbers of ours may have been spent that it does not know: no more are spent on the
-    /// connections in it.
-    Restored,
-    /// Every connection is a fresh one; reports, openings and barred sessions stay.
-    Afresh,
-}
-
-/// A store that was opened, and the ships as it knows them.
-pub struct Opened {
-    pub store: Store,
-    pub ships: Vec<Ship>,
 }
 
 /// A report, with the opening of its ship's connection under which it came.
@@ -98,110 +59,8 @@ const AT_ONCE: usize = 1000;
 const LONGEST: i64 = 60_000;
 
 impl Store {
-    /// Opens the store and brings back each planted session.
-    pub fn open(at: &Where, sessions: Vec<Session>, start: Start) -> Result<Opened, String> {
-        let (name, lock, engine) = connect(at)?;
-        let told = |what: &str| format!("{name}: {what}");
-        let writer = writer().map_err(|error| told(&error.to_string()))?;
-        let mut store = Store { engine, writer, looked: 0, start, _lock: lock };
-        let clocks = Clocks { time: Moment::now(), now: Instant::now() };
-        let mut ships = Vec::new();
-        for session in sessions {
-            ships.push(Ship::fresh(session, clocks.now)?);
-        }
-        let mut opened = || -> Result<(), Fault> {
-            schema::check(store.engine.as_mut())?;
-            if start == Start::Afresh {
-                let layout = [schema::layout()[..].into()];
-                store.engine.query("UPDATE store SET layout = $1", &layout)?;
-            }
-            schema::check_layout(store.engine.as_mut())?;
-            store.looked = store.clock()?;
-            let (new, other) = store.load(&mut ships, clocks)?;
-            store.add(&mut ships, &new, clocks)?;
-            store.change(&mut ships, &other, clocks)?;
-            store.start = Start::AsItWas;
-            Ok(())
-        };
-        opened().map_err(|fault| told(fault.what()))?;
-        Ok(Opened { store, ships })
-    }
-
     pub fn is_shared(&self) -> bool {
         self.engine.is_shared()
-    }
-
-    /// Reads all rows into their ships. Gives the ships that have no row yet, and those whose row is to be changed.
-    fn load(
-        &mut self,
-        ships: &mut [Ship],
-        clocks: Clocks,
-    ) -> Result<(Vec<usize>, Vec<usize>), Fault> {
-        let mut saved: HashMap<Identifier, Saved> = HashMap::new();
-        for row in self.engine.query(&format!("SELECT {COLUMNS} FROM ships"), &[])? {
-            let row = self.read(&row)?;
-            saved.insert(row.identifier, row);
-        }
-        let (mut new, mut other) = (Vec::new(), Vec::new());
-        for (index, ship) in ships.iter_mut().enumerate() {
-            let Some(row) = saved.get(&ship.session.id) else {
-                new.push(index);
-                continue;
-            };
-            row.restore(ship, clocks).map_err(Fault::Broken)?;
-            ship.heard = clocks.now;
-            if self.start != Start::AsItWas || row.name != ship.session.ship {
-                other.push(index);
-            }
-        }
-        Ok((new, other))
-    }
-
-    /// Rows for new ships. Another gateway may add them at the same time: then they are as the store has them.
-    fn add(&mut self, ships: &mut [Ship], new: &[usize], clocks: Clocks) -> Result<(), Fault> {
-        let into = format!("INSERT INTO ships ({COLUMNS})");
-        for some in new.chunks(AT_ONCE) {
-            let wanted = identified(ships, some);
-            let row =
-                |(_, index): &(Identifier, usize)| row::of(&ships[*index], self.writer, clocks);
-            let rows: Vec<Row> = wanted.iter().map(row).collect();
-            self.engine.begin()?;
-            self.engine.put(&into, &rows, "ON CONFLICT (identifier) DO NOTHING")?;
-            self.engine.commit()?;
-            match self.engine.is_shared() {
-                true => self.restore(ships, &wanted, clocks)?,
-                false => wanted.iter().for_each(|(_, index)| ships[*index].version = 1),
-            }
-        }
-        Ok(())
-    }
-
-    /// Rows under another name, of an earlier time, or to begin afresh.
-    fn change(&mut self, ships: &mut [Ship], other: &[usize], clocks: Clocks) -> Result<(), Fault> {
-        for some in other.chunks(AT_ONCE) {
-            let changed = identified(ships, some);
-            self.engine.begin()?;
-            self.restore(ships, &changed, clocks)?;
-            let mute = self.start == Start::Restored;
-            some.iter().for_each(|index| ships[*index].mute |= mute);
-            let outcome = Outcome { changed, reports: Vec::new() };
-            self.save(&outcome, ships, &Counts::default(), clocks)?;
-        }
-        Ok(())
-    }
-
-    fn restore(
-        &mut self,
-        ships: &mut [Ship],
-        wanted: &BTreeSet<(Identifier, usize)>,
-        clocks: Clocks,
-    ) -> Result<(), Fault> {
-        let rows = self.rows(wanted)?;
-        for (row, (_, index)) in rows.iter().zip(wanted) {
-            row.restore(&mut ships[*index], clocks).map_err(Fault::Broken)?;
-            ships[*index].heard = clocks.now;
-        }
-        Ok(())
     }
 
     /// Locks the rows of ships, in their order, for the length of the transaction that begins here. False if any of them is not the
@@ -328,56 +187,6 @@ impl Store {
     }
 }
 
-fn connect(at: &Where) -> Result<(String, Option<File>, Box<dyn Engine>), String> {
-    match at {
-        Where::Directory(state) => {
-            let lock = place::prepare(state)?;
-            let path = place::file(state);
-            let name = path.display().to_string();
-            let open = || -> Result<sqlite::Sqlite, Fault> {
-                let mut engine = sqlite::Sqlite::open(&path)?;
-                let tables = "SELECT COUNT(*) FROM sqlite_master";
-                if engine.query(tables, &[])? == [[Value::Int(0)]] {
-                    schema::make(&mut engine)?;
-                }
-                Ok(engine)
-            };
-            let engine = open().map_err(|fault| format!("{name}: {}", fault.what()))?;
-            Ok((name, Some(lock), Box::new(engine)))
-        }
-        Where::Server(address) => {
-            let engine = postgres::Postgres::open(address, false);
-            let engine = engine.map_err(|fault| format!("store: {}", fault.what()))?;
-            Ok(("store".to_string(), None, Box::new(engine)))
-        }
-    }
-}
-
-/// The store opened to read: its tables are those of this program.
-pub fn open_to_read(at: &Where) -> Result<Box<dyn Engine>, String> {
-    let (name, engine): (String, Result<Box<dyn Engine>, Fault>) = match at {
-        Where::Directory(state) => {
-            let path = place::file(state);
-            let engine = sqlite::Sqlite::open_to_read(&path);
-            (path.display().to_string(), engine.map(|engine| Box::new(engine) as Box<dyn Engine>))
-        }
-        Where::Server(address) => {
-            let engine = postgres::Postgres::open(address, true);
-            ("store".to_string(), engine.map(|engine| Box::new(engine) as Box<dyn Engine>))
-        }
-    };
-    let checked = engine.and_then(|mut engine| {
-        schema::check(engine.as_mut())?;
-        Ok(engine)
-    });
-    checked.map_err(|fault| format!("{name}: {}", fault.what()))
-}
-
-/// In the order in which rows are locked.
-fn identified(ships: &[Ship], some: &[usize]) -> BTreeSet<(Identifier, usize)> {
-    some.iter().map(|index| (ships[*index].session.id, *index)).collect()
-}
-
 fn report(one: &Listed, time: Moment) -> Row {
     vec![
         one.ship[..].into(),
@@ -395,11 +204,4 @@ fn written(outcome: &Outcome, ships: &mut [Ship]) {
         ship.version += 1;
         ship.saved = ship.tally;
     }
-}
-
-fn writer() -> Result<i64, String> {
-    let random = crate::randoms::Randoms::open()?.fresh().map_err(|error| error.to_string())?;
-    let mut eight = [0; 8];
-    eight.copy_from_slice(&random[..8]);
-    Ok(i64::from_be_bytes(eight))
 }
