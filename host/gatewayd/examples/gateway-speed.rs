@@ -7,7 +7,7 @@
 //! Ships send data; at most a window of datagrams is under way, and one counts as taken when its row is in the store, so nothing is
 //! lost and each is on the disk. The store is SQLite in the directory, or the PostgreSQL at the address, whose tables are emptied.
 //! Beside it, in the same run, the same datagrams go to a bare UDP echo in a process of its own and come back, and the same rows are
-//! inserted by a program that does nothing else. Not a test.
+//! inserted by a program that does nothing else. SHIPS says how many ships: `1 100 10000` if not said. Not a test.
 
 use gatewayd::store::engine::{Engine, Value};
 use gatewayd::store::postgres::Postgres;
@@ -47,7 +47,9 @@ fn main() -> Outcome<()> {
     println!(
         "ships  reports/s    echo/s  ratio  inserts/s  ratio  processor/report  memory    start"
     );
-    for ships in [1, 100, 10_000] {
+    let counts = std::env::var("SHIPS").unwrap_or("1 100 10000".to_string());
+    for ships in counts.split_whitespace().map(str::parse) {
+        let ships: usize = ships?;
         let mut figures: [Vec<f64>; 8] = Default::default();
         for repetition in 0..repetitions {
             let work = Path::new(directory).join(format!("{ships}-{repetition}"));

@@ -84,6 +84,12 @@ impl Ship {
         !self.barred && self.connection.state() == State::Open
     }
 
+    /// Nothing more is sent before the next opening, which is a new one.
+    pub fn fall_silent(&mut self) {
+        self.mute = true;
+        self.started.clear();
+    }
+
     /// The connection on which a new handshake starts: the one that is there, if it is Idle, or
     /// another one of the same session beside it.
     pub fn base(&self) -> Option<Connection> {

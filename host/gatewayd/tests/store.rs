@@ -198,6 +198,10 @@ fn a_restored_backup() {
     let mut world = World::open(&place.state());
     let ship = opened(&mut world, 1);
     world.take(&ship.data(1));
+    // A handshake under way, of which nobody knows what became of it.
+    let mut begun = Ship::new(0, "127.0.0.1:9".parse().unwrap());
+    let reply = world.take(&begun.hello(9)).send.remove(0).1;
+    begun.unit.hear_reply(&reply).unwrap();
     let backup = files(&place.state());
     world.take(&ship.data(2));
     let flight = ship.unit.flight().unwrap();
@@ -206,6 +210,7 @@ fn a_restored_backup() {
     drop(world);
     lay(&place.state(), [&backup[0], &backup[1]]);
     let mut world = World::with(&place.state(), Start::Restored);
+    world.take(&begun.data_behind_finished(7));
     world.take(&ship.data(1));
     world.take(&ship.data(2));
     assert_eq!(numbers(&place.state()), [1, 2]);

@@ -31,7 +31,7 @@ impl Follow {
                 hand_over(line);
             }
         })?;
-        let span = if engine.is_shared() { LONGEST } else { 0 };
+        let span = if engine.words().is_shared { LONGEST } else { 0 };
         while let Some(first) = self.recent.first_entry() {
             if first.get().0 + span > now.0 {
                 break;

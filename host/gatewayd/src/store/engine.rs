@@ -36,9 +36,6 @@ pub trait Engine {
     /// `head VALUES row, row, .. tail`; nothing where there is no row.
     fn put(&mut self, head: &str, rows: &[Row], tail: &str) -> Result<(), Fault>;
 
-    /// Whether other gateways may write to the same store.
-    fn is_shared(&self) -> bool;
-
     /// The engine's words for what differs.
     fn words(&self) -> &'static Words;
 }
@@ -47,10 +44,14 @@ pub struct Words {
     pub bytes: &'static str,
     /// A column that counts up.
     pub serial: &'static str,
+    /// A table that is found by its key alone.
+    pub by_key: &'static str,
     /// The store's own clock, in milliseconds since 1970.
     pub now: &'static str,
     /// Holds the rows that were read until the end of the transaction.
     pub lock: &'static str,
+    /// Whether other gateways may write to the same store.
+    pub is_shared: bool,
 }
 
 impl Fault {

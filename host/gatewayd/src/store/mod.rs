@@ -60,7 +60,7 @@ const LONGEST: i64 = 60_000;
 
 impl Store {
     pub fn is_shared(&self) -> bool {
-        self.engine.is_shared()
+        self.engine.words().is_shared
     }
 
     /// Locks the rows of ships, in their order, for the length of the transaction that begins here. False if any of them is not the
@@ -71,7 +71,7 @@ impl Store {
         ships: &[Ship],
     ) -> Result<bool, Fault> {
         self.engine.begin()?;
-        if !self.engine.is_shared() {
+        if !self.engine.words().is_shared {
             return Ok(true);
         }
         let lock = self.engine.words().lock;

@@ -17,7 +17,7 @@ use std::time::Instant;
 pub enum Start {
     AsItWas,
     /// The store is of an earlier time, so numbers of ours may have been spent that it does not know: no more are spent on the
-    /// connections in it.
+    /// connections in it, and handshakes under way, which may have become connections since, end.
     Restored,
     /// Every connection is a fresh one; reports, openings and barred sessions stay.
     Afresh,
@@ -96,7 +96,7 @@ impl Store {
             self.engine.begin()?;
             self.engine.put(&into, &rows, "ON CONFLICT (identifier) DO NOTHING")?;
             self.engine.commit()?;
-            match self.engine.is_shared() {
+            match self.engine.words().is_shared {
                 true => self.restore(ships, &wanted, clocks)?,
                 false => wanted.iter().for_each(|(_, index)| ships[*index].version = 1),
             }
@@ -110,8 +110,9 @@ impl Store {
             let changed = identified(ships, some);
             self.engine.begin()?;
             self.restore(ships, &changed, clocks)?;
-            let mute = self.start == Start::Restored;
-            some.iter().for_each(|index| ships[*index].mute |= mute);
+            if self.start == Start::Restored {
+                some.iter().for_each(|index| ships[*index].fall_silent());
+            }
             let outcome = Outcome { changed, reports: Vec::new() };
             self.save(&outcome, ships, &Counts::default(), clocks)?;
         }

@@ -14,8 +14,10 @@ pub struct Postgres {
 pub const WORDS: Words = Words {
     bytes: "BYTEA",
     serial: "BIGSERIAL PRIMARY KEY",
+    by_key: "",
     now: "CAST(EXTRACT(EPOCH FROM now()) * 1000 AS BIGINT)",
     lock: "FOR UPDATE",
+    is_shared: true,
 };
 /// What the address may say otherwise. A server that is gone is noticed within these times.
 const OPTIONS: [(&str, &str); 3] = [
@@ -108,10 +110,6 @@ impl Engine for Postgres {
             self.run(&sql, &some.concat())?;
         }
         Ok(())
-    }
-
-    fn is_shared(&self) -> bool {
-        true
     }
 
     fn words(&self) -> &'static Words {

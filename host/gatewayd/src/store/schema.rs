@@ -29,9 +29,7 @@ CREATE TABLE ships (
     version BIGINT NOT NULL,
     writer BIGINT NOT NULL,
     changed BIGINT NOT NULL
-);
-
-CREATE INDEX ships_changed ON ships (changed);
+) BYKEY;
 
 CREATE TABLE reports (
     id SERIAL,
@@ -55,6 +53,9 @@ CREATE TABLE refusals (
 );
 ";
 
+/// Where others write, too, and what they have changed is looked for.
+const SHARED: &str = "CREATE INDEX ships_changed ON ships (changed);";
+
 /// The tables in an engine's words, each statement for itself.
 pub fn statements(words: &Words) -> Vec<String> {
     let text: String = TABLES
@@ -62,6 +63,7 @@ pub fn statements(words: &Words) -> Vec<String> {
         .map(|line| line.split("--").next().unwrap_or_default().trim_end().to_string() + "\n")
         .collect();
     let text = text.replace("BYTES", words.bytes).replace("SERIAL", words.serial);
+    let text = text.replace("BYKEY", words.by_key) + if words.is_shared { SHARED } else { "" };
     text.split(';').map(str::trim).filter(|sql| !sql.is_empty()).map(str::to_string).collect()
 }
 

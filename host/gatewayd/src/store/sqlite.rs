@@ -11,7 +11,14 @@ pub struct Sqlite {
     connection: Connection,
 }
 
-const WORDS: Words = Words { bytes: "BLOB", serial: "INTEGER PRIMARY KEY", now: "0", lock: "" };
+const WORDS: Words = Words {
+    bytes: "BLOB",
+    serial: "INTEGER PRIMARY KEY",
+    by_key: "WITHOUT ROWID",
+    now: "0",
+    lock: "",
+    is_shared: false,
+};
 /// Somebody else's lock is waited for so long; then the gateway looks at its signals.
 const PATIENCE: Duration = Duration::from_millis(200);
 const STATEMENTS: usize = 32;
@@ -89,10 +96,6 @@ impl Engine for Sqlite {
             statement.execute(params_from_iter(row)).map_err(fault)?;
         }
         Ok(())
-    }
-
-    fn is_shared(&self) -> bool {
-        false
     }
 
     fn words(&self) -> &'static Words {
