@@ -1,4 +1,4 @@
-//! The gateway's list of a day: JSON lines as `gatewayd` writes them (docs/GATEWAY.md). This is the one place that knows
+//! The gateway's list of a day: JSON lines as `reports` writes them (docs/GATEWAY.md). This is the one place that knows
 //! their form.
 
 use dayfile::Report;
@@ -32,13 +32,17 @@ struct Line {
 }
 
 impl Line {
-    /// `{"ship":"..","time":"..","number":N,"length":L,"bytes":".."}`
+    /// `{"ship":"..","time":"..","opening":O,"number":N,"length":L,"bytes":".."}`
     fn read(line: &str) -> Result<Line, String> {
         let mut rest = line;
         skip(&mut rest, "{\"ship\":\"")?;
         let ship = string(&mut rest)?;
         skip(&mut rest, ",\"time\":\"")?;
         string(&mut rest)?;
+        // Lists of before the store have no opening.
+        if skip(&mut rest, ",\"opening\":").is_ok() {
+            number(&mut rest)?;
+        }
         skip(&mut rest, ",\"number\":")?;
         let number = number(&mut rest)?;
         let number =
@@ -115,12 +119,13 @@ fn bytes(digits: &str) -> Result<Vec<u8>, String> {
 mod tests {
     use super::*;
 
-    const LINE: &str = r#"{"ship":"a\"b\\c","time":"2026-11-15T00:00:00.007Z","number":17,"length":2,"bytes":"4869"}"#;
+    const LINE: &str = r#"{"ship":"a\"b\\c","time":"2026-11-15T00:00:00.007Z","opening":1,"number":17,"length":2,"bytes":"4869"}"#;
 
     #[test]
-    fn a_line_as_gatewayd_writes_it() {
+    fn a_line_as_reports_writes_it() {
         let list = reports(LINE, "a\"b\\c").unwrap();
         assert_eq!(list, [Report { number: 17, bytes: b"Hi".to_vec() }]);
+        assert_eq!(reports(&LINE.replace(",\"opening\":1", ""), "a\"b\\c").unwrap(), list);
         assert_eq!(reports(LINE, "another").unwrap(), []);
     }
 

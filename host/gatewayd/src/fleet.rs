@@ -1,5 +1,5 @@
 //! All ships, and what a datagram does to them. Nothing here touches the disk or the network: what
-//! is to be saved, listed, sent and logged comes back, and the caller does it in that order.
+//! is to be saved, sent and logged comes back, and the caller does it in that order.
 
 use crate::budget::Shares;
 use crate::datagram;
@@ -10,10 +10,11 @@ use crate::routes::Routes;
 use crate::search::{self, Arrival, Found, Known, Target, Trials};
 use crate::sessions::Identifier;
 use crate::ship::{Handshake, Ship};
+use crate::store::row::{Clocks, Saved};
 use crate::throttle::Throttle;
 use crate::trial::{self, Trial, Worth};
 use crate::way::{self, Way};
-use gateway::{Answer, Refusal, Refused, Sense, State, REPLY_ROOM};
+use gateway::{Answer, Refusal, Refused, Sense, State, Tally, REPLY_ROOM};
 use std::collections::HashMap;
 use std::time::{Duration, Instant};
 
@@ -58,8 +59,10 @@ pub struct Report {
 pub struct Taken {
     /// The ship that it was for.
     pub ship: Option<usize>,
-    /// Whether the ship must be saved before anything is listed or sent.
+    /// Whether the ship must be saved before anything is sent.
     pub changed: bool,
+    /// The ship's tally before it, if it was counted.
+    pub before: Option<Tally>,
     pub reports: Vec<Report>,
     pub send: Vec<(Way, Vec<u8>)>,
     pub notes: Vec<Note>,
@@ -91,6 +94,22 @@ impl Fleet {
             fleet.set_route(index);
         }
         fleet
+    }
+
+    /// The ship with an identifier.
+    pub fn index(&self, identifier: &Identifier) -> Option<usize> {
+        self.by_identifier.get(identifier).copied()
+    }
+
+    /// Makes a ship what the store has of it.
+    pub fn restore(&mut self, index: usize, saved: &Saved, clocks: Clocks) -> Result<(), String> {
+        self.handshakes.end_all_of(&mut self.ships, index);
+        let restored = saved.restore(&mut self.ships[index], clocks);
+        for handshake in std::mem::take(&mut self.ships[index].started) {
+            self.handshakes.add(&mut self.ships, index, handshake);
+        }
+        self.set_route(index);
+        restored
     }
 
     /// Takes a datagram. The random must be fresh.
@@ -227,7 +246,12 @@ impl Fleet {
         let mut taken = Taken { ship: Some(index), ..Taken::default() };
         tell(arrival, &trial, &mut taken, &mut self.closed_in_clear);
         let ship = &mut self.ships[index];
+        taken.before = Some(ship.tally);
         ship.tally = trial.tally;
+        if trial.opens() {
+            ship.opening += 1;
+            ship.mute = false;
+        }
         let mut moved = false;
         if let Worth::New(number) = trial.worth {
             moved = ship.route != Some(arrival.way.sender);
@@ -313,7 +337,7 @@ impl Fleet {
         let ship = &mut self.ships[index];
         let Some(finished) = repeated_finished(arrival.datagram, &trial.answers) else { return };
         let Some(sender) = ship.route else { return };
-        if !ship.is_open() || self.warnings.pass(index, arrival.now).is_none() {
+        if !ship.is_open() || ship.mute || self.warnings.pass(index, arrival.now).is_none() {
             return;
         }
         let mut out = [0; REPLY_ROOM];

@@ -36,13 +36,16 @@ impl Inbox {
         Ok(Inbox { batches, shared, is_closed: false })
     }
 
-    /// The datagrams that wait, about so many at most; none if there came none for a while. Once it
-    /// is closed, none means that all are taken.
-    pub fn next(&mut self, most: usize) -> io::Result<Vec<Datagram>> {
+    /// The datagrams that wait, about so many at most, and those that come within the pause behind the first; none if there came
+    /// none for a while. Once it is closed, none means that all are taken.
+    pub fn next(&mut self, most: usize, pause: Duration) -> io::Result<Vec<Datagram>> {
         let mut run = match self.first()? {
             Some(batch) => batch,
             None => return Ok(Vec::new()),
         };
+        if !self.is_closed && !pause.is_zero() {
+            thread::sleep(pause);
+        }
         while run.len() < most {
             let Ok(batch) = self.batches.try_recv() else { break };
             run.extend(batch?);

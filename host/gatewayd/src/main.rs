@@ -4,6 +4,7 @@ use gatewayd::options::{self, Command, HELP};
 use gatewayd::run::{self, Ended, Failure};
 use gatewayd::signals;
 use gatewayd::socket::Socket;
+use gatewayd::store::setup;
 use std::os::unix::process::CommandExt;
 use std::process::ExitCode;
 
@@ -11,6 +12,7 @@ fn main() -> ExitCode {
     match options::read(std::env::args_os().skip(1)) {
         Ok(Command::Help) => print!("{HELP}"),
         Ok(Command::Version) => println!("gatewayd {}", env!("CARGO_PKG_VERSION")),
+        Ok(Command::SetUp) => print!("{}", setup::script()),
         Ok(Command::Run(options)) => {
             let ended = run::run(&options);
             if let Err(failure) = ended.and_then(|ended| match ended {
@@ -29,13 +31,13 @@ fn main() -> ExitCode {
     ExitCode::SUCCESS
 }
 
-/// The program as it now lies on the disk takes the place of this one, with the same words and the
-/// same socket. Comes back only if that fails.
+/// The program as it now lies on the disk takes the place of this one, with the same words, but for
+/// those that are good for one start, and the same socket. Comes back only if that fails.
 fn start_anew(socket: Socket) -> Failure {
     let mut words = std::env::args_os();
     let program = words.next().unwrap_or_default();
     let mut command = std::process::Command::new(program);
-    command.args(words);
+    command.args(words.filter(|word| word != "--restored" && word != "--afresh"));
     let error = match socket.hand_over(&mut command) {
         Ok(()) => {
             signals::ignore_new_start();

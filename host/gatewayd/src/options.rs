@@ -1,5 +1,6 @@
 //! The command line.
 
+use crate::store::{Start, Where};
 use std::ffi::OsString;
 use std::net::SocketAddr;
 use std::path::PathBuf;
@@ -9,12 +10,19 @@ pub const HELP: &str = "\
 gatewayd: the shore end of the link, over UDP. One connection for each planted session.
 
     gatewayd --sessions FILE --state DIRECTORY [OPTIONS]
+    gatewayd --sessions FILE --store ADDRESS [OPTIONS]
+    gatewayd --set-up | psql DATABASE     roles and tables for --store, once
 
     --sessions FILE        planted sessions, one to a line: identifier (16 hexadecimal digits),
                            secret (40), the ship's name. Refused if others can read it, and if it
                            belongs to another user.
-    --state DIRECTORY      journal and barred sessions. Made if it is not there.
-    --lists DIRECTORY      the day's lists, DAY.txt and DAY.jsonl  [STATE/lists]
+    --state DIRECTORY      the store, an SQLite file, and the lock on it. Made if it is not there.
+    --store ADDRESS        instead, a PostgreSQL database, which other gateways may use, too:
+                           postgres://USER@HOST/DATABASE, as for psql
+    --restored             the store is of an earlier time (a backup): on the connections in it
+                           nothing more is sent until each is opened again
+    --afresh               every connection is a fresh one, and the ships say hello again; reports
+                           and barred sessions stay
     --listen ADDRESS:PORT  where to listen  [127.0.0.1:9202]; not asked if a socket was handed over
                            (LISTEN_FDS, as systemd does it)
     --reopen-after SECONDS a hello is answered beside an open connection that has been silent for so
@@ -27,22 +35,24 @@ gatewayd: the shore end of the link, over UDP. One connection for each planted s
 
 SIGINT and SIGTERM end it. SIGHUP starts it anew in the same place: sessions are read again, and
 what arrives meanwhile waits. (On a terminal, SIGHUP ends it.)
-Exit status: 0 ended by a signal, 2 wrong command line, 3 sessions file, 4 state or lists,
-5 cannot listen, 6 disk or network failed while running.
+Exit status: 0 ended by a signal, 2 wrong command line, 3 sessions file, 4 store, 5 cannot listen,
+6 store or network failed while running.
+`reports --help` tells how to read what was reported.
 ";
 
 #[derive(PartialEq, Eq, Debug)]
 pub enum Command {
     Help,
     Version,
+    SetUp,
     Run(Options),
 }
 
 #[derive(PartialEq, Eq, Debug)]
 pub struct Options {
     pub sessions: PathBuf,
-    pub state: PathBuf,
-    pub lists: PathBuf,
+    pub store: Where,
+    pub start: Start,
     pub listen: SocketAddr,
     pub reopen_after: Duration,
     pub warn_every: Duration,
@@ -54,7 +64,8 @@ pub struct Options {
 struct Said {
     sessions: Option<PathBuf>,
     state: Option<PathBuf>,
-    lists: Option<PathBuf>,
+    store: Option<String>,
+    start: Start,
     listen: SocketAddr,
     reopen_after: Duration,
     warn_every: Duration,
@@ -66,7 +77,8 @@ pub fn read(mut words: impl Iterator<Item = OsString>) -> Result<Command, String
     let mut said = Said {
         sessions: None,
         state: None,
-        lists: None,
+        store: None,
+        start: Start::AsItWas,
         listen: SocketAddr::from(([127, 0, 0, 1], 9202)),
         reopen_after: Duration::from_secs(5),
         warn_every: Duration::from_secs(60),
@@ -78,15 +90,15 @@ pub fn read(mut words: impl Iterator<Item = OsString>) -> Result<Command, String
         match &word[..] {
             "--help" | "-h" => return Ok(Command::Help),
             "--version" | "-V" => return Ok(Command::Version),
+            "--set-up" => return Ok(Command::SetUp),
             _ => said.option(&word, || words.next())?,
         }
     }
     let sessions = said.sessions.ok_or("--sessions FILE is missing")?;
-    let state = said.state.ok_or("--state DIRECTORY is missing")?;
     Ok(Command::Run(Options {
         sessions,
-        lists: said.lists.unwrap_or_else(|| state.join("lists")),
-        state,
+        store: Where::said(said.state, said.store)?,
+        start: said.start,
         listen: said.listen,
         reopen_after: said.reopen_after,
         warn_every: said.warn_every,
@@ -105,7 +117,9 @@ impl Said {
         match word {
             "--sessions" => self.sessions = Some(value()?.into()),
             "--state" => self.state = Some(value()?.into()),
-            "--lists" => self.lists = Some(value()?.into()),
+            "--store" => self.store = Some(text(value()?)?),
+            "--restored" => self.start = Start::Restored,
+            "--afresh" => self.start = Start::Afresh,
             "--listen" => {
                 let value = text(value()?)?;
                 self.listen =
@@ -146,7 +160,7 @@ mod tests {
     fn defaults_and_faults() {
         let Ok(Command::Run(options)) = words("--state s --sessions f") else { panic!() };
         assert_eq!(options.listen.to_string(), "127.0.0.1:9202");
-        assert_eq!(options.lists, PathBuf::from("s/lists"));
+        assert_eq!(options.store, Where::Directory("s".into()));
         assert_eq!(options.reopen_after, Duration::from_secs(5));
         assert_eq!(options.hint_every, None);
         let line = "--state s --sessions f --reopen-after 0.5 --hint-every 7";
@@ -158,6 +172,7 @@ mod tests {
             "",
             "--state s",
             "--sessions f",
+            "--sessions f --store mysql://x",
             "--state",
             "--listen x",
             "--warn-every -1",

@@ -1,6 +1,5 @@
-//! The gateway at work: datagrams in runs, each run saved, then listed, then answered.
+//! The gateway at work: datagrams in runs, each run committed, then answered.
 
-use crate::clock::Moment;
 use crate::fleet::{Fleet, Rules};
 use crate::inbox::Inbox;
 use crate::log::{say, Log, Progress};
@@ -8,9 +7,11 @@ use crate::note::Note;
 use crate::options::Options;
 use crate::randoms::Randoms;
 use crate::sessions;
+use crate::shore::{Shore, Told};
 use crate::signals::{self, Asked};
 use crate::socket::{Datagram, Socket};
-use crate::store::{self, Opened, Store};
+use crate::store::{Opened, Store};
+use crate::waiting::Waiting;
 use gateway::State;
 use std::fmt;
 use std::io::{self, IsTerminal};
@@ -32,17 +33,23 @@ pub enum Ended {
 
 /// How many datagrams are saved at once, about.
 const RUN: usize = 256;
+/// What was only counted is saved so often.
+const COUNTS_EVERY: Duration = Duration::from_secs(10);
+/// The pause in which more datagrams may join a run, as a part of what the last one took.
+const PAUSE_PART: u32 = 16;
+const LONGEST_PAUSE: Duration = Duration::from_millis(1);
 
 struct Gateway {
     socket: Socket,
     inbox: Inbox,
-    fleet: Fleet,
-    store: Store,
+    shore: Shore,
     log: Log,
-    randoms: Randoms,
     sessions: PathBuf,
     datagrams: u64,
     told_dropped: (u64, Instant),
+    saved_counts: Instant,
+    /// How long the last run took.
+    last_run: Duration,
     log_every: Duration,
     on_terminal: bool,
 }
@@ -51,47 +58,46 @@ pub fn run(options: &Options) -> Result<Ended, Failure> {
     signals::listen();
     let failure = |status: u8| move |what: String| Failure { status, what };
     let sessions = sessions::load(&options.sessions).map_err(failure(3))?;
-    let opened = Store::open(&options.state, &options.lists, sessions).map_err(failure(4))?;
+    let opened = Store::open(&options.store, sessions, options.start).map_err(failure(4))?;
     let listen =
         |error: io::Error| Failure { status: 5, what: format!("{}: {error}", options.listen) };
     let socket = Socket::open(options.listen).map_err(listen)?;
     let address = socket.address().map_err(listen)?;
     let randoms = Randoms::open().map_err(failure(6))?;
 
-    let Opened { store, ships, remarks } = opened;
-    let mut log = Log::new(options.log_every);
-    remarks.iter().for_each(|remark| log.line(remark));
+    let Opened { store, ships } = opened;
     let rules = Rules {
         reopen_after: options.reopen_after,
         warn_every: options.warn_every,
         hint_every: options.hint_every,
     };
-    let fleet = Fleet::new(ships, rules);
+    let shore = Shore::new(Fleet::new(ships, rules), store, randoms);
     let inbox = Inbox::open(&socket).map_err(listen)?;
     let version = env!("CARGO_PKG_VERSION");
-    say(format!("gatewayd {version} listens on {address}: {}\n", states(&fleet)));
+    say(format!("gatewayd {version} listens on {address}: {}\n", states(&shore.fleet)));
+    let now = Instant::now();
     let mut gateway = Gateway {
         socket,
         inbox,
-        fleet,
-        store,
-        log,
-        randoms,
+        shore,
+        log: Log::new(options.log_every),
         sessions: options.sessions.clone(),
         datagrams: 0,
-        told_dropped: (0, Instant::now()),
+        told_dropped: (0, now),
+        saved_counts: now,
+        last_run: Duration::ZERO,
         log_every: options.log_every,
         on_terminal: io::stderr().is_terminal(),
     };
     let worked = gateway.work();
     gateway.tell_dropped();
     gateway.log.end();
-    worked.and_then(|asked| gateway.end(asked)).map_err(|error| failure(6)(error.to_string()))
+    worked.map(|asked| gateway.end(asked)).map_err(failure(6))
 }
 
 impl Gateway {
     /// Takes datagrams until something else is asked for.
-    fn work(&mut self) -> io::Result<Asked> {
+    fn work(&mut self) -> Result<Asked, String> {
         let asked = loop {
             match signals::asked() {
                 Asked::Nothing => {}
@@ -99,9 +105,10 @@ impl Gateway {
                 Asked::NewStart if !self.may_start_anew() => signals::refuse_new_start(),
                 asked => break asked,
             }
-            let run = self.inbox.next(RUN)?;
-            if !run.is_empty() {
-                self.take(&run)?;
+            let run = self.next()?;
+            let counts = self.saved_counts.elapsed() >= COUNTS_EVERY;
+            if !run.is_empty() || counts {
+                self.take(&run, counts)?;
             }
             if self.told_dropped.1.elapsed() >= self.log_every {
                 self.tell_dropped();
@@ -111,12 +118,19 @@ impl Gateway {
         // What was received is still taken; what was not waits in the socket.
         self.inbox.close();
         loop {
-            let run = self.inbox.next(RUN)?;
-            if run.is_empty() {
+            let run = self.next()?;
+            let last = run.is_empty();
+            self.take(&run, last)?;
+            if last {
                 return Ok(asked);
             }
-            self.take(&run)?;
         }
+    }
+
+    /// A commit is shared by what has arrived: where it takes long, what follows closely is waited for.
+    fn next(&mut self) -> Result<Vec<Datagram>, String> {
+        let pause = (self.last_run / PAUSE_PART).min(LONGEST_PAUSE);
+        self.inbox.next(RUN, pause).map_err(|error| error.to_string())
     }
 
     /// A sessions file that cannot be used would be the end: better go on with the one that was.
@@ -128,32 +142,18 @@ impl Gateway {
         fault.is_none()
     }
 
-    /// Takes a run of datagrams. The order is the point: saved, listed, barred, and only then sent.
-    fn take(&mut self, run: &[Datagram]) -> io::Result<()> {
+    /// Takes a run of datagrams. The order is the point: committed, and only then sent.
+    fn take(&mut self, run: &[Datagram], counts: bool) -> Result<(), String> {
         let now = Instant::now();
-        let time = Moment::now();
-        let mut changes = Vec::new();
-        let mut send = Vec::new();
-        let mut barred = Vec::new();
-        let mut notes = Vec::new();
-        for Datagram { way, bytes } in run {
-            let random = self.randoms.fresh()?;
-            let taken = self.fleet.take(*way, bytes, &random, now);
-            let ship = taken.ship.map(|index| (index, &self.fleet.ships[index]));
-            if let Some((index, ship)) = ship.filter(|_| taken.changed) {
-                changes.push(store::change(ship, taken.reports));
-                barred.extend(ship.barred.then_some(index));
-            }
-            send.extend(taken.send);
-            notes.extend(taken.notes.into_iter().map(|note| (taken.ship, way.sender, note)));
+        let mut waiting = Waiting::new(&mut self.log, &self.inbox, self.log_every);
+        let told = self.shore.take(run, counts, &mut |what| waiting.goes_on(what));
+        waiting.end();
+        let Told { send, mut notes } = told.map_err(|what| format!("store: {what}"))?;
+        self.last_run = now.elapsed();
+        if counts {
+            self.saved_counts = now;
         }
         self.datagrams += run.len() as u64;
-        if !changes.is_empty() {
-            self.store.save(time, changes, &self.fleet.ships)?;
-        }
-        for index in barred {
-            self.store.bar(&self.fleet.ships[index].session, time)?;
-        }
         for (way, bytes) in send {
             // A datagram that cannot be sent is one that the link lost.
             if let Err(error) = self.socket.send(way, &bytes) {
@@ -161,7 +161,7 @@ impl Gateway {
             }
         }
         for (ship, sender, note) in notes {
-            let ship = ship.map(|index| (index, &self.fleet.ships[index].session.ship[..]));
+            let ship = ship.map(|index| (index, &self.shore.fleet.ships[index].session.ship[..]));
             self.log.note(ship, sender, note, now);
         }
         Ok(())
@@ -189,7 +189,7 @@ impl Gateway {
     fn counts(&self) -> Progress {
         let dropped = self.inbox.dropped();
         let mut counts = Progress { datagrams: self.datagrams, dropped, ..Progress::default() };
-        for ship in &self.fleet.ships {
+        for ship in &self.shore.fleet.ships {
             counts.handed_out += u64::from(ship.tally.handed_out());
             counts.forged += u64::from(ship.tally.forged());
             counts.too_old += u64::from(ship.tally.too_old());
@@ -198,14 +198,13 @@ impl Gateway {
         counts
     }
 
-    /// The clean end: everything on the disk, tallies too, and the tally of each ship.
-    fn end(mut self, asked: Asked) -> io::Result<Ended> {
-        self.store.write_anew(Moment::now(), &self.fleet.ships)?;
+    /// The clean end: everything is in the store, tallies too. The tally of each ship.
+    fn end(self, asked: Asked) -> Ended {
         if asked == Asked::NewStart {
-            return Ok(Ended::WithSuccessor(self.socket));
+            return Ended::WithSuccessor(self.socket);
         }
-        say(Tallies(&self.fleet).to_string());
-        Ok(Ended::ForGood)
+        say(Tallies(&self.shore.fleet).to_string());
+        Ended::ForGood
     }
 }
 

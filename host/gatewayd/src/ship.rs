@@ -19,6 +19,14 @@ pub struct Ship {
     /// Handshakes under way, the oldest first.
     pub started: Vec<Handshake>,
     pub tally: Tally,
+    /// The tally as the store has it.
+    pub saved: Tally,
+    /// Of the row in the store from which this ship was made.
+    pub version: i64,
+    /// How often a Finished has opened a connection: numbers begin anew with each.
+    pub opening: i64,
+    /// No number of ours is spent before the next opening: the store is of an earlier time, and some may be spent already.
+    pub mute: bool,
     /// The sender of the last genuine new record.
     pub route: Option<SocketAddr>,
     /// Where such records came from before, the last first.
@@ -63,6 +71,10 @@ impl Ship {
             hello: Vec::new(),
             started: Vec::new(),
             tally: Tally::default(),
+            saved: Tally::default(),
+            version: 0,
+            opening: 0,
+            mute: false,
             route: None,
             recent: Vec::new(),
             ours: None,
@@ -75,6 +87,12 @@ impl Ship {
 
     pub fn is_open(&self) -> bool {
         !self.barred && self.connection.state() == State::Open
+    }
+
+    /// Nothing more is sent before the next opening, which is a new one.
+    pub fn fall_silent(&mut self) {
+        self.mute = true;
+        self.started.clear();
     }
 
     /// Moves the route. Where it was stays known for a while: who relays a record before the ship's

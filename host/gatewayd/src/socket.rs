@@ -470,6 +470,6 @@ mod tests {
         ship.send(&[0; 3000]).unwrap();
         let last = next(&mut batch, &socket);
         assert_eq!(last[0].bytes.len(), LARGEST);
-        assert_eq!(got as u32 + batch.dropped.unwrap(), sent.into());
+        assert_eq!(got as u32 + batch.dropped.unwrap(), u32::from(sent));
     }
 }

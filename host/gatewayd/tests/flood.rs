@@ -3,7 +3,7 @@
 
 mod common;
 
-use common::{identifier, journal_size, text, Gatewayd, Place, Ship};
+use common::{identifier, store_size, text, Gatewayd, Place, Ship};
 use peer::keys::Kind;
 use peer::rng::Rng;
 use peer::unit::{Hello, Unit};
@@ -54,12 +54,12 @@ fn withstands(name: &str, datagram: fn(&mut Rng) -> Vec<u8>, at_its_address: boo
     let before = Used::of(&gatewayd);
     let fast = flood.beside(None, || thread::sleep(AT_FULL_SPEED));
     let after = Used::of(&gatewayd);
-    let (journal, log) = (journal_size(&place.state()), place.path.join("log"));
+    let (store, log) = (store_size(&place.state()), place.path.join("log"));
     let log = fs::metadata(log).unwrap().len();
     arrives(&place, ship);
     println!(
         "{name}: at {slow}/s {listed} of {REPORTS} reports; at {fast}/s {:.0} % of a processor, \
-         memory {} kB, then {} kB; journal {journal}, log {log} bytes",
+         memory {} kB, then {} kB; store {store}, log {log} bytes",
         100.0 * (after.seconds - before.seconds) / AT_FULL_SPEED.as_secs_f64(),
         before.memory,
         after.memory
@@ -70,7 +70,7 @@ fn withstands(name: &str, datagram: fn(&mut Rng) -> Vec<u8>, at_its_address: boo
     assert!(listed >= 90, "{name}: {listed} of {REPORTS} reports");
     // 4,096 datagrams may wait, and no more.
     assert!(after.memory < before.memory + 10_000, "{name}: memory");
-    assert!(journal < 9 << 20, "{name}: journal of {journal} bytes");
+    assert!(store < 9 << 20, "{name}: store of {store} bytes");
     assert!(log < 20_000, "{name}: log of {log} bytes");
     gatewayd.end();
 }

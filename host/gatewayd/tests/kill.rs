@@ -5,6 +5,7 @@
 mod common;
 
 use common::{name, text, Gatewayd, Place, Ship};
+use gatewayd::reports::Wanted;
 use peer::rng::Rng;
 use std::collections::BTreeSet;
 use std::sync::atomic::{AtomicBool, AtomicUsize, Ordering};
@@ -12,8 +13,9 @@ use std::thread;
 use std::time::{Duration, Instant};
 
 const SHIPS: usize = 5;
-const REPORTS: u16 = 100;
 const SEED: u64 = 8;
+/// So many kills, or as many as KILLS says.
+const KILLS: usize = 200;
 
 #[test]
 fn killed_and_started_again() {
@@ -23,9 +25,10 @@ fn killed_and_started_again() {
     let more = ["--warn-every", "0"];
     let first = Gatewayd::start(&place, "127.0.0.1:0", &more);
     let address = first.address;
+    let wanted = std::env::var("KILLS").ok().map_or(KILLS, |count| count.parse().unwrap());
     let done = AtomicBool::new(false);
     let (kills, starts_killed) = (AtomicUsize::new(0), AtomicUsize::new(0));
-    thread::scope(|scope| {
+    let reports: Vec<u16> = thread::scope(|scope| {
         scope.spawn(|| {
             let mut rng = Rng::new(SEED);
             let mut running = first;
@@ -45,34 +48,35 @@ fn killed_and_started_again() {
             running.end();
         });
         let _ends = SetAtEnd(&done);
-        let mut ships: Vec<Ship> = (0..SHIPS).map(|index| Ship::new(index, address)).collect();
         let mut rng = Rng::new(SEED + 1);
-        for ship in &mut ships {
-            sail(ship, &place, &mut rng);
-        }
+        let sailed = |index: usize| {
+            let mut ship = Ship::new(index, address);
+            let enough = || kills.load(Ordering::Relaxed) >= wanted * (index + 1) / SHIPS;
+            sail(&mut ship, &place, &mut rng, enough)
+        };
+        (0..SHIPS).map(sailed).collect()
     });
     let (kills, starts_killed) = (kills.into_inner(), starts_killed.into_inner());
-    assert!(kills >= 20, "only {kills} kills");
-    assert!(starts_killed >= 5, "only {starts_killed} kills soon after the start");
+    assert!(kills >= wanted, "only {kills} kills");
+    assert!(starts_killed >= wanted / 10, "only {starts_killed} kills soon after the start");
 
     for ship in 0..SHIPS {
         let mut listed = place.listed(ship);
         listed.sort();
-        let expected: Vec<_> = (1..=REPORTS).map(|number| (number, text(ship, number))).collect();
+        let expected: Vec<_> =
+            (1..=reports[ship]).map(|number| (number, text(ship, number))).collect();
         assert_eq!(listed, expected, "ship {ship} after {kills} kills");
-        let json = place.list("jsonl");
-        let quoted = format!("\"ship\":\"{}\"", name(ship));
-        assert_eq!(json.lines().filter(|line| line.contains(&quoted)).count(), REPORTS.into());
     }
+    assert!(place.lines(&Wanted::all()).iter().all(|line| line.opening == 1));
     let last = Gatewayd::start(&place, "127.0.0.1:0", &[]);
     let tallies = last.end();
     for ship in 0..SHIPS {
         let line = tallies.lines().find(|line| line.ends_with(&name(ship))).unwrap();
-        assert!(line.starts_with(&format!("{REPORTS}\t")), "{line}");
+        assert!(line.starts_with(&format!("{}\t", reports[ship])), "{line}");
         assert!(line.contains("open"), "{line}");
     }
     println!("{kills} kills, {starts_killed} more soon after the start");
-    println!("{SHIPS} ships, {REPORTS} reports each");
+    println!("{SHIPS} ships, {reports:?} reports");
 }
 
 /// Ends the killing when the sailing ends, also if by a panic.
@@ -84,26 +88,32 @@ impl Drop for SetAtEnd<'_> {
     }
 }
 
-/// All reports of a ship. Those that are not in the list yet are sent again, and as many that are:
-/// a window that forgot them would let them in once more. A number stays less than 32 behind.
-fn sail(ship: &mut Ship, place: &Place, rng: &mut Rng) {
+/// Reports of a ship until it is enough; gives how many. Those that are not in the store yet are sent again, and as many that are: a
+/// window that forgot them would let them in once more. A number stays less than 32 behind.
+fn sail(ship: &mut Ship, place: &Place, rng: &mut Rng, enough: impl Fn() -> bool) -> u16 {
     ship.shake_hands(ship.index as u8 + 1);
-    let mut next = 1;
-    let start = Instant::now();
+    let (mut next, mut last) = (1, u16::MAX);
+    let mut progress = (0, Instant::now());
     loop {
-        assert!(
-            start.elapsed() < Duration::from_secs(30),
-            "reports are missing from the list for good"
-        );
         ship.hear(Duration::from_micros(100));
         let listed: BTreeSet<u16> =
             place.listed(ship.index).into_iter().map(|(number, _)| number).collect();
+        if listed.len() > progress.0 {
+            progress = (listed.len(), Instant::now());
+        }
+        assert!(
+            progress.1.elapsed() < Duration::from_secs(30),
+            "reports are missing from the store for good"
+        );
         let missing = (1..next).find(|number| !listed.contains(number)).unwrap_or(next);
-        if missing > REPORTS {
-            return;
+        if last == u16::MAX && enough() {
+            last = next.max(100);
+        }
+        if missing > last {
+            return last;
         }
         for _ in 0..rng.between(1, 6) {
-            if next <= REPORTS && next < missing + 20 {
+            if next <= last && next < missing + 20 {
                 send(ship, next, rng);
                 next += 1;
             }

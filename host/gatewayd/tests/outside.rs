@@ -40,7 +40,7 @@ fn refusals_in_the_log() {
     assert!(log.contains("4 more lines were held back"), "{log}");
 }
 
-/// Barred by a fatal alert: written down at once, and kept out without the journal.
+/// Barred by a fatal alert: in the store at once, and kept out by its identifier, also with another secret.
 #[test]
 fn barred_for_good() {
     let place = Place::new("fatal");
@@ -49,21 +49,27 @@ fn barred_for_good() {
     let mut ship = Ship::new(0, gatewayd.address);
     ship.open(1);
     ship.send(&ship.alert(3, 40, 1));
-    let barred = place.state().join("barred");
-    wait_for("the barred session", || {
-        fs::read_to_string(&barred).is_ok_and(|text| text.ends_with('\n'))
-    });
+    let log = || fs::read_to_string(place.path.join("log")).unwrap();
+    wait_for("the barred session", || log().contains("session barred by a fatal alert"));
     gatewayd.kill();
-    fs::remove_file(place.state().join("journal")).unwrap();
-    let gatewayd = Gatewayd::start(&place, ANY, &[]);
-    let mut ship = Ship::new(0, gatewayd.address);
-    let hello = ship.hello(2);
-    ship.send(&hello);
-    assert!(!ship.hear(NO_ANSWER));
-    Ship::new(1, gatewayd.address).open(1);
-    let tallies = gatewayd.end();
-    assert!(tallies.contains("\tbarred\tship 0\n"), "{tallies}");
-    assert!(!tallies.contains("\tbarred\tship 1\n"), "{tallies}");
+    for another_secret in [false, true] {
+        if another_secret {
+            let sessions = fs::read_to_string(place.sessions()).unwrap();
+            fs::write(place.sessions(), sessions.replace("01010101 ship 0", "01010102 ship 0"))
+                .unwrap();
+        }
+        let gatewayd = Gatewayd::start(&place, ANY, &[]);
+        let mut ship = Ship::new(0, gatewayd.address);
+        let hello = ship.hello(2);
+        ship.send(&hello);
+        assert!(!ship.hear(NO_ANSWER));
+        if !another_secret {
+            Ship::new(1, gatewayd.address).open(1);
+        }
+        let tallies = gatewayd.end();
+        assert!(tallies.contains("\tbarred\tship 0\n"), "{tallies}");
+        assert!(!tallies.contains("\tbarred\tship 1\n"), "{tallies}");
+    }
 }
 
 /// A hello is answered beside an open connection that has been silent for `--reopen-after`; the open
@@ -169,58 +175,134 @@ fn one_warning() {
     }
 }
 
-/// The disk is full in the middle of a record: status 6, and with room again nothing is missing and
-/// nothing twice.
+/// The disk is full: a line, nothing is answered and nothing is lost that waits; with room again it goes on by itself.
 #[test]
 fn a_full_disk() {
     let place = Place::new("full");
     place.plant(1);
-    let mut gatewayd = Gatewayd::start_on_small_disk(&place, ANY, 8192);
+    Gatewayd::start(&place, ANY, &[]).end();
+    let room = common::store_size(&place.state()) as usize + 60_000;
+    let gatewayd = Gatewayd::start_on_small_disk(&place, ANY, room);
     let mut ship = Ship::new(0, gatewayd.address);
     ship.open(1);
     ship.send(&ship.data(1));
     wait_for("the first report", || place.listed(0).len() == 1);
-    for number in 2..=20 {
-        ship.send(&ship.data(number));
-        std::thread::sleep(Duration::from_millis(5));
-    }
-    assert_eq!(gatewayd.child.wait().unwrap().code(), Some(6));
     let log = || fs::read_to_string(place.path.join("log")).unwrap();
-    assert!(log().contains("gatewayd: journal: "), "{}", log());
-    let expected: Vec<_> = (1..=20).map(|number| (number, text(0, number))).collect();
-    let listed = place.listed(0);
-    assert!(listed.len() < 20 && expected.starts_with(&listed), "{listed:?}");
-
-    let gatewayd = Gatewayd::start(&place, &gatewayd.address.to_string(), &[]);
-    wait_for("the remark", || log().contains("are no whole record and are dropped"));
-    assert_eq!(place.listed(0), listed);
-    for number in 1..=20 {
-        ship.send(&ship.data(number));
+    let mut sent = 1;
+    while !log().contains("; datagrams wait") {
+        sent += 1;
+        assert!(sent < 3000, "the disk is never full");
+        ship.send(&ship.data(sent));
+        std::thread::sleep(Duration::from_millis(2));
     }
-    wait_for("all reports", || place.listed(0).len() >= 20);
-    let tallies = gatewayd.end();
-    assert!(tallies.contains("20\t0\t0\t"), "{tallies}");
+    assert!(log().contains(" store: "), "{}", log());
+    for _ in 0..50 {
+        sent += 1;
+        ship.send(&ship.data(sent));
+    }
+    let mut other = Ship::new(0, gatewayd.address);
+    let hello = other.hello(9);
+    other.send(&hello);
+    assert!(!other.hear(NO_ANSWER));
+    assert!(place.listed(0).len() < usize::from(sent) - 50);
+    gatewayd.room();
+    let expected: Vec<_> = (1..=sent).map(|number| (number, text(0, number))).collect();
+    wait_for("all reports", || place.listed(0).len() >= expected.len());
+    wait_for("the line", || log().contains(" s without it; meanwhile the system dropped 0 "));
     assert_eq!(place.listed(0), expected);
+    let tallies = gatewayd.end();
+    assert!(tallies.contains(&format!("{sent}\t0\t0\t0\t")), "{tallies}");
 }
 
-/// The clean end fails where the journal cannot be written anew; the old one stays.
+/// Killed while the disk is full: what was committed is there, and nothing else.
 #[test]
-fn no_clean_end() {
-    let place = Place::new("end");
+fn killed_on_a_full_disk() {
+    let place = Place::new("full-killed");
+    place.plant(1);
+    Gatewayd::start(&place, ANY, &[]).end();
+    let room = common::store_size(&place.state()) as usize + 60_000;
+    let gatewayd = Gatewayd::start_on_small_disk(&place, ANY, room);
+    let address = gatewayd.address;
+    let mut ship = Ship::new(0, address);
+    ship.open(1);
+    let log = || fs::read_to_string(place.path.join("log")).unwrap();
+    let mut sent = 0;
+    while !log().contains("; datagrams wait") {
+        sent += 1;
+        ship.send(&ship.data(sent));
+        std::thread::sleep(Duration::from_millis(2));
+    }
+    let before = place.listed(0);
+    gatewayd.kill();
+    let gatewayd = Gatewayd::start(&place, &address.to_string(), &[]);
+    assert!(place.listed(0).starts_with(&before));
+    for number in 1..=sent {
+        ship.send(&ship.data(number));
+    }
+    // Those at the end were not taken before; those at the front are too old or repeated.
+    let expected: Vec<_> = (1..=sent).map(|number| (number, text(0, number))).collect();
+    wait_for("all reports", || place.listed(0).len() >= expected.len());
+    assert_eq!(place.listed(0), expected);
+    gatewayd.end();
+}
+
+/// Somebody else holds the store: datagrams wait, and are taken when he lets go. The end can be asked for meanwhile.
+#[test]
+fn a_locked_store() {
+    let place = Place::new("locked");
     place.plant(1);
     let mut gatewayd = Gatewayd::start(&place, ANY, &[]);
     let mut ship = Ship::new(0, gatewayd.address);
     ship.open(1);
     ship.send(&ship.data(1));
     wait_for("the report", || place.listed(0).len() == 1);
-    let in_the_way = place.state().join("journal.new");
-    fs::create_dir(&in_the_way).unwrap();
+    let store = rusqlite::Connection::open(place.state().join("store.db")).unwrap();
+    let log = || fs::read_to_string(place.path.join("log")).unwrap();
+    store.execute_batch("BEGIN IMMEDIATE").unwrap();
+    for number in 2..=20 {
+        ship.send(&ship.data(number));
+    }
+    wait_for("the line", || log().contains(" store: database is locked; datagrams wait"));
+    assert_eq!(place.listed(0).len(), 1);
+    store.execute_batch("ROLLBACK").unwrap();
+    wait_for("all reports", || place.listed(0).len() == 20);
+    store.execute_batch("BEGIN IMMEDIATE").unwrap();
+    ship.send(&ship.data(21));
+    wait_for("the line", || log().matches("; datagrams wait").count() == 2);
     signal(&gatewayd.child, "TERM");
     assert_eq!(gatewayd.child.wait().unwrap().code(), Some(6));
-    fs::remove_dir(&in_the_way).unwrap();
+    assert!(log().contains("gatewayd: store: database is locked"), "{}", log());
+    store.execute_batch("ROLLBACK").unwrap();
     let tallies = Gatewayd::start(&place, ANY, &[]).end();
-    assert!(tallies.contains("1\t0\t0\t0\t2 of 32\topen\tship 0"), "{tallies}");
-    assert_eq!(place.listed(0).len(), 1);
+    assert!(tallies.contains("20\t0\t0\t0\t21 of 32\topen\tship 0"), "{tallies}");
+}
+
+/// What each ship was refused, by the hour.
+#[test]
+fn refusals_are_counted() {
+    let place = Place::new("refusals");
+    place.plant(1);
+    let gatewayd = Gatewayd::start(&place, ANY, &[]);
+    let mut ship = Ship::new(0, gatewayd.address);
+    ship.open(1);
+    let mut forged = ship.data(1);
+    *forged.last_mut().unwrap() ^= 1;
+    for datagram in [&forged, &forged, &forged, &ship.data(1), &ship.data(1)] {
+        ship.send(datagram);
+    }
+    wait_for("the report", || place.listed(0).len() == 1);
+    std::thread::sleep(Duration::from_millis(100));
+    let tallies = gatewayd.end();
+    assert!(tallies.contains("1\t3\t0\t1\t2 of 32\topen\tship 0"), "{tallies}");
+    let store = rusqlite::Connection::open(place.state().join("store.db")).unwrap();
+    let mut found = store
+        .prepare("SELECT refusal, SUM(count) FROM refusals GROUP BY refusal ORDER BY 1")
+        .unwrap();
+    let pairs = found.query_map([], |row| Ok((row.get(0)?, row.get(1)?))).unwrap();
+    assert_eq!(pairs.map(Result::unwrap).collect::<Vec<(i64, i64)>>(), [(9, 3), (11, 1)]);
+    // The tally is saved at the end, too.
+    let tallies = Gatewayd::start(&place, ANY, &[]).end();
+    assert!(tallies.contains("1\t3\t0\t1\t2 of 32\topen\tship 0"), "{tallies}");
 }
 
 /// `script` gives it a terminal.

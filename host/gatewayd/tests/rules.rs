@@ -7,12 +7,15 @@ use gateway::State;
 use gatewayd::clock::Moment;
 use gatewayd::fleet::{Fleet, Rules, Taken};
 use gatewayd::note::Note;
+use gatewayd::refusals::Counts;
 use gatewayd::sessions::Session;
-use gatewayd::store::{self, Store};
+use gatewayd::store::row::Clocks;
+use gatewayd::store::{Outcome, Start, Store};
 use gatewayd::way::Way;
 use peer::keys::Kind;
 use peer::unit::Hello;
 use peer::wire::Content;
+use std::collections::BTreeSet;
 use std::net::SocketAddr;
 use std::time::{Duration, Instant};
 
@@ -635,6 +638,7 @@ fn a_closed_connection_is_started_again() {
     assert_eq!(world.take(2, &again.data(2), 0).reports.len(), 1);
 }
 
+/// A session barred is barred in the store, by its identifier, whatever is planted under it later.
 #[test]
 fn a_barred_session_stays_out() {
     let place = Place::in_memory("barred");
@@ -645,8 +649,7 @@ fn a_barred_session_stays_out() {
             width: 32,
             ship: name(ship),
         };
-        Store::open(&place.state(), &place.path.join("lists"), vec![session(0), session(1)])
-            .unwrap()
+        Store::open(&place.at(), vec![session(0), session(1)], Start::AsItWas).unwrap()
     };
     let mut world = World::with(2, 0, None);
     let mut store = open(secret).store;
@@ -656,27 +659,19 @@ fn a_barred_session_stays_out() {
     assert!(taken.changed && taken.notes.contains(&Note::BarredByAlert { description: 40 }));
     let hello = ship(0).hello(5);
     assert_eq!(refusals(&world.take(1, &hello, 9)), [7]);
-    let change = store::change(&world.fleet.ships[0], Vec::new());
-    store.save(Moment::now(), vec![change], &world.fleet.ships).unwrap();
+    let changed = BTreeSet::from([(identifier(0), 0)]);
+    assert_eq!(store.lock(&changed, &world.fleet.ships), Ok(true));
+    let outcome = Outcome { changed, reports: Vec::new() };
+    let clocks = Clocks { time: Moment::now(), now: Instant::now() };
+    store.save(&outcome, &mut world.fleet.ships, &Counts::default(), clocks).unwrap();
     drop(store);
 
     let barred = |opened: &gatewayd::store::Opened| {
         opened.ships.iter().map(|ship| ship.barred).collect::<Vec<_>>()
     };
-    // From the journal alone; then written down; then without the journal; then with another secret.
-    assert_eq!(barred(&open(secret)), [true, false]);
-    let text = std::fs::read_to_string(place.state().join("barred")).unwrap();
-    assert!(text.starts_with("0102030405060708\t") && text.lines().count() == 1, "{text}");
-    // A line that a crash cut is written again.
-    for cut in 0..text.len() {
-        std::fs::write(place.state().join("barred"), &text[..cut]).unwrap();
-        assert_eq!(barred(&open(secret)), [true, false]);
-        let again = std::fs::read_to_string(place.state().join("barred")).unwrap();
-        assert!(again.starts_with("0102030405060708\t") && again.len() == text.len(), "{again}");
-    }
-    std::fs::remove_file(place.state().join("journal")).unwrap();
     assert_eq!(barred(&open(secret)), [true, false]);
     assert_eq!(barred(&open(|_| [9; 20])), [true, false]);
+    assert_eq!(barred(&open(secret)), [true, false]);
 }
 
 /// Who has overheard a hello gets its reply, and with it what a clear alert must carry (10.2). That

@@ -110,25 +110,58 @@ fn state_and_port() {
     other.plant(1);
     assert_eq!(refused(&other, &running.address.to_string()).0, 5);
 
-    // Two states, but one directory of lists.
-    let lists = place.state().join("lists");
-    let (sessions, state) = (other.sessions(), other.state());
-    let words = [&sessions, &state, &lists].map(|path| path.to_str().unwrap());
-    let used = running.address.to_string();
-    let more = ["--lists", words[2], "--listen", &used];
-    let output = run(&[&["--sessions", words[0], "--state", words[1]], &more[..]].concat());
-    let said = String::from_utf8(output.stderr).unwrap();
-    assert!(output.status.code() == Some(4) && said.contains("another gateway runs"), "{said}");
-
     running.kill();
-    fs::write(place.state().join("barred"), "no identifier\n").unwrap();
+    // Of an older gateway.
+    for old in ["journal", "barred"] {
+        fs::write(place.state().join(old), "").unwrap();
+        let (status, said) = refused(&place, ANY);
+        assert!(status == 4 && said.contains("of an older gateway"), "{status} {said}");
+        fs::remove_file(place.state().join(old)).unwrap();
+    }
+    // Tables of another version, tables of somebody else, and no database at all.
+    let store = place.state().join("store.db");
+    let sql = |text: &str| {
+        rusqlite::Connection::open(&store).unwrap().execute_batch(text).unwrap();
+    };
+    sql("UPDATE store SET version = 7");
     let (status, said) = refused(&place, ANY);
-    assert!(status == 4 && said.contains("barred:1:1:"), "{status} {said}");
-    // No crash leaves a journal without a record.
-    fs::remove_file(place.state().join("barred")).unwrap();
-    fs::write(place.state().join("journal"), "").unwrap();
+    assert!(status == 4 && said.contains("tables of version 7"), "{status} {said}");
+    sql("DROP TABLE store");
     let (status, said) = refused(&place, ANY);
-    assert!(status == 4 && said.contains("the journal is damaged"), "{status} {said}");
+    assert!(status == 4 && said.contains("no such table: store"), "{status} {said}");
+    fs::remove_file(place.state().join("store.db-wal")).unwrap();
+    fs::write(&store, "not a database, whatever its name; and long enough".repeat(100)).unwrap();
+    let (status, said) = refused(&place, ANY);
+    assert!(status == 4 && said.contains("not a database"), "{status} {said}");
+    fs::remove_file(&store).unwrap();
+    fs::create_dir(&store).unwrap();
+    assert_eq!(refused(&place, ANY).0, 4);
+}
+
+/// Root may write everywhere, so somebody else has to try.
+#[test]
+fn no_rights() {
+    let place = Place::new("rights");
+    place.plant(1);
+    Gatewayd::start(&place, ANY, &[]).end();
+    let owned = |path: std::path::PathBuf| {
+        Command::new("chown").arg("65534").arg(path).output().unwrap().status.success()
+    };
+    if !owned(place.sessions()) {
+        println!("skipped: only root can give a file away");
+        return;
+    }
+    let output = Command::new("setpriv")
+        .args(["--reuid", "65534", "--regid", "65534", "--clear-groups", "--"])
+        .args([env!("CARGO_BIN_EXE_gatewayd"), "--listen", ANY, "--sessions"])
+        .arg(place.sessions())
+        .arg("--state")
+        .arg(place.state())
+        .output()
+        .unwrap();
+    let said = String::from_utf8(output.stderr).unwrap();
+    assert_eq!(output.status.code(), Some(4), "{said}");
+    assert!(said.lines().count() == 1 && said.contains("Permission denied"), "{said}");
 }
 
 #[test]

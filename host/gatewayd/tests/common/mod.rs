@@ -1,6 +1,8 @@
 //! A gateway in a directory of its own, and a ship for it.
 #![allow(dead_code)]
 
+use gatewayd::reports::{each, Line, Wanted};
+use gatewayd::store::{open_to_read, Where};
 use peer::keys::Kind;
 use peer::unit::{Hello, Unit};
 use peer::wire::Content;
@@ -16,6 +18,8 @@ use std::time::Duration;
 
 pub struct Place {
     pub path: PathBuf,
+    /// A server for the store; else it is in the state directory.
+    pub server: Option<String>,
 }
 
 impl Place {
@@ -33,7 +37,7 @@ impl Place {
         let path = directory.join(format!("gatewayd-{name}-{}", std::process::id()));
         let _ = fs::remove_dir_all(&path);
         fs::create_dir_all(&path).unwrap();
-        Place { path }
+        Place { path, server: None }
     }
 
     pub fn sessions(&self) -> PathBuf {
@@ -50,21 +54,36 @@ impl Place {
         fs::set_permissions(self.sessions(), fs::Permissions::from_mode(0o600)).unwrap();
     }
 
-    /// The lists of all days, one behind the other.
-    pub fn list(&self, ending: &str) -> String {
-        let Ok(entries) = fs::read_dir(self.state().join("lists")) else { return String::new() };
-        let mut paths: Vec<_> = entries.map(|entry| entry.unwrap().path()).collect();
-        paths.retain(|path| path.extension().is_some_and(|found| found == ending));
-        paths.sort();
-        paths.iter().map(|path| fs::read_to_string(path).unwrap()).collect()
+    pub fn at(&self) -> Where {
+        match &self.server {
+            Some(address) => Where::Server(address.clone()),
+            None => Where::Directory(self.state()),
+        }
     }
 
-    /// Number and bytes of each report of a ship, as far as the lines are whole.
+    /// The reports in the store, in the order of arrival. A gateway that starts may hold readers up for a moment.
+    pub fn lines(&self, wanted: &Wanted) -> Vec<Line> {
+        if self.server.is_none() && !self.state().join("store.db").exists() {
+            return Vec::new();
+        }
+        for _ in 0..100 {
+            let mut lines = Vec::new();
+            let read = open_to_read(&self.at()).and_then(|mut engine| {
+                each(engine.as_mut(), wanted, 0, |line| lines.push(line.clone()))
+                    .map_err(|fault| fault.what().to_string())
+            });
+            if read.is_ok() {
+                return lines;
+            }
+            std::thread::sleep(Duration::from_millis(10));
+        }
+        panic!("the store cannot be read: {:?}", open_to_read(&self.at()).err());
+    }
+
+    /// Number and bytes of each report of a ship.
     pub fn listed(&self, ship: usize) -> Vec<(u16, Vec<u8>)> {
-        let text = self.list("txt");
-        let whole = text.rfind('\n').map_or("", |end| &text[..end]);
-        let fields = whole.lines().map(|line| line.split('\t').collect::<Vec<_>>());
-        fields.filter(|fields| fields[0] == name(ship)).map(|fields| report(&fields)).collect()
+        let wanted = Wanted { ship: Some(name(ship)), ..Wanted::all() };
+        self.lines(&wanted).into_iter().map(|line| (line.number, line.bytes)).collect()
     }
 }
 
@@ -74,12 +93,6 @@ impl Drop for Place {
             let _ = fs::remove_dir_all(&self.path);
         }
     }
-}
-
-fn report(fields: &[&str]) -> (u16, Vec<u8>) {
-    let bytes = peer::hex::read(fields[4].as_bytes()).unwrap();
-    assert_eq!(fields[3].parse(), Ok(bytes.len()));
-    (fields[2].parse().unwrap(), bytes)
 }
 
 pub fn name(ship: usize) -> String {
@@ -113,7 +126,11 @@ impl Gatewayd {
             fs::OpenOptions::new().create(true).append(true).open(place.path.join("log")).unwrap();
         let mut command = Command::new(env!("CARGO_BIN_EXE_gatewayd"));
         command.args(["--listen", listen, "--sessions"]).arg(place.sessions());
-        command.arg("--state").arg(place.state()).args(more).stdout(Stdio::piped()).stderr(log);
+        match &place.server {
+            Some(address) => command.arg("--store").arg(address),
+            None => command.arg("--state").arg(place.state()),
+        };
+        command.args(more).stdout(Stdio::piped()).stderr(log);
         command
     }
 
@@ -129,15 +146,21 @@ impl Gatewayd {
         Gatewayd::begin(place, Gatewayd::command(place, listen, more))
     }
 
-    /// On a disk that takes so many bytes in a file.
+    /// On a disk that takes so many bytes in a file, until `room` is made.
     pub fn start_on_small_disk(place: &Place, listen: &str, bytes: usize) -> Gatewayd {
         let plain = Gatewayd::command(place, listen, &[]);
-        let limits = format!("ulimit -f {}; trap '' XFSZ; exec \"$@\"", bytes / 512);
+        let limits = format!("ulimit -S -f {}; trap '' XFSZ; exec \"$@\"", bytes / 512);
         let log = fs::OpenOptions::new().append(true).open(place.path.join("log")).unwrap();
         let mut command = Command::new("sh");
         command.args(["-c", &limits, "sh"]).arg(plain.get_program()).args(plain.get_args());
         command.stdout(Stdio::piped()).stderr(log);
         Gatewayd::begin(place, command)
+    }
+
+    pub fn room(&self) {
+        let limit = ["--fsize=unlimited:unlimited", "--pid"];
+        let made = Command::new("prlimit").args(limit).arg(self.child.id().to_string()).status();
+        assert!(made.unwrap().success());
     }
 
     /// With a socket that outlives it, as systemd hands one over.
@@ -163,6 +186,22 @@ impl Gatewayd {
         let mut line = String::new();
         self.out.read_line(&mut line).unwrap();
         assert!(line.contains(&format!(" listens on {}:", self.address)), "{line}");
+    }
+
+    /// Started as often as it needs: the store may be away.
+    pub fn start_at_last(place: &Place, listen: &str, more: &[&str]) -> Gatewayd {
+        for _ in 0..500 {
+            let mut child = Gatewayd::command(place, listen, more).spawn().unwrap();
+            let mut out = BufReader::new(child.stdout.take().unwrap());
+            let mut line = String::new();
+            out.read_line(&mut line).unwrap();
+            if line.contains(" listens on ") {
+                return Gatewayd { child, address: listen.parse().unwrap(), out };
+            }
+            child.wait().unwrap();
+            std::thread::sleep(Duration::from_millis(20));
+        }
+        panic!("it does not start: {}", fs::read_to_string(place.path.join("log")).unwrap());
     }
 
     fn begin(place: &Place, mut command: Command) -> Gatewayd {
@@ -333,6 +372,8 @@ pub fn wait_for(what: &str, holds: impl Fn() -> bool) {
     panic!("waited in vain for {what}");
 }
 
-pub fn journal_size(state: &Path) -> u64 {
-    fs::metadata(state.join("journal")).unwrap().len()
+/// What the store takes on the disk.
+pub fn store_size(state: &Path) -> u64 {
+    let size = |name: &str| fs::metadata(state.join(name)).map_or(0, |found| found.len());
+    size("store.db") + size("store.db-wal")
 }
