@@ -16,6 +16,7 @@ use Rattle.digest.specs.declared.mac.Mac.{Mac}
 use Rattle.digest.specs.declared.mac.Mac.the-variants.{Sha80, Sha}
 use Rattle.record.specs.Code.{codeBy, fragmentBy}
 use Rattle.record.specs.Keys.{keyNumber}
+use Rattle.record.specs.History.{highestOf, accepted, marksFrom, markOf}
 use Rattle.record.specs.Window.{acceptOf, acceptBy, heldWidth}
 use Rattle.record.specs.Written.{recordOf, byteFor}
 use Rattle.record.specs.Datagram.{framed, framingOf}
@@ -189,7 +190,7 @@ unfoldable w₉₇ : Window
 w₉₇ = record { width = exampleWidth; highest = 9; marks = 517 }
 
 takes-80 : acceptOf (w₀ exampleWidth) 80 ≡ A.New w₈₀ 1
-unfolding w₀ w₈₀ acceptBy heldWidth ones
+unfolding w₀ w₈₀ acceptBy heldWidth ones marksFrom markOf highestOf accepted
 takes-80 = refl
 
 old-7 : acceptOf w₈₀ 7 ≡ A.TooOld
@@ -197,15 +198,15 @@ unfolding w₈₀ acceptBy heldWidth ones
 old-7 = refl
 
 takes-7 : acceptOf (w₀ exampleWidth) 7 ≡ A.New (w₇ exampleWidth) 2
-unfolding w₀ w₇ acceptBy heldWidth ones
+unfolding w₀ w₇ acceptBy heldWidth ones marksFrom markOf highestOf accepted
 takes-7 = refl
 
 again-7 : acceptOf (w₇ exampleWidth) 7 ≡ A.Repeated
-unfolding w₇ acceptBy heldWidth ones
+unfolding w₇ acceptBy heldWidth ones marksFrom markOf highestOf accepted
 again-7 = refl
 
 takes-9 : acceptOf (w₀ exampleWidth) 9 ≡ A.New w₉ 2
-unfolding w₀ w₉ acceptBy heldWidth ones
+unfolding w₀ w₉ acceptBy heldWidth ones marksFrom markOf highestOf accepted
 takes-9 = refl
 
 late-7 : acceptOf w₉ 7 ≡ A.New w₉₇ 3

@@ -111,7 +111,7 @@ unfoldable pub MessagesLeaveOut : Type 0
 MessagesLeaveOut =
     (c : Connection) → c .handshake .state ≡ Open
     → (g g′ : Gathering) (ps ps′ : List Posted)
-    → O.LeftOut (keysOf (c .handshake)) (callsIn g ps) (callsIn g′ ps′)
+    → O.LeftOut stepOf (keysOf (c .handshake)) c (callsIn g ps) (callsIn g′ ps′)
     → (linkEnd (record { connection = c; gathering = g }) ps .connection
     ≡ linkEnd (record { connection = c; gathering = g′ }) ps′ .connection)
     × (O.handedBy stepOf c (callsIn g ps) ≡ O.handedBy stepOf c (callsIn g′ ps′))
