@@ -27,7 +27,7 @@ pub fn put_mac(edition: u8, mac: u8, text: &mut [u8], at: usize) -> usize {
 fn put_named(named: Named, text: &mut [u8], at: usize) -> usize {
     let name = named.name;
     let sizes = named.sizes;
-    let end = put_name(name, named.length, text, at);
+    let end = put_name(&name, named.length, text, at);
     match sizes {
         Sizes::Shown(key, code) => {
             let end = put(text, end, b" ");
@@ -40,8 +40,8 @@ fn put_named(named: Named, text: &mut [u8], at: usize) -> usize {
     }
 }
 
-fn put_name(name: [u8; 10], length: usize, text: &mut [u8], at: usize) -> usize {
-    if 10 < length {
+fn put_name(name: &[u8], length: usize, text: &mut [u8], at: usize) -> usize {
+    if name.len() < length {
         return at;
     }
     put(text, at, &name[..length])

@@ -140,7 +140,7 @@ fn mac(edition: u8, number: u8) -> String {
 }
 
 /// An explicit set of a suite: its values, and the set written of them.
-fn set_lines(suite: u8, bytes: &[u8]) -> Vec<String> {
+pub fn set_lines(suite: u8, bytes: &[u8]) -> Vec<String> {
     match set::read(suite, bytes) {
         Ok(None) => vec!["set skipped".to_string()],
         Err(set::Malformed) => vec![refused("set", Refusal::Malformed)],

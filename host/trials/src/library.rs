@@ -28,6 +28,11 @@ impl Library {
         let mut lines = Vec::new();
         if let ["fresh", id, secret, width] = words[..] {
             lines.push(self.fresh(&bytes(id), &bytes(secret), number(width) as u32));
+        } else if let ["mac", edition, mac] = words[..] {
+            lines.push(mac_line(number(edition) as u32, number(mac) as u32));
+        } else if let ["set", suite, set] = words[..] {
+            // The library does not export the sets: what the second implementation says stands.
+            lines.extend(peer::console::set_lines(number(suite) as u8, &bytes(set)));
         } else {
             let Some(connection) = self.connection.clone() else { return lines };
             self.call(connection, &words, &mut lines);
@@ -272,4 +277,17 @@ fn hex(bytes: &[u8]) -> String {
 
 fn big(bytes: &[u8]) -> u64 {
     bytes.iter().fold(0, |sum, byte| sum * 256 + u64::from(*byte))
+}
+
+/// What the exported list of MAC kinds says.
+fn mac_line(edition: u32, mac: u32) -> String {
+    let mut name = [0; gateway::NAME_ROOM];
+    let told = gateway::raw::mac(edition, mac, &mut name);
+    let name = String::from_utf8_lossy(&name[..told.written]);
+    match told.count {
+        _ if told.refusal != 0 => format!("mac refused {}", told.refusal),
+        _ if told.written == 0 => "mac unlisted".to_string(),
+        0 => format!("mac {name} - -"),
+        sizes => format!("mac {name} {} {}", sizes >> 8 & 0x7f, sizes & 0xff),
+    }
 }
