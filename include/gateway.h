@@ -61,7 +61,7 @@ enum gateway_refusal {
     GATEWAY_REPEATED = 11,         /* number repeated */
     GATEWAY_MALFORMED = 12,        /* malformed content */
     GATEWAY_UNACCEPTABLE = 13,     /* hello well formed, not acceptable */
-    GATEWAY_CHECKSUM = 14,         /* clear alert with another checksum */
+    GATEWAY_CHECKSUM = 14,         /* clear alert with the checksum of none of the last eight records sent */
     GATEWAY_SPENT = 15,            /* sending number spent */
     GATEWAY_ARGUMENT = 16,         /* argument out of range; also: the bytes lent are no saved connection */
     GATEWAY_WRONG_FINISHED = 17,   /* genuine Finished with wrong contents */
@@ -143,7 +143,8 @@ uint64_t gateway_send_alert(uint8_t *state, size_t state_size, uint32_t is_prote
 /* Leads anywhere but Barred to Closed. Refused: 16, 7. */
 uint64_t gateway_close(uint8_t *state, size_t state_size);
 
-/* Start again: leads from Closed to Idle, and forgets the window and the kept hello. Refused: 16, 7, 8. */
+/* Start again: leads from Closed to Idle, and forgets the window, the kept hello and the records
+   that we sent. Refused: 16, 7, 8. */
 uint64_t gateway_start(uint8_t *state, size_t state_size);
 
 /* The connection's state as the count, one of enum gateway_state. Refused: 16, where the bytes are no saved connection: with
@@ -154,7 +155,7 @@ uint64_t gateway_state(const uint8_t *state, size_t state_size);
    before the first. It is the count. Refused: 16, where the bytes are no saved connection. */
 uint64_t gateway_arrived(const uint8_t *state, size_t state_size);
 
-/* The width of the connection's window, as the count. Refused: 16, where the bytes are no saved connection. */
+/* The width of the connection's window as it is saved, as the count. Refused: 16, where the bytes are no saved connection. */
 uint64_t gateway_width(const uint8_t *state, size_t state_size);
 
 /* What a list of MAC kinds (002 appendix A, table 6) says of a number, 0 to 255: edition 1 is the older list, 2 that of April

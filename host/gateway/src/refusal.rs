@@ -76,7 +76,7 @@ impl Refusal {
             Repeated => "number repeated",
             Malformed => "malformed content",
             Unacceptable => "hello well formed, not acceptable",
-            Checksum => "clear alert with another checksum",
+            Checksum => "clear alert with the checksum of none of the last eight records sent",
             Spent => "sending number spent",
             Argument => "argument out of range; also: the bytes lent are no saved connection",
             WrongFinished => "genuine Finished with wrong contents",

@@ -10,7 +10,7 @@ use crate::wire::{self, Content};
 
 /// The first line: a connection for the hellos.
 pub fn fresh() -> String {
-    format!("fresh {} {}", word(&session()), word(&secret()))
+    format!("fresh {} {} 32", word(&session()), word(&secret()))
 }
 
 /// A set by itself, or a hello that carries one or more.
@@ -50,4 +50,24 @@ fn any_set(rng: &mut Rng, wrong: usize) -> (u8, Vec<u8>) {
         false => sets::sound(rng, suite),
     };
     (suite, set)
+}
+
+#[cfg(test)]
+mod tests {
+    use super::*;
+    use crate::console;
+
+    #[test]
+    fn hellos_are_heard() {
+        let mut rng = Rng::new(13);
+        let mut lines = fresh() + "\n";
+        for _ in 1..400 {
+            lines += &(line(&mut rng) + "\n");
+        }
+        let mut said = Vec::new();
+        console::run(lines.as_bytes(), &mut said).unwrap();
+        let said = String::from_utf8(said).unwrap();
+        assert!(said.starts_with("fresh ok\n") && !said.contains("bad line"));
+        assert!(said.lines().filter(|line| line.starts_with("0 reply ")).count() > 100);
+    }
 }

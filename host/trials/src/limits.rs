@@ -94,7 +94,7 @@ impl Cases {
             };
             self.expect(&format!("fresh with width {width}"), right, given);
         }
-        for room in [0, 457, 459] {
+        for room in [0, 489, 490, 491] {
             let state = vec![0x5a; room];
             for given in [raw::width(&state), raw::arrived(&state)] {
                 let right = (given.refusal, given.written, given.count) == (16, 0, 0);
