@@ -70,15 +70,15 @@ fresh a0a1a2a3a4a5a6a7 303132333435363738393a3b3c3d3e3f40414243 65
 ";
     let expected = "\
 0 data 3 1
-state Open n=50 marks=0004000000000001 arrived=2 sent=1,2 checksum=e663d639 tally=1,0,0,0
+state Open n=50 marks=0004000000000001 arrived=2 sent=1,2 checksum=e663d639 tally=1,0,0,0 parts=-
 receive records 1
 0 data 3 1
-state Open n=50 marks=0004010000000001 arrived=3 sent=1,2 checksum=e663d639 tally=2,0,0,0
+state Open n=50 marks=0004010000000001 arrived=3 sent=1,2 checksum=e663d639 tally=2,0,0,0 parts=-
 receive records 1
 0 refused 11
-state Open n=50 marks=0004010000000001 arrived=3 sent=1,2 checksum=e663d639 tally=2,0,0,1
+state Open n=50 marks=0004010000000001 arrived=3 sent=1,2 checksum=e663d639 tally=2,0,0,1 parts=-
 fresh refused 16
-state Open n=50 marks=0004010000000001 arrived=3 sent=1,2 checksum=e663d639 tally=2,0,0,1
+state Open n=50 marks=0004010000000001 arrived=3 sent=1,2 checksum=e663d639 tally=2,0,0,1 parts=-
 ";
     let mut output = Vec::new();
     console::run(input.as_bytes(), &mut output).unwrap();
