@@ -11,7 +11,7 @@ use Rattle.gather.specs.Gatherer.{Left, datagramOf}
 use Rattle.short.specs.Message.{Leaves, isShown, gatheredOf, takenOf, heardOf, messageOf}
 use Rattle.demands.specs.Runs.{Call, receive, Step, receivedAs, stepOf, stepsOf, finalOf}
 use Rattle.demands.specs.LeftOut.{LeavesOut}
-use Rattle.demands.specs.Messages.{Posted, message, drop, on-connection, Gathering, gathers, gatheringAfter, callsAt, callsIn, Link, takes, linkAfter, linkEnd, stepsAt, stepsIn, SameRun, MessagesRun, MessagesLeaveOut}
+use Rattle.demands.specs.Messages.{Posted, message, dropping, on-connection, Gathering, gathers, gatheringAfter, callsAt, callsIn, Link, takes, linkAfter, linkEnd, stepsAt, stepsIn, SameRun, MessagesRun, MessagesLeaveOut}
 use Rattle.demands.proofs.LeftOut.{leaves-out}
 
 -- ---- runs of calls joined
@@ -34,7 +34,7 @@ steps-join c (x ∷ xs) ys = ap (λ zs. stepOf c x ∷ zs) (steps-join (stepOf c
 gathering-at : (l : Link) (p : Posted) → linkAfter l p .gathering ≡ gatheringAfter (l .gathering) p
 unfolding messageOf takenOf
 gathering-at l (message bytes random out) = refl
-gathering-at l (drop reference) = refl
+gathering-at l (dropping reference) = refl
 gathering-at l (on-connection call) = refl
 
 -- what a message leaves of the connection, and what it gives, by whether its answer shows a datagram
@@ -59,13 +59,13 @@ module _ (c : Connection) (g : Gathering) (bytes random out : List ℕ) where
 connection-at : (l : Link) (p : Posted) → linkAfter l p .connection ≡ finalOf stepOf (l .connection) (callsAt (l .gathering) p)
 unfolding finalOf
 connection-at l (message bytes random out) = connection-shown (l .connection) (l .gathering) bytes random out (isShown (gathers (l .gathering) bytes random out .answer)) refl
-connection-at l (drop reference) = refl
+connection-at l (dropping reference) = refl
 connection-at l (on-connection call) = refl
 
 steps-at : (l : Link) (p : Posted) → stepsAt l p ≡ stepsOf stepOf (l .connection) (callsAt (l .gathering) p)
 unfolding stepsOf
 steps-at l (message bytes random out) = steps-shown (l .connection) (l .gathering) bytes random out (isShown (gathers (l .gathering) bytes random out .answer)) refl
-steps-at l (drop reference) = refl
+steps-at l (dropping reference) = refl
 steps-at l (on-connection call) = refl
 
 -- ---- the run

@@ -18,7 +18,7 @@ use Rattle.demands.specs.LeftOut as O
 -- the calls of a link whose reports come as short messages: a message, a drop, or a call on the connection
 pub data Posted : Type 0 where
   message : (bytes random out : List ℕ) → Posted
-  drop : (reference : ℕ) → Posted
+  dropping : (reference : ℕ) → Posted
   on-connection : Call → Posted
 
 -- what is kept of the gathering between calls: the gatherer, its store and the assembly buffer
@@ -37,7 +37,7 @@ gathers g bytes random out = gatheredOf (g .gatherer) (g .store) bytes (g .assem
 
 abbrev pub gatheringAfter : Gathering → Posted → Gathering
 gatheringAfter g (message bytes random out) = leftBy (gathers g bytes random out)
-gatheringAfter g (drop reference) =
+gatheringAfter g (dropping reference) =
     record { gatherer = dropOf (g .gatherer) reference; store = g .store; assembly = g .assembly }
 gatheringAfter g (on-connection call) = g
 
@@ -48,7 +48,7 @@ datagramIn bytes random out l =
 
 abbrev pub callsAt : Gathering → Posted → List Call
 callsAt g (message bytes random out) = datagramIn bytes random out (gathers g bytes random out)
-callsAt g (drop reference) = []
+callsAt g (dropping reference) = []
 callsAt g (on-connection call) = call ∷ []
 
 unfoldable pub callsIn : Gathering → List Posted → List Call
@@ -74,7 +74,7 @@ linkBy m =
 
 abbrev pub linkAfter : Link → Posted → Link
 linkAfter l (message bytes random out) = linkBy (takes l bytes random out)
-linkAfter l (drop reference) = record { connection = l .connection; gathering = gatheringAfter (l .gathering) (drop reference) }
+linkAfter l (dropping reference) = record { connection = l .connection; gathering = gatheringAfter (l .gathering) (dropping reference) }
 linkAfter l (on-connection call) = record { connection = stepOf (l .connection) call .connection; gathering = l .gathering }
 
 unfoldable pub linkEnd : Link → List Posted → Link
@@ -87,7 +87,7 @@ shownStep m = pick (isShown (m .back .answer)) (receivedAs (m .back .received) (
 
 abbrev pub stepsAt : Link → Posted → List Step
 stepsAt l (message bytes random out) = shownStep (takes l bytes random out)
-stepsAt l (drop reference) = []
+stepsAt l (dropping reference) = []
 stepsAt l (on-connection call) = stepOf (l .connection) call ∷ []
 
 unfoldable pub stepsIn : Link → List Posted → List Step
