@@ -13,6 +13,8 @@
 void speed_sha1(const uint8_t *s, size_t n, uint8_t *out, size_t room);
 void speed_hmac(const uint8_t *k, size_t kn, const uint8_t *s, size_t n, uint8_t *out, size_t room);
 void speed_codes(const uint8_t *k, size_t kn, const uint8_t *s, size_t n, size_t times, uint8_t *out, size_t room);
+void speed_prf(const uint8_t *k, size_t kn, const uint8_t *label, size_t ln, const uint8_t *first, size_t an, const uint8_t *second,
+               size_t bn, const uint8_t *third, size_t cn, uint8_t *out, size_t room);
 
 enum { OURS, PLAIN, BEAR, OPEN, MAKERS };
 static const char *const maker[MAKERS] = {"digest (ours)", "(a) plain C, clang -O3", "(b) BearSSL", "(c) OpenSSL, low level"};
@@ -110,6 +112,34 @@ static void codes_with_setup(int m, int batch) {
 
 static void codes_alone(int m, int batch) { codes_of[m](key, KEY, text, SHORT, (size_t)batch, result); }
 
+/* The expansion of OpenSSL's codes: the seed of n bytes behind the twenty of A(i). */
+static void open_prf(const uint8_t *k, size_t kn, const uint8_t *seed, size_t n, uint8_t *out, size_t size) {
+    uint8_t a[20 + LONG], code[20];
+    memcpy(a + 20, seed, n);
+    open_codes(k, kn, seed, n, 1, a);
+    for (size_t at = 0; at < size; at += 20) {
+        open_codes(k, kn, a, 20 + n, 1, code);
+        memcpy(out + at, code, size - at < 20 ? size - at : 20);
+        open_codes(k, kn, a, 20, 1, code);
+        memcpy(a, code, 20);
+    }
+}
+
+/* Whether ours and OpenSSL's agree on seeds of 0 to 140 bytes, in pieces cut anywhere, for 0 to 61 bytes. */
+static int agree_on_prf(void) {
+    uint8_t got[61], want[61];
+    for (size_t n = 0; n <= 140; n++)
+        for (size_t size = 0; size <= 61; size++) {
+            size_t label = n * (size % 7) / 7, first = (n - label) * (size % 5) / 5, second = (n - label - first) * (size % 3) / 3;
+            memset(got, 0, 61), memset(want, 0, 61);
+            open_prf(key, KEY, text, n, want, size);
+            speed_prf(key, KEY, text, label, text + label, first, text + label + first, second, text + label + first + second,
+                      n - label - first - second, got, size);
+            if (memcmp(got, want, 61) != 0) return printf("prf of %zu bytes with a seed of %zu: ours differs\n", size, n), 0;
+        }
+    return 1;
+}
+
 /* Whether the four agree, on messages and keys of many lengths, and whether a room that is too small stays as it was. */
 static int agree(void) {
     uint8_t got[20], want[20], small[19] = {0}, zeros[19] = {0};
@@ -195,7 +225,7 @@ int main(int count, char **words) {
     for (size_t i = 0; i < sizeof key; i++) key[i] = (uint8_t)((seed = seed * 1103515245u + 12345u) >> 16);
     const char *off = getenv("OPENSSL_ia32cap");
     if (off == NULL || strcmp(off, "0:0") != 0) printf("OPENSSL_ia32cap is not 0:0, so (c) may use the processor's SHA instructions.\n");
-    if (!agree()) return 1;
+    if (!agree() || !agree_on_prf()) return 1;
     printf("All four agree. Medians of %d repetitions; ours/theirs: how many times as fast ours is.\n", repetitions);
     took = malloc(sizeof *took * (size_t)repetitions);
     if (took == NULL) return printf("no memory for %d repetitions\n", repetitions), 1;

@@ -156,6 +156,14 @@ unfolding digestFrom
 behind-block g d l =
     ap (λ n. spelled (absorb (d ++ padding (64 + n)) (blocksOf (d ++ padding (64 + n))) g)) (sym l)
 
+-- The digest of n bytes behind one block.
+pub behind-blocks : (g : State) (m : List ℕ) (n : ℕ) → length m ≡ n
+    → spelled (absorb (m ++ padding (n + 64)) (blocksOf (m ++ padding (n + 64))) g) ≡ digestFrom g 64 m
+unfolding digestFrom
+behind-blocks g m n l =
+    let all : n + 64 ≡ 64 + length m = omega arith in
+    ap (λ k. spelled (absorb (m ++ padding k) (blocksOf (m ++ padding k)) g)) all
+
 pub ended-as : (g : State) (d : List ℕ) → digestFrom g 64 d ≡ finished (updated (begun g) d)
 ended-as g d =
     let h = updated (begun g) d in

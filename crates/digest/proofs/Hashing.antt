@@ -199,13 +199,13 @@ padded-by f d₁ d₃ d₄ end x lo hi e₁ e₃ e₄ =
     ∙ ap (λ y. f ++ y) (append-assoc (128 ∷ replicate (end - (length f + 9)) 0) (bytes4 (x / 4294967296)) (bytes4 (x % 4294967296)))
 
 -- The last blocks: n of them in d hold the bytes f that are left of c, and the padding.
-pub ended-by : (f d : List ℕ) (h g : State) (c n : ℕ) → length f ≡ c % 64 → n ≡ (length f + 72) / 64 → 64 * n ≤ length d
+pub ended-by : (f d : List ℕ) (h g : State) (c n : ℕ) → length f < 120 → length f % 64 ≡ c % 64 → n ≡ (length f + 72) / 64 → 64 * n ≤ length d
     → take (64 * n) d ≡ f ++ ((128 ∷ replicate (64 * n - (length f + 9)) 0) ++ bytes8 (8 * c % 2 ^ 64))
     → g ≡ absorb (drop 0 d) n h → g ≡ absorb (f ++ padding c) (blocksOf (f ++ padding c)) h
 unfolding padding
-ended-by f d h g c n l en b t eg =
+ended-by f d h g c n few l en b t eg =
     let p = f ++ padding c in
-    let zeros : 64 * n - (length f + 9) ≡ (119 - c % 64) % 64 = zeros-are (length f) (c % 64) n l en (omega arith) in
+    let zeros : 64 * n - (length f + 9) ≡ (119 - c % 64) % 64 = zeros-are (length f) (c % 64) n l en few in
     let p-is : take (64 * n) d ≡ p = t ∙ ap (λ x. f ++ ((128 ∷ replicate x 0) ++ bytes8 (8 * c % 2 ^ 64))) zeros in
     let size : length p ≡ 64 * n = sym (ap length p-is) ∙ length-take-le (64 * n) d b in
     let all : n ≡ blocksOf p = omega arith in
@@ -214,7 +214,7 @@ ended-by f d h g c n l en b t eg =
     ∙ absorb-front (take (64 * n) d) (drop (64 * n) d) n h (omega (arith, length-take-le (64 * n) d b))
     ∙ ap₂ (λ x y. absorb x y h) p-is all
   where
-    zeros-are : (fill m n : ℕ) → fill ≡ m → n ≡ (fill + 72) / 64 → m < 64 → 64 * n - (fill + 9) ≡ (119 - m) % 64
+    zeros-are : (fill m n : ℕ) → fill % 64 ≡ m → n ≡ (fill + 72) / 64 → fill < 120 → 64 * n - (fill + 9) ≡ (119 - m) % 64
     zeros-are fill m n e en h = omega arith
 
 -- What the end means: the digest of the message.

@@ -1,12 +1,12 @@
 -- The laws of bytes laid over others.
-use mathlib.Core.Path.{_≡_, refl, sym, _∙_, ap}
-use mathlib.Core.List.{List, [], _∷_, _++_}
+use mathlib.Core.Path.{_≡_, refl, sym, _∙_, ap, ap₂}
+use mathlib.Core.List.{List, [], _∷_, _++_, append-assoc}
 use Prim.Native.Nat.{ℕ, zero, suc, _+_, _-_, _<_, _≤_}
 use native.Mathlib.Omega.{arith}
 use native.Mathlib.Numerals.{add-one, towards-suc}
 use native.Mathlib.Nat.{zero-add}
 use lib.ListN.{length, take, drop, set, replicate, length-append, length-drop, length-replicate, replicate-append-replicate}
-use lib.Seq.{paste, take-length, length-take-le, sets, sets-eq, take-at, drop-at, set-at, take-append-add}
+use lib.Seq.{paste, take-length, length-take-le, sets, sets-eq, take-at, drop-at, set-at, take-append-add, drop-append-add, drop-drop}
 use Rattle.digest.proofs.Picks.{picks}
 use Rattle.digest.specs.Bytes.{laidOver, laidWithin, bytes4}
 
@@ -46,6 +46,57 @@ unfolding laidOver
 laid-front d at n s h e =
     take-at (take at d ++ s) (drop (at + length s) d) n
     (length-append (take at d) s ∙ ap (λ x. x + length s) (length-take-le at d h) ∙ sym e)
+
+-- a piece laid behind what stands at the front, and one laid before it
+pub laid-behind : (d s t : List ℕ) (n : ℕ) → length s ≡ n → laidOver (laidOver d 0 s) n t ≡ laidOver d 0 (s ++ t)
+unfolding laidOver
+laid-behind d s t n l =
+    let r = drop (0 + length s) d in
+    let there : 0 + length s + length t ≡ 0 + length (s ++ t) = omega (arith, length-append s t) in
+    ap₂ (λ y z. y ++ t ++ z)
+    (take-at s r n l)
+    (ap (λ k. drop (k + length t) (s ++ r)) (sym l) ∙ drop-append-add s r (length t) ∙ drop-drop (length t) (0 + length s) d ∙ ap (λ k. drop k d) there)
+
+pub laid-before : (d s t : List ℕ) (n : ℕ) → length s ≡ n → n ≤ length d → laidOver (laidOver d n t) 0 s ≡ laidOver d 0 (s ++ t)
+unfolding laidOver
+laid-before d s t n l h =
+    let r = drop (n + length t) d in
+    let from : 0 + length s ≡ n = omega arith in
+    let there : n + length t ≡ 0 + length (s ++ t) = omega (arith, length-append s t) in
+    ap (λ y. s ++ y)
+    (ap₂ drop from (append-assoc (take n d) t r) ∙ drop-at (take n d) (t ++ r) n (length-take-le n d h) ∙ ap (λ k. t ++ drop k d) there)
+    ∙ sym (append-assoc s t (drop (0 + length (s ++ t)) d))
+
+-- four pieces laid one behind the other
+pub laid-pieces : (d d₁ d₂ d₃ d₄ s t u v : List ℕ) → d₁ ≡ laidOver d 0 s → d₂ ≡ laidOver d₁ (length s) t
+    → d₃ ≡ laidOver d₂ (length s + length t) u → d₄ ≡ laidOver d₃ (length s + length t + length u) v
+    → d₄ ≡ laidOver d 0 (s ++ (t ++ u ++ v))
+laid-pieces d d₁ d₂ d₃ d₄ s t u v e₁ e₂ e₃ e₄ =
+    let two : length (s ++ t) ≡ length s + length t = length-append s t in
+    let three : length (s ++ t ++ u) ≡ length s + length t + length u = length-append (s ++ t) u ∙ ap (λ n. n + length u) two in
+    e₄
+    ∙ ap (λ x. laidOver x (length s + length t + length u) v)
+    (e₃
+    ∙ ap (λ x. laidOver x (length s + length t) u) (e₂ ∙ ap (λ x. laidOver x (length s) t) e₁ ∙ laid-behind d s t (length s) refl)
+    ∙ laid-behind d (s ++ t) u (length s + length t) two)
+    ∙ laid-behind d (s ++ t ++ u) v (length s + length t + length u) three
+    ∙ ap (laidOver d 0) (append-assoc (s ++ t) u v ∙ append-assoc s t (u ++ v) ∙ ap (λ x. s ++ x) (sym (append-assoc t u v)))
+
+pub length-pieces : (s t u v : List ℕ) → length (s ++ (t ++ u ++ v)) ≡ length s + length t + length u + length v
+length-pieces s t u v =
+    length-append s (t ++ u ++ v)
+    ∙ ap (λ x. length s + x) (length-append (t ++ u) v ∙ ap (λ x. x + length v) (length-append t u))
+    ∙ omega arith
+
+-- what stands at the front of one block, laid in another behind twenty bytes a that come last
+pub laid-second : (s d₁ e₁ e₂ a : List ℕ) (n : ℕ) → length s ≡ n → n ≤ 108 → length a ≡ 20 → d₁ ≡ laidOver (replicate 128 0) 0 s
+    → e₁ ≡ laidOver (replicate 128 0) 20 (take n d₁) → e₂ ≡ laidOver e₁ 0 a → e₂ ≡ laidOver (replicate 128 0) 0 (a ++ s)
+laid-second s d₁ e₁ e₂ a n l h la e f g =
+    let z : List ℕ = replicate 128 0 in
+    let there : n ≡ 0 + length s = omega arith in
+    let room : 20 ≤ length z = omega (arith, length-replicate {A = ℕ} 128 0) in
+    let part : take n d₁ ≡ s = ap (take n) e ∙ laid-front z 0 n s (omega arith) there in
+    g ∙ ap (λ x. laidOver x 0 a) (f ∙ ap (laidOver z 20) part) ∙ laid-before z a s 20 la room
 
 -- a part of equal elements
 pub take-replicate : (n k x : ℕ) → k ≤ n → take k (replicate n x) ≡ replicate k x

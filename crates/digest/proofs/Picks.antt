@@ -2,7 +2,10 @@
 -- closes nearly every return of branching code against a definition made of picks.
 use mathlib.Core.Path.{_≡_, refl, sym, _∙_, ap}
 use mathlib.Core.Bool.{Bool, true, false}
-use Prim.Native.Nat.{ℕ, _<_, _≤_}
+use mathlib.Core.Logic.{by-cases}
+use native.Mathlib.Decide.{decLe}
+use native.Mathlib.Omega.{arith}
+use Prim.Native.Nat.{ℕ, _+_, _<_, _≤_}
 use lib.Dec.{eqb, ltb, leb}
 use borrow.Author.Tests.{eq-eqb, ne-eqb, lt-ltb, le-ltb, le-leb, lt-leb}
 use Rattle.digest.specs.Pick.{pick}
@@ -31,3 +34,10 @@ if-lt {A} {r} {x} y a b h e = pick-yes A r x y (ltb a b) (lt-ltb a b h) e
 
 pub if-ge : {A : Type 0} {r y : A} (x : A) (a b : ℕ) → b ≤ a → r ≡ y → r ≡ pick (ltb a b) x y
 if-ge {A} {r} {y} x a b h e = pick-no A r x y (ltb a b) (le-ltb a b h) e
+
+-- A sum that was kept within a limit, where it is not the one number above it.
+pub within : (most a b r : ℕ) → r ≡ pick (leb (a + b) most) (a + b) (most + 1) → r ≤ most → r ≡ a + b
+within most a b r e h =
+    by-cases (decLe (a + b) most)
+    (λ y. e ∙ sym (pick-yes ℕ (a + b) (a + b) (most + 1) (leb (a + b) most) (le-leb (a + b) most y) refl))
+    (λ n. absurd (omega (arith, e ∙ sym (pick-no ℕ (most + 1) (a + b) (most + 1) (leb (a + b) most) (lt-leb (a + b) most (omega arith)) refl))))

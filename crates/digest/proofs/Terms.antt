@@ -65,6 +65,14 @@ module _ (mac : List ℕ → List ℕ) (size : (m : List ℕ) → length (mac m)
       ∙ ap (λ k. take k (terms mac seed (suc i))) (sym front)
       ∙ ap (λ k. take n (terms mac seed k)) (sym (count ∙ add-one i))
 
+  -- one term alone
+  pub expansion-once : (out d a t : List ℕ) → 0 < length out → length out ≤ 20 → a ≡ mac seed → t ≡ mac (a ++ seed)
+      → d ≡ laidOver out 0 (take (length out) t) → d ≡ expansion mac seed (length out)
+  unfolding terms
+  expansion-once out d a t some few ea et ed =
+      let all : length out ≡ length out - 20 * 0 = omega arith in
+      expansion-by out d a t 0 some (omega arith) (chain-first a ea) et refl (ed ∙ ap (λ k. laidOver out 0 (take k t)) all)
+
 -- An empty expansion.
 pub expansion-none : (mac : List ℕ → List ℕ) (seed out : List ℕ) → length out ≡ 0 → out ≡ expansion mac seed (length out)
 unfolding expansion terms

@@ -1,8 +1,11 @@
 // HMAC with SHA-1 (RFC 2104; 002 section 11.3.1) and the expansion of secrets (002 section 11.3.2).
-ghost use Prim.Native.Nat.{ℕ, _+_, _≤_};
+ghost use Prim.Native.Nat.{ℕ, _+_, _<_, _≤_};
 ghost use mathlib.Core.Path.{_≡_};
 ghost use mathlib.Core.List.{List, _++_};
-ghost use lib.ListN.{length};
+ghost use lib.ListN.{length, replicate};
+ghost use lib.Dec.{leb};
+ghost use Rattle.digest.specs.Pick.{pick};
+ghost use Rattle.digest.specs.Bytes.{laidOver};
 ghost use Rattle.digest.specs.Sha1.{compress, initialState};
 ghost use Rattle.digest.specs.Hasher.{AbsorbedFrom, begun, digestFrom, ended};
 ghost use Rattle.digest.specs.Hmac.{actualKey, keyBlock, keyOf, codeUnder, hmac};
@@ -14,8 +17,10 @@ use crate::block::absorbed;
 use crate::block::initial;
 use crate::bytes::lay;
 use crate::pieces::Hasher;
+use crate::pieces::closed;
 use crate::pieces::ending;
 use crate::pieces::sha1;
+use crate::pieces::spelled;
 
 // A key with both pads absorbed, so that codes under one key do not absorb them again. Every value of it is safe.
 pub struct Key {
@@ -62,6 +67,13 @@ impl Key {
         ensures exact { λ r. ⌜ r ≡ codeUnder self (now (head .entry) ++ now (body .entry)) ⌝ }
         ensures meaning { λ r. ⌜ ((k : List ℕ) → self ≡ keyOf k → r ≡ hmac k (now (head .entry) ++ now (body .entry))) ⌝ }
     {
+        let n = at_most(119, head.len(), body.len());
+        if n < 120 {
+            let mut d = [0u8; 128];
+            lay(&mut d, 0, head);
+            lay(&mut d, head.len(), body);
+            return short_code(self, &mut d, n);
+        }
         self.end(self.begin().update(head).update(body))
     }
 
@@ -73,8 +85,19 @@ impl Key {
         if out.len() == 0 {
             return;
         }
+        let n = short_seed(
+            out.len(),
+            label.len(),
+            first.len(),
+            second.len(),
+            third.len(),
+        );
+        if n < 100 {
+            one_term(self, label, first, second, third, out);
+            return;
+        }
         let last = (out.len() - 1) / 20;
-        let mut a = seeded(self, self.begin(), label, first, second, third);
+        let mut a = seeded(self, &[], label, first, second, third);
         let mut i: usize = 0;
         while i < last {
             let whole = term(self, a, label, first, second, third);
@@ -96,11 +119,19 @@ pub fn prf(secret: &[u8], label: &[u8], first: &[u8], second: &[u8], third: &[u8
     Key::new(secret).expand(label, first, second, third, out);
 }
 
-// The code of what went into h since the key's begin, with the label and the seed behind it.
-fn seeded(key: Key, h: Hasher, label: &[u8], first: &[u8], second: &[u8], third: &[u8]) -> [u8; 20]
-    ensures { λ r. ⌜ ((m : List ℕ) → AbsorbedFrom (key .inner) 64 h m → r ≡ codeUnder key (m ++ (now (label .entry) ++ (now (first .entry) ++ now (second .entry) ++ now (third .entry))))) ⌝ }
+// The code of a piece in front, with the label and the seed behind it.
+fn seeded(
+    key: Key,
+    front: &[u8],
+    label: &[u8],
+    first: &[u8],
+    second: &[u8],
+    third: &[u8],
+) -> [u8; 20]
+    ensures { λ r. ⌜ r ≡ codeUnder key (now (front .entry) ++ (now (label .entry) ++ (now (first .entry) ++ now (second .entry) ++ now (third .entry)))) ⌝ }
 {
-    let mut g = h;
+    let mut g = key.begin();
+    g = g.update(front);
     g = g.update(label);
     g = g.update(first);
     g = g.update(second);
@@ -112,7 +143,73 @@ fn seeded(key: Key, h: Hasher, label: &[u8], first: &[u8], second: &[u8], third:
 fn term(key: Key, a: [u8; 20], label: &[u8], first: &[u8], second: &[u8], third: &[u8]) -> [u8; 20]
     ensures { λ r. ⌜ r ≡ codeUnder key (a ++ (now (label .entry) ++ (now (first .entry) ++ now (second .entry) ++ now (third .entry)))) ⌝ }
 {
-    seeded(key, key.begin().update(&a), label, first, second, third)
+    seeded(key, &a, label, first, second, third)
+}
+
+// An expansion of one term, with a seed so short that A(1) and the term each take two blocks at most.
+fn one_term(key: Key, label: &[u8], first: &[u8], second: &[u8], third: &[u8], out: &mut [u8])
+    requires { ⌜ (0 < length (now out)) × (length (now out) ≤ 20) × (length (now label) + length (now first) + length (now second) + length (now third) < 100) ⌝ }
+    ensures { λ _. ⌜ now (out .exit) ≡ expansion (codeUnder key) (now (label .entry) ++ (now (first .entry) ++ now (second .entry) ++ now (third .entry))) (length (now (out .entry))) ⌝ }
+{
+    let mut d = [0u8; 128];
+    lay_seed(&mut d, label, first, second, third);
+    let n = label.len() + first.len() + second.len() + third.len();
+    let mut e = [0u8; 128];
+    lay(&mut e, 20, &d[..n]);
+    let a = short_code(key, &mut d, n);
+    lay(&mut e, 0, &a);
+    let cut = short_code(key, &mut e, 20 + n);
+    lay(out, 0, &cut[..out.len()]);
+}
+
+// The label and the seed, one behind the other, over the front of d.
+fn lay_seed(d: &mut [u8], label: &[u8], first: &[u8], second: &[u8], third: &[u8])
+    requires { ⌜ length (now label) + length (now first) + length (now second) + length (now third) ≤ length (now d) ⌝ }
+    ensures { λ _. ⌜ now (d .exit) ≡ laidOver (now (d .entry)) 0 (now (label .entry) ++ (now (first .entry) ++ now (second .entry) ++ now (third .entry))) ⌝ }
+{
+    lay(d, 0, label);
+    let one = label.len();
+    lay(d, one, first);
+    let two = one + first.len();
+    lay(d, two, second);
+    lay(d, two + second.len(), third);
+}
+
+// The code of n bytes, which stand at the front of d with zeros behind them.
+fn short_code(key: Key, d: &mut [u8], n: usize) -> [u8; 20]
+    requires { ⌜ (length (now d) ≡ 128) × (n < 120) ⌝ }
+    ensures { λ r. ⌜ ((m : List ℕ) → length m ≡ n → now (d .entry) ≡ laidOver (replicate 128 0) 0 m → r ≡ codeUnder key m) ⌝ }
+{
+    let inner = key.inner;
+    let outer = key.outer;
+    let last = closed(inner, d, n, (n + 64) as u64);
+    hashed(outer, spelled(last))
+}
+
+// The sizes of the label and of the seed's pieces together, where these are below 100 and the output takes one term; else 100.
+fn short_seed(out: usize, label: usize, first: usize, second: usize, third: usize) -> usize
+    ensures { λ r. ⌜ (r < 100 → (out ≤ 20) × (label + first + second + third ≡ r)) ⌝ }
+{
+    if 20 < out {
+        return 100;
+    }
+    let one = at_most(99, label, first);
+    let two = at_most(99, one, second);
+    at_most(99, two, third)
+}
+
+// The sum of a and b where it is at most `most`, else one more than that.
+fn at_most(most: usize, a: usize, b: usize) -> usize
+    requires { ⌜ most < 128 ⌝ }
+    ensures { λ r. ⌜ r ≡ pick (leb (a + b) most) (a + b) (most + 1) ⌝ }
+{
+    if most < a {
+        return most + 1;
+    }
+    if most - a < b {
+        return most + 1;
+    }
+    a + b
 }
 
 // A(i + 1), from A(i).

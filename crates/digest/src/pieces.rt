@@ -2,7 +2,8 @@
 ghost use Prim.Native.Nat.{ℕ, _+_, _/_, _%_, _<_, _≤_};
 ghost use mathlib.Core.Path.{_≡_};
 ghost use mathlib.Core.List.{List, _++_};
-ghost use lib.ListN.{length, take};
+ghost use lib.ListN.{length, take, replicate};
+ghost use Rattle.digest.specs.Bytes.{laidOver};
 ghost use Rattle.digest.specs.Sha1 as Sha1;
 ghost use Rattle.digest.specs.Sha1.{absorb, blocksOf, padding};
 ghost use Rattle.digest.specs.Hasher.{freshHasher, updated, finished, Absorbed};
@@ -94,26 +95,34 @@ fn topped(h: State, rest: [u8; 64], fill: usize, s: &[u8]) -> State
     absorbed(h, &block, 0, 1)
 }
 
-// The digest from the state h on, with the bytes s left of `count` in all: behind s a one, zeros, and the length in
-// bits in the last eight bytes of a block.
+// The digest from the state h on, with the bytes s left of `count` in all.
 pub(crate) fn ending(h: State, s: &[u8], count: u64) -> [u8; 20]
     requires { ⌜ length (now s) ≡ count % 64 ⌝ }
     ensures { λ r. ⌜ r ≡ Sha1.spelled (absorb (now (s .entry) ++ padding count) (blocksOf (now (s .entry) ++ padding count)) h) ⌝ }
 {
     let mut d = [0u8; 128];
     lay(&mut d, 0, s);
-    let fill = s.len();
+    let last = closed(h, &mut d, s.len(), count);
+    spelled(last)
+}
+
+// The state from h on, with `fill` bytes left of `count` in all, which stand at the front of d with zeros behind them:
+// behind them a one, zeros, and the length in bits in the last eight bytes of a block.
+pub(crate) fn closed(h: State, d: &mut [u8], fill: usize, count: u64) -> State
+    requires { ⌜ (length (now d) ≡ 128) × (fill < 120) × (fill % 64 ≡ count % 64) ⌝ }
+    ensures { λ r. ⌜ ((m : List ℕ) → length m ≡ fill → now (d .entry) ≡ laidOver (replicate 128 0) 0 m → r ≡ absorb (m ++ padding count) (blocksOf (m ++ padding count)) h) ⌝ }
+{
     d[fill] = 128;
     let blocks = (fill + 72) / 64;
     let end = 64 * blocks;
     let bits = count << 3;
-    put_word(&mut d, end - 8, (bits / 4294967296) as u32);
-    put_word(&mut d, end - 4, (bits % 4294967296) as u32);
-    spelled(absorbed(h, &d, 0, blocks))
+    put_word(d, end - 8, (bits / 4294967296) as u32);
+    put_word(d, end - 4, (bits % 4294967296) as u32);
+    absorbed(h, d, 0, blocks)
 }
 
 // The five words, each as four bytes.
-fn spelled(h: State) -> [u8; 20]
+pub(crate) fn spelled(h: State) -> [u8; 20]
     ensures { λ r. ⌜ r ≡ Sha1.spelled h ⌝ }
 {
     let mut d = [0u8; 20];

@@ -2,6 +2,7 @@
 use mathlib.Core.Path.{_∙_}
 use Rattle.digest.proofs.Codes.{behind-block}
 use borrow.Author.Needs.{needs}
+use native.Mathlib.Omega.{arith}
 use Rattle.digest.proofs.key.hashed.Statement.{statement}
 use Rattle.digest.proofs.key.hashed.Tie as tie
 
@@ -9,7 +10,7 @@ slice-aggregate-ending : tie.Need-slice-aggregate-ending
 slice-aggregate-ending c = search needs
 
 ending-requires : tie.Need-ending-requires
-ending-requires c κs = search needs
+ending-requires c κs = omega arith
 
 returns : tie.Need-returns
 returns c = c .ending .ensures ∙ behind-block _ _ (search needs)

@@ -8,7 +8,7 @@ use lib.ListN.{length, take}
 use lib.Seq.{length-take-le}
 use Rattle.digest.specs.Hmac.{codeUnder}
 use Rattle.digest.specs.Expansion.{chain, terms, expansion}
-use Rattle.digest.proofs.Codes.{begun-absorbed, length-code}
+use Rattle.digest.proofs.Codes.{length-code}
 use Rattle.digest.proofs.Lay.{length-laid}
 use Rattle.digest.proofs.Terms.{terms-more, chain-first, chain-more, expansion-by, expansion-none, both-expanded}
 use mathlib.Core.Path.{_≡_, refl, sym, ap}
@@ -17,56 +17,68 @@ use Rattle.digest.proofs.key.Key.expand.Statement.{statement}
 use Rattle.digest.proofs.key.Key.expand.Tie as tie
 
 abbrev Inv-loop : tie.InvT-loop
-Inv-loop self label first second third out₀ last a₀ i₀ out a i = (i ≤ last) × (0 < length out₀) × (last ≡ (length out₀ - 1) / 20) × (length out ≡ length out₀) × (length a ≡ 20) × (a ≡ chain (codeUnder self) (label ++ (first ++ second ++ third)) (i + 1)) × (take (20 * i) out ≡ terms (codeUnder self) (label ++ (first ++ second ++ third)) i)
+Inv-loop self label first second third out₀ n last a₀ i₀ out a i = (i ≤ last) × (0 < length out₀) × (last ≡ (length out₀ - 1) / 20) × (length out ≡ length out₀) × (length a ≡ 20) × (a ≡ chain (codeUnder self) (label ++ (first ++ second ++ third)) (i + 1)) × (take (20 * i) out ≡ terms (codeUnder self) (label ++ (first ++ second ++ third)) i)
 
 abbrev μ-loop : tie.MeasureT-loop
-μ-loop self label first second third out₀ last a₀ i₀ out a i = last - i
+μ-loop self label first second third out₀ n last a₀ i₀ out a i = last - i
 
 returns : tie.Need-returns Inv-loop μ-loop
 returns c = let args = c .before .before .before .before .before .before .args in
     both-expanded (args .self) _ _ _ _ (expansion-none _ _ (args .out .now) (c .if1 .taken))
 
+short-seed-requires : tie.Need-short-seed-requires Inv-loop μ-loop
+short-seed-requires c κs = search needs
+
+one-term-requires : tie.Need-one-term-requires Inv-loop μ-loop
+one-term-requires c κs = let fits = c .before .before .short-seed .ensures (c .before .if2 .taken) in (omega (arith, c .before .before .before .if1 .left), fits .0, omega (arith, fits .1, c .before .if2 .taken))
+
+same-length : tie.Need-same-length Inv-loop μ-loop
+same-length c = search needs
+
+returns-2 : tie.Need-returns-2 Inv-loop μ-loop
+returns-2 c = both-expanded (c .before .before .before .before .before .before .before .before .before .before .before .before .args .self) _ _ _ _ (c .before .before .one-term .ensures)
+
 sub-last : tie.Need-sub-last Inv-loop μ-loop
 sub-last c = search needs
 
-begin-requires : tie.Need-begin-requires Inv-loop μ-loop
-begin-requires c κs = search needs
+slice-aggregate-seeded : tie.Need-slice-aggregate-seeded Inv-loop μ-loop
+slice-aggregate-seeded c = search needs
 
 seeded-requires : tie.Need-seeded-requires Inv-loop μ-loop
 seeded-requires c κs = search needs
 
 loop-holds : tie.Need-loop-holds Inv-loop μ-loop
 unfolding terms
-loop-holds c = let args = c .before .before .before .before .before .before .before .before .args in
+loop-holds c = let args = c .before .before .before .before .before .before .before .before .before .before .args in
     let mac = codeUnder (args .self) in
     let seed = args .label .now ++ (args .first .now ++ args .second .now ++ args .third .now) in
-    let first-is = c .seeded .ensures [] (begun-absorbed (args .self .inner) (c .before .begin .result) (c .before .begin .ensures)) in
-    (omega arith, omega (arith, c .before .before .if1 .left), refl, refl, ap length first-is ∙ length-code (args .self) seed, chain-first mac (length-code (args .self)) seed _ first-is, refl)
+    let first-is = c .seeded .ensures in
+    (omega arith, omega (arith, c .before .before .before .before .if1 .left), refl, refl, ap length first-is ∙ length-code (args .self) seed, chain-first mac (length-code (args .self)) seed _ first-is, refl)
 
 term-requires : tie.Need-term-requires Inv-loop μ-loop
 term-requires c κs = search needs
 
 mul-lay : tie.Need-mul-lay Inv-loop μ-loop
-mul-lay c = omega (arith, c .before .before .before .loop .inv .0, c .before .before .before .before .before .before .before .before .before .before .before .before .good)
+mul-lay c = omega (arith, c .before .before .before .loop .inv .0, c .before .before .before .before .before .before .before .before .before .before .before .before .before .before .good)
 
 slice-aggregate-lay : tie.Need-slice-aggregate-lay Inv-loop μ-loop
 slice-aggregate-lay c = search needs
 
 lay-requires : tie.Need-lay-requires Inv-loop μ-loop
-lay-requires c κs = omega (arith, c .before .before .before .loop-test .taken, c .before .before .before .before .loop .inv, ap length (c .before .before .term .ensures), length-code (c .before .before .before .before .before .before .before .before .before .before .before .before .before .args .self) (c .before .before .before .before .loop .a ++ (c .before .before .before .before .before .before .before .before .before .before .before .before .before .args .label .now ++ (c .before .before .before .before .before .before .before .before .before .before .before .before .before .args .first .now ++ c .before .before .before .before .before .before .before .before .before .before .before .before .before .args .second .now ++ c .before .before .before .before .before .before .before .before .before .before .before .before .before .args .third .now))))
+lay-requires c κs = omega (arith, c .before .before .before .loop-test .taken, c .before .before .before .before .loop .inv, ap length (c .before .before .term .ensures), length-code (c .before .before .before .before .before .before .before .before .before .before .before .before .before .before .before .args .self) (c .before .before .before .before .loop .a ++ (c .before .before .before .before .before .before .before .before .before .before .before .before .before .before .before .args .label .now ++ (c .before .before .before .before .before .before .before .before .before .before .before .before .before .before .before .args .first .now ++ c .before .before .before .before .before .before .before .before .before .before .before .before .before .before .before .args .second .now ++ c .before .before .before .before .before .before .before .before .before .before .before .before .before .before .before .args .third .now))))
 
 next-requires : tie.Need-next-requires Inv-loop μ-loop
 next-requires c κs = search needs
 
 add-i : tie.Need-add-i Inv-loop μ-loop
-add-i c = omega (arith, c .before .before .before .before .before .before .before .loop-test .taken, c .before .before .before .before .before .before .before .before .before .before .before .before .before .before .before .before .before .good)
+add-i c = omega (arith, c .before .before .before .before .before .before .before .loop-test .taken, c .before .before .before .before .before .before .before .before .before .before .before .before .before .before .before .before .before .before .before .good)
 
 loop-less : tie.Need-loop-less Inv-loop μ-loop
 loop-less c = omega (arith, c .before .before .before .before .before .before .before .loop-test .taken)
 
 loop-again : tie.Need-loop-again Inv-loop μ-loop
 loop-again c = let at = c .before .before .before .before .before .before .before .before .loop in
-    let args = c .before .before .before .before .before .before .before .before .before .before .before .before .before .before .before .before .before .args in
+    let args = c .before .before .before .before .before .before .before .before .before .before .before .before .before .before .before .before .before .before .before .args in
     let mac = codeUnder (args .self) in
     let size = length-code (args .self) in
     let seed = args .label .now ++ (args .first .now ++ args .second .now ++ args .third .now) in
@@ -87,7 +99,7 @@ term-requires-2 : tie.Need-term-requires-2 Inv-loop μ-loop
 term-requires-2 c κs = search needs
 
 mul-at : tie.Need-mul-at Inv-loop μ-loop
-mul-at c = omega (arith, c .before .before .before .before .before .before .before .before .before .before .before .good)
+mul-at c = omega (arith, c .before .before .before .before .before .before .before .before .before .before .before .before .before .good)
 
 sub-cut : tie.Need-sub-cut Inv-loop μ-loop
 sub-cut c = omega (arith, c .before .before .before .loop .inv)
@@ -97,23 +109,23 @@ array-share-prefix-cut c = omega (arith, c .before .before .before .loop .inv)
 
 slice-aggregate-lay-2 : tie.Need-slice-aggregate-lay-2 Inv-loop μ-loop
 slice-aggregate-lay-2 c = let at = c .before .before .before .before .loop in
-    let args = c .before .before .before .before .before .before .before .before .before .before .before .before .before .args in
+    let args = c .before .before .before .before .before .before .before .before .before .before .before .before .before .before .before .args in
     let long = ap length (c .before .before .term2 .ensures) ∙ length-code (args .self) _ in
     sym (length-take-le _ (c .before .before .term2 .result) (omega (arith, at .inv, long)))
 
 lay-requires-2 : tie.Need-lay-requires-2 Inv-loop μ-loop
 lay-requires-2 c κs = let at = c .before .before .before .before .loop in
-    let args = c .before .before .before .before .before .before .before .before .before .before .before .before .before .args in
+    let args = c .before .before .before .before .before .before .before .before .before .before .before .before .before .before .before .args in
     let long = ap length (c .before .before .term2 .ensures) ∙ length-code (args .self) _ in
     let cut = length-take-le (length (at .out) - 20 * ((length (args .out .now) - 1) / 20)) (c .before .before .term2 .result) (omega (arith, at .inv, long)) in
     omega (arith, at .inv, cut)
 
-same-length : tie.Need-same-length Inv-loop μ-loop
-same-length c = c .before .before .lay2 .kept .0 ∙ c .before .before .before .before .before .before .before .loop .inv .3
+same-length-2 : tie.Need-same-length-2 Inv-loop μ-loop
+same-length-2 c = c .before .before .lay2 .kept .0 ∙ c .before .before .before .before .before .before .before .loop .inv .3
 
-returns-2 : tie.Need-returns-2 Inv-loop μ-loop
-returns-2 c = let at = c .before .before .before .before .before .before .before .loop in
-    let args = c .before .before .before .before .before .before .before .before .before .before .before .before .before .before .before .before .args in
+returns-3 : tie.Need-returns-3 Inv-loop μ-loop
+returns-3 c = let at = c .before .before .before .before .before .before .before .loop in
+    let args = c .before .before .before .before .before .before .before .before .before .before .before .before .before .before .before .before .before .before .args in
     let mac = codeUnder (args .self) in
     let size = length-code (args .self) in
     let seed = args .label .now ++ (args .first .now ++ args .second .now ++ args .third .now) in
@@ -133,8 +145,12 @@ expand-spec =
     Inv-loop
     μ-loop
     returns
+    short-seed-requires
+    one-term-requires
+    same-length
+    returns-2
     sub-last
-    begin-requires
+    slice-aggregate-seeded
     seeded-requires
     loop-holds
     term-requires
@@ -151,5 +167,5 @@ expand-spec =
     array-share-prefix-cut
     slice-aggregate-lay-2
     lay-requires-2
-    same-length
-    returns-2)
+    same-length-2
+    returns-3)
