@@ -649,7 +649,7 @@ fn a_barred_session_stays_out() {
             width: 32,
             ship: name(ship),
         };
-        Store::open(&place.at(), vec![session(0), session(1)], Start::AsItWas).unwrap()
+        Store::open(&place.at(), &[session(0), session(1)], Start::AsItWas).unwrap()
     };
     let mut world = World::with(2, 0, None);
     let mut store = open(secret).store;

@@ -32,7 +32,7 @@ impl World {
 
     fn with(state: &Path, start: Start) -> World {
         let sessions = vec![Session { id: identifier(0), secret: secret(0), width: 32, ship: name(0) }];
-        let opened = Store::open(&Where::Directory(state.into()), sessions, start).unwrap();
+        let opened = Store::open(&Where::Directory(state.into()), &sessions, start).unwrap();
         let rules =
             Rules { reopen_after: Duration::ZERO, warn_every: Duration::ZERO, hint_every: None };
         let fleet = Fleet::new(opened.ships, rules);
@@ -235,8 +235,8 @@ fn another_layout() {
     let sql = "UPDATE store SET layout = '1, 457 and 16 bytes'; UPDATE ships SET connection = x'00', tally = x'00'";
     store.execute_batch(sql).unwrap();
     let sessions = || vec![Session { id: identifier(0), secret: secret(0), width: 32, ship: name(0) }];
-    let refused = Store::open(&place.at(), sessions(), Start::AsItWas).err().unwrap();
-    assert!(refused.contains("connections of layout 1, 457 and 16 bytes"), "{refused}");
+    let refused = Store::open(&place.at(), &sessions(), Start::AsItWas).err().unwrap();
+    assert!(refused.what().contains("connections of layout 1, 457 and 16 bytes"), "{refused:?}");
     let mut world = World::with(&place.state(), Start::Afresh);
     world.take(&ship.data(2));
     assert_eq!(numbers(&place.state()), [1]);

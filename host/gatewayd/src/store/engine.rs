@@ -55,6 +55,16 @@ pub struct Words {
 }
 
 impl Fault {
+    /// The same, of a store with a name.
+    pub fn of(self, name: &str) -> Fault {
+        let told = |what: String| format!("{name}: {what}");
+        match self {
+            Fault::Again(what) => Fault::Again(told(what)),
+            Fault::Away(what) => Fault::Away(told(what)),
+            Fault::Broken(what) => Fault::Broken(told(what)),
+        }
+    }
+
     pub fn what(&self) -> &str {
         match self {
             Fault::Again(what) | Fault::Away(what) | Fault::Broken(what) => what,

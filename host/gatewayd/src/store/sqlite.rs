@@ -31,7 +31,7 @@ impl Sqlite {
         let connection = &sqlite.connection;
         let mode: String = connection
             .query_row("PRAGMA journal_mode = WAL", [], |row| row.get(0))
-            .map_err(fault)?;
+            .map_err(fault_at_start)?;
         if mode != "wal" {
             return Err(Fault::Broken(format!("no write-ahead log here (journal mode {mode})")));
         }
@@ -48,7 +48,7 @@ impl Sqlite {
     }
 
     fn with(path: &Path, flags: OpenFlags) -> Result<Sqlite, Fault> {
-        let connection = Connection::open_with_flags(path, flags).map_err(fault)?;
+        let connection = Connection::open_with_flags(path, flags).map_err(fault_at_start)?;
         connection.busy_timeout(PATIENCE).map_err(fault)?;
         connection.set_prepared_statement_cache_capacity(STATEMENTS);
         Ok(Sqlite { connection })
@@ -120,6 +120,14 @@ fn value(found: ValueRef) -> Value {
         ValueRef::Text(text) => Value::Text(String::from_utf8_lossy(text).into_owned()),
         ValueRef::Blob(bytes) => Value::Bytes(bytes.to_vec()),
         ValueRef::Null | ValueRef::Real(_) => Value::Null,
+    }
+}
+
+/// What cannot be opened at the start cannot be opened later: there are no rights to it.
+fn fault_at_start(error: rusqlite::Error) -> Fault {
+    match error.sqlite_error_code() {
+        Some(ErrorCode::CannotOpen) => Fault::Broken(error.to_string()),
+        _ => fault(error),
     }
 }
 
