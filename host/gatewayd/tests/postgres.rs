@@ -442,8 +442,8 @@ fn roles_and_refusals_to_start() {
     place.plant(1);
     let server = Server::start(&place);
     let refused = |address: &str, expected: &str| {
-        let output = Command::new(env!("CARGO_BIN_EXE_gatewayd"))
-            .args(["--listen", ANY, "--store", address, "--sessions"])
+        let output = Command::new("timeout")
+            .args(["20", env!("CARGO_BIN_EXE_gatewayd"), "--listen", ANY, "--store", address, "--sessions"])
             .arg(place.sessions())
             .output()
             .unwrap();

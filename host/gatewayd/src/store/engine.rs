@@ -36,6 +36,11 @@ pub trait Engine {
     /// `head VALUES row, row, .. tail`; nothing where there is no row.
     fn put(&mut self, head: &str, rows: &[Row], tail: &str) -> Result<(), Fault>;
 
+    /// The same for rows that are all there, if the engine has a shorter way for them.
+    fn change(&mut self, head: &str, rows: &[Row], tail: &str) -> Result<(), Fault> {
+        self.put(head, rows, tail)
+    }
+
     /// The engine's words for what differs.
     fn words(&self) -> &'static Words;
 }

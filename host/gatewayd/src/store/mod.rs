@@ -149,7 +149,7 @@ impl Store {
             .collect();
         let into = format!("INSERT INTO ships ({COLUMNS})");
         let instead = format!("ON CONFLICT (identifier) DO UPDATE SET {CHANGED}, changed = {now}");
-        self.engine.put(&into, &rows, &instead)?;
+        self.engine.change(&into, &rows, &instead)?;
         let rows: Vec<Row> = outcome.reports.iter().map(|one| report(one, clocks.time)).collect();
         self.engine.put(
             "INSERT INTO reports (ship, opening, number, received, bytes)",

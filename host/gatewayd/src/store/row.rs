@@ -25,6 +25,13 @@ pub const CHANGED: &str = "\
     barred = COALESCE(ships.barred, excluded.barred), version = excluded.version, \
     writer = excluded.writer";
 
+/// The same of one row, by the places of the columns.
+pub const UPDATE: &str = "\
+    UPDATE ships SET name = ?2, planting = ?3, connection = ?4, hello = ?5, handshakes = ?6, \
+    tally = ?7, route = ?8, newest = ?9, opening = ?10, mute = ?11, heard = ?12, \
+    barred = COALESCE(barred, ?13), version = ?14, writer = ?15, changed = ?16 \
+    WHERE identifier = ?1";
+
 /// A row as it was read.
 pub struct Saved {
     pub identifier: Identifier,

@@ -1,6 +1,7 @@
 //! SQLite: one file, one gateway. The write-ahead log and synchronous FULL: a commit is on the disk when it is done.
 
 use super::engine::{places, Engine, Fault, Row, Value, Words};
+use super::row::UPDATE;
 use rusqlite::config::DbConfig;
 use rusqlite::types::{ToSqlOutput, ValueRef};
 use rusqlite::{params_from_iter, Connection, ErrorCode, OpenFlags, ToSql};
@@ -94,6 +95,17 @@ impl Engine for Sqlite {
         let mut statement = self.connection.prepare_cached(&sql).map_err(fault)?;
         for row in rows {
             statement.execute(params_from_iter(row)).map_err(fault)?;
+        }
+        Ok(())
+    }
+
+    /// The rows of ships, which are all made at the start. Not tried as new ones first.
+    fn change(&mut self, _: &str, rows: &[Row], _: &str) -> Result<(), Fault> {
+        let mut statement = self.connection.prepare_cached(UPDATE).map_err(fault)?;
+        for row in rows {
+            if statement.execute(params_from_iter(row)).map_err(fault)? != 1 {
+                return Err(Fault::Broken("the row of a ship is gone".to_string()));
+            }
         }
         Ok(())
     }
