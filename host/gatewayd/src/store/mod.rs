@@ -142,10 +142,11 @@ impl Store {
         clocks: Clocks,
     ) -> Result<(), Fault> {
         let now = self.engine.words().now;
+        let row = if self.is_shared() { row::of } else { row::changed };
         let rows: Vec<Row> = outcome
             .changed
             .iter()
-            .map(|(_, index)| row::of(&ships[*index], self.writer, clocks))
+            .map(|(_, index)| row(&ships[*index], self.writer, clocks))
             .collect();
         let into = format!("INSERT INTO ships ({COLUMNS})");
         let instead = format!("ON CONFLICT (identifier) DO UPDATE SET {CHANGED}, changed = {now}");
@@ -203,5 +204,6 @@ fn written(outcome: &Outcome, ships: &mut [Ship]) {
         let ship = &mut ships[*index];
         ship.version += 1;
         ship.saved = ship.tally;
+        ship.settled = ship.settled();
     }
 }

@@ -1,7 +1,7 @@
 //! SQLite: one file, one gateway. The write-ahead log and synchronous FULL: a commit is on the disk when it is done.
 
 use super::engine::{places, Engine, Fault, Row, Value, Words};
-use super::row::UPDATE;
+use super::row::{UPDATE, UPDATE_CONNECTION};
 use rusqlite::config::DbConfig;
 use rusqlite::types::{ToSqlOutput, ValueRef};
 use rusqlite::{params_from_iter, Connection, ErrorCode, OpenFlags, ToSql};
@@ -99,10 +99,12 @@ impl Engine for Sqlite {
         Ok(())
     }
 
-    /// The rows of ships, which are all made at the start. Not tried as new ones first.
+    /// The rows of ships, which are all made at the start: not tried as new ones first, and only what has changed.
     fn change(&mut self, _: &str, rows: &[Row], _: &str) -> Result<(), Fault> {
-        let mut statement = self.connection.prepare_cached(UPDATE).map_err(fault)?;
+        let mut whole = self.connection.prepare_cached(UPDATE).map_err(fault)?;
+        let mut part = self.connection.prepare_cached(UPDATE_CONNECTION).map_err(fault)?;
         for row in rows {
+            let statement = if row.len() == part.parameter_count() { &mut part } else { &mut whole };
             if statement.execute(params_from_iter(row)).map_err(fault)? != 1 {
                 return Err(Fault::Broken("the row of a ship is gone".to_string()));
             }
