@@ -323,7 +323,7 @@ fn ten_restarts_without_a_report_lost() {
         done.store(true, Ordering::Relaxed);
         sending.join().unwrap()
     });
-    assert!(sent > 300, "{sent}");
+    assert!(sent > 100, "{sent}");
     for ship in 0..2 {
         wait_for("all reports", || place.listed(ship).len() >= sent.into());
         let expected: Vec<_> = (1..=sent).map(|number| (number, text(ship, number))).collect();
