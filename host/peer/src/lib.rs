@@ -35,6 +35,8 @@ pub mod setlines;
 pub mod sets;
 pub mod sha1;
 pub mod shapes;
+pub mod ship;
+pub mod shipconsole;
 pub mod shore;
 pub mod short;
 pub mod shrink;

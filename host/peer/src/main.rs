@@ -4,7 +4,8 @@ use std::io::{self, BufWriter, Read, Write};
 use std::process::ExitCode;
 
 use peer::{
-    console, dayconsole, dayfiles, days, handshakes, lists, parts, rng, setlines, stored, wire,
+    console, dayconsole, dayfiles, days, handshakes, lists, parts, rng, setlines, shipconsole, stored,
+    wire,
 };
 
 const USAGE: &str = "\
@@ -13,6 +14,7 @@ peer lister                        the lines that the frame lister must write fo
 peer day                           the stored day, as input for the console
 peer long-day                      the day on which the sending numbers run out (refusal 15)
 peer handshakes                    two worked handshakes, one `name hex` to a line
+peer shipconsole                   the lines that the ship's console must write for those on stdin
 peer dayconsole                    the lines that the day console must write for those on stdin
 peer dayfiles --seed S --count N   lines for the day console: N lists and damaged files
 peer daycuts --seed S --count N     lines for the day console: every cut of N files, mended
@@ -37,6 +39,9 @@ fn main() -> ExitCode {
         ["day"] => print(&stored::day()),
         ["long-day"] => print(&stored::long_day()),
         ["handshakes"] => print(&handshakes::worked()),
+        ["shipconsole"] => {
+            shipconsole::run(io::stdin().lock(), BufWriter::new(io::stdout().lock()))
+        }
         ["dayconsole"] => dayconsole::run(io::stdin().lock(), BufWriter::new(io::stdout().lock())),
         ["dayfiles", "--seed", seed, "--count", count] => day_files(seed, count, dayfiles::lines),
         ["daycuts", "--seed", seed, "--count", count] => day_files(seed, count, dayfiles::cuts),
