@@ -125,6 +125,20 @@ pub struct ServerHello {
     pub refresh: u8,
 }
 
+impl ServerHello {
+    /// The whole handshake message. The length field is that of the session; bounds are not looked at.
+    pub fn message(&self) -> Vec<u8> {
+        let mut body = vec![self.version];
+        body.extend(&self.random);
+        body.push(self.session.len() as u8);
+        body.extend(&self.session);
+        body.push(self.client_key);
+        body.extend(self.suite);
+        body.extend([self.compression, self.numbering, self.refresh]);
+        message(2, &body)
+    }
+}
+
 /// Reads a whole ServerHello message; nothing if it is malformed: a length that is not the rest's, a
 /// session identifier over 8 bytes, a cut, bytes left over.
 pub fn read_server(message: &[u8]) -> Option<ServerHello> {
@@ -301,6 +315,7 @@ mod tests {
     fn server_hellos() {
         let whole = write_server(&[7; 16], &[9; 8], Kind::Sha, 3);
         let read = read_server(&whole).unwrap();
+        assert_eq!(read.message(), whole);
         assert_eq!((read.version, read.client_key, read.suite), (1, 0, [0, 3]));
         assert_eq!((read.random, read.session), (vec![7; 16], vec![9; 8]));
         assert_eq!((read.compression, read.numbering, read.refresh), (0, 2, 3));

@@ -9,6 +9,7 @@
 #![forbid(unsafe_code)]
 
 pub mod alert;
+pub mod coast;
 pub mod console;
 pub mod damage;
 pub mod day;
@@ -37,6 +38,9 @@ pub mod sha1;
 pub mod shapes;
 pub mod ship;
 pub mod shipconsole;
+pub mod shipcover;
+pub mod shipday;
+pub mod shiplines;
 pub mod shore;
 pub mod short;
 pub mod shrink;

@@ -4,8 +4,8 @@ use std::io::{self, BufWriter, Read, Write};
 use std::process::ExitCode;
 
 use peer::{
-    console, dayconsole, dayfiles, days, handshakes, lists, parts, rng, setlines, shipconsole, stored,
-    wire,
+    console, dayconsole, dayfiles, days, handshakes, lists, parts, rng, setlines, shipconsole, shipcover,
+    stored, wire,
 };
 
 const USAGE: &str = "\
@@ -24,6 +24,11 @@ peer days --seed S --calls N [--spent K] [--keep FILE] --console PROGRAM [ARGUME
                                    random days through PROGRAM, each line compared; K days on
                                    which sending numbers run out (else 2 to each 200,000 calls);
                                    FILE gets the few lines that make a difference
+peer shipdays --seed S --calls N [--spent K] [--keep FILE] --console PROGRAM [ARGUMENT ..]
+                                   the same for the ship's console
+peer shiplines --seed S --calls N   the calls of such days, as input for the ship's console
+peer shipcover --seed S --calls N   how often each outcome of each call and each kind of record
+                                   occurs in them, in each state
 peer lists --seed S --count N --lister PROGRAM [ARGUMENT ..]
                                    random datagrams through a frame lister
 peer parts --seed S --count N --gatherer PROGRAM [ARGUMENT ..]
@@ -46,7 +51,10 @@ fn main() -> ExitCode {
         ["dayfiles", "--seed", seed, "--count", count] => day_files(seed, count, dayfiles::lines),
         ["daycuts", "--seed", seed, "--count", count] => day_files(seed, count, dayfiles::cuts),
         ["setlines", "--seed", seed, "--count", count] => set_lines(seed, count),
-        ["days", ..] => return run_days(&words[1..]),
+        ["days", ..] => return run_days::<days::Ashore>(&words[1..]),
+        ["shipdays", ..] => return run_days::<days::Aboard>(&words[1..]),
+        ["shiplines", "--seed", seed, "--calls", calls] => ship_lines(seed, calls),
+        ["shipcover", "--seed", seed, "--calls", calls] => ship_cover(seed, calls),
         ["lists", "--seed", seed, "--count", count, "--lister", ..] => {
             return run_many(lists::run, seed.parse().ok(), count.parse().ok(), &words[6..])
         }
@@ -96,18 +104,41 @@ fn set_lines(seed: &str, count: &str) -> io::Result<()> {
     output.flush()
 }
 
+/// The calls of random days of a ship, without a program; those on which numbers run out are left out.
+fn ship_plan(seed: &str, calls: &str) -> io::Result<days::Plan> {
+    let words = ["--seed", seed, "--calls", calls, "--spent", "0", "--console", "-"];
+    days::Plan::read(&words).ok_or(io::Error::other("seed and calls are numbers"))
+}
+
+fn ship_lines(seed: &str, calls: &str) -> io::Result<()> {
+    let mut output = BufWriter::new(io::stdout().lock());
+    days::make_days::<days::Aboard>(&ship_plan(seed, calls)?, |_, line, _| {
+        output.write_all(&[line, b"\n"].concat()).is_ok()
+    });
+    output.flush()
+}
+
+fn ship_cover(seed: &str, calls: &str) -> io::Result<()> {
+    let mut coverage = shipcover::Coverage::default();
+    days::make_days::<days::Aboard>(&ship_plan(seed, calls)?, |_, line, lines| {
+        coverage.line(line, &lines);
+        true
+    });
+    print(&coverage.to_string())
+}
+
 fn lister() -> io::Result<()> {
     let mut datagram = Vec::new();
     io::stdin().read_to_end(&mut datagram)?;
     print(&wire::list(&datagram))
 }
 
-fn run_days(words: &[&str]) -> ExitCode {
+fn run_days<E: days::End>(words: &[&str]) -> ExitCode {
     let Some(plan) = days::Plan::read(words) else {
         eprint!("{USAGE}");
         return ExitCode::from(2);
     };
-    match days::run(&plan) {
+    match days::run::<E>(&plan) {
         Ok(report) => {
             print!("{report}");
             ExitCode::SUCCESS
