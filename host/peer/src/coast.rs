@@ -26,6 +26,8 @@ pub struct Connection {
     pub server_hello: Vec<u8>,
     /// The shore's Finished message.
     pub finished: Vec<u8>,
+    /// The same with the unit's label, which is wrong.
+    pub mislabelled: Vec<u8>,
     unit_finished: Vec<u8>,
 }
 
@@ -77,8 +79,9 @@ impl Coast {
         };
         let server_hello = server_hello.to_vec();
         let finished = verify(Writer::Shore, &[&heard.message, &server_hello]);
+        let mislabelled = verify(Writer::Unit, &[&heard.message, &server_hello]);
         let unit_finished = verify(Writer::Unit, &[&heard.message, &server_hello, &finished]);
-        Some(Connection { keys, server_hello, finished, unit_finished })
+        Some(Connection { keys, server_hello, finished, mislabelled, unit_finished })
     }
 
     /// The ship goes by this ServerHello now.

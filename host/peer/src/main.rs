@@ -4,8 +4,8 @@ use std::io::{self, BufWriter, Read, Write};
 use std::process::ExitCode;
 
 use peer::{
-    console, dayconsole, dayfiles, days, handshakes, lists, parts, rng, setlines, shipconsole, shipcover,
-    stored, wire,
+    console, dayconsole, dayfiles, days, handshakes, links, lists, parts, rng, setlines, shipconsole,
+    shipcover, shipstored, stored, wire,
 };
 
 const USAGE: &str = "\
@@ -15,6 +15,8 @@ peer day                           the stored day, as input for the console
 peer long-day                      the day on which the sending numbers run out (refusal 15)
 peer handshakes                    two worked handshakes, one `name hex` to a line
 peer shipconsole                   the lines that the ship's console must write for those on stdin
+peer shipday                       the stored day of a ship, as input for that console
+peer ship-long-day                 the day on which its sending numbers run out
 peer dayconsole                    the lines that the day console must write for those on stdin
 peer dayfiles --seed S --count N   lines for the day console: N lists and damaged files
 peer daycuts --seed S --count N     lines for the day console: every cut of N files, mended
@@ -29,6 +31,9 @@ peer shipdays --seed S --calls N [--spent K] [--keep FILE] --console PROGRAM [AR
 peer shiplines --seed S --calls N   the calls of such days, as input for the ship's console
 peer shipcover --seed S --calls N   how often each outcome of each call and each kind of record
                                    occurs in them, in each state
+peer links --seed S --handshakes N [--shore CONSOLE --ship SHIPCONSOLE]
+                                   both ends against each other over a bad link: programs, `-` and
+                                   nothing being the models
 peer lists --seed S --count N --lister PROGRAM [ARGUMENT ..]
                                    random datagrams through a frame lister
 peer parts --seed S --count N --gatherer PROGRAM [ARGUMENT ..]
@@ -43,6 +48,8 @@ fn main() -> ExitCode {
         ["lister"] => lister(),
         ["day"] => print(&stored::day()),
         ["long-day"] => print(&stored::long_day()),
+        ["shipday"] => print(&shipstored::day()),
+        ["ship-long-day"] => print(&shipstored::long_day()),
         ["handshakes"] => print(&handshakes::worked()),
         ["shipconsole"] => {
             shipconsole::run(io::stdin().lock(), BufWriter::new(io::stdout().lock()))
@@ -55,6 +62,12 @@ fn main() -> ExitCode {
         ["shipdays", ..] => return run_days::<days::Aboard>(&words[1..]),
         ["shiplines", "--seed", seed, "--calls", calls] => ship_lines(seed, calls),
         ["shipcover", "--seed", seed, "--calls", calls] => ship_cover(seed, calls),
+        ["links", "--seed", seed, "--handshakes", count] => {
+            return run_links(seed, count, "-", "-")
+        }
+        ["links", "--seed", seed, "--handshakes", count, "--shore", shore, "--ship", ship] => {
+            return run_links(seed, count, shore, ship)
+        }
         ["lists", "--seed", seed, "--count", count, "--lister", ..] => {
             return run_many(lists::run, seed.parse().ok(), count.parse().ok(), &words[6..])
         }
@@ -145,6 +158,34 @@ fn run_days<E: days::End>(words: &[&str]) -> ExitCode {
         }
         Err(difference) => {
             print!("{difference}");
+            ExitCode::FAILURE
+        }
+    }
+}
+
+/// Both ends against each other; `-` is the model, else a program is named.
+fn both_ends(seed: &str, count: &str, shore: &str, ship: &str) -> Result<links::Done, String> {
+    let seed = seed.parse().map_err(|_| "the seed is a number")?;
+    let count = count.parse().map_err(|_| "the count is a number")?;
+    let mut shore: Box<dyn links::Lines> = match shore {
+        "-" => Box::new(console::Console::default()),
+        program => Box::new(links::Program::start(program)?),
+    };
+    let mut ship: Box<dyn links::Lines> = match ship {
+        "-" => Box::new(shipconsole::ShipConsole::default()),
+        program => Box::new(links::Program::start(program)?),
+    };
+    links::run(seed, count, &mut shore, &mut ship)
+}
+
+fn run_links(seed: &str, count: &str, shore: &str, ship: &str) -> ExitCode {
+    match both_ends(seed, count, shore, ship) {
+        Ok(done) => {
+            print!("{done}");
+            ExitCode::SUCCESS
+        }
+        Err(what) => {
+            println!("{what}");
             ExitCode::FAILURE
         }
     }

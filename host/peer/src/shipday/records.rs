@@ -136,9 +136,12 @@ impl Day<'_> {
         self.coast.connection().map_or(Vec::new(), |connection| connection.finished.clone())
     }
 
-    /// Well formed, with one bit of its data wrong.
+    /// Well formed, with one bit of its data wrong, or of the unit's label.
     fn wrong_finished(&mut self) -> Vec<u8> {
         let mut message = self.finished_message();
+        if let (Some(connection), true) = (self.coast.connection(), self.rng.percent(30)) {
+            return connection.mislabelled.clone();
+        }
         if message.len() == 15 {
             message[self.rng.between(3, 14)] ^= 1 << self.rng.under(8);
         }

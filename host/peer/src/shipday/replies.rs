@@ -97,11 +97,14 @@ impl Day<'_> {
         self.receive(&parts.concat());
     }
 
-    /// Well formed and genuine, with one bit of its data wrong.
+    /// Well formed and genuine, with one bit of its data wrong, or of the unit's label.
     fn wrong_finished_in(&mut self, message: &[u8], parts: &mut Vec<Vec<u8>>) {
         let Some(connection) = self.coast.connection_of(message) else { return };
         let mut finished = connection.finished.clone();
         finished[self.rng.between(3, 14)] ^= 1 << self.rng.under(8);
+        if self.rng.percent(30) {
+            finished = connection.mislabelled.clone();
+        }
         parts.truncate(2);
         parts.push(connection.protect(Content::Handshake, true, 0, &finished));
     }
