@@ -9,6 +9,7 @@
 #![forbid(unsafe_code)]
 
 pub mod alert;
+pub mod capture;
 pub mod coast;
 pub mod console;
 pub mod damage;
