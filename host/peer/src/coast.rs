@@ -131,9 +131,8 @@ impl Coast {
     /// The ship's flight: change cipher spec and the right Finished.
     pub fn hear_flight(&self, flight: &[u8]) -> Result<(), String> {
         let connection = self.connection.as_ref().ok_or("nothing was agreed")?;
-        let protect = |bytes| {
-            connection.keys.protect(Writer::Unit, Content::Handshake, false, 0, bytes)
-        };
+        let protect =
+            |bytes| connection.keys.protect(Writer::Unit, Content::Handshake, false, 0, bytes);
         let expected = [
             self.clear(Content::ChangeCipherSpec, true, 1, &[1]),
             protect(&connection.unit_finished),

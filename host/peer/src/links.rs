@@ -11,6 +11,7 @@ use std::fmt;
 use std::io::{BufRead, BufReader, Write};
 use std::process::{Child, ChildStdin, ChildStdout, Command, Stdio};
 
+use crate::capture::{Capture, Way};
 use crate::console::Console;
 use crate::day::word;
 use crate::hex;
@@ -124,7 +125,10 @@ pub struct Faults {
 impl fmt::Display for Done {
     fn fmt(&self, to: &mut fmt::Formatter) -> fmt::Result {
         let Done { seed, handshakes, faultless, .. } = self;
-        writeln!(to, "peer: seed {seed}, {handshakes} handshakes, {faultless} of them without faults")?;
+        writeln!(
+            to,
+            "peer: seed {seed}, {handshakes} handshakes, {faultless} of them without faults"
+        )?;
         writeln!(
             to,
             "hellos {}, said again by the ship {}, both ends started again {}, of it after 17: {}",
@@ -198,6 +202,8 @@ struct Run<'a, A: Lines, B: Lines> {
     orders: BTreeMap<(u64, u16), Vec<u8>>,
     /// Whether the shore has heard a Finished again and has not yet said so.
     owes_warning: bool,
+    /// Gets each datagram that arrives.
+    capture: Option<Capture>,
     done: Done,
 }
 
@@ -207,12 +213,14 @@ const MOST_AGAIN: u64 = 30;
 /// A handshake and its data take no longer.
 const MOST_TICKS: u64 = 20_000;
 
-/// Runs so many handshakes, each with a few data records both ways; an Err says what was wrong.
+/// Runs so many handshakes, each with a few data records both ways; an Err says what was wrong. What
+/// arrives is written to a capture file, where one is wanted.
 pub fn run<A: Lines, B: Lines>(
     seed: u64,
     handshakes: u64,
     shore: &mut A,
     ship: &mut B,
+    capture: Option<Capture>,
 ) -> Result<Done, String> {
     let mut run = Run {
         rng: Rng::new(seed),
@@ -230,6 +238,7 @@ pub fn run<A: Lines, B: Lines>(
         reports: BTreeMap::new(),
         orders: BTreeMap::new(),
         owes_warning: false,
+        capture,
         done: Done { seed, handshakes, ..Done::default() },
     };
     for handshake in 0..handshakes {
@@ -285,7 +294,10 @@ impl<A: Lines, B: Lines> Run<'_, A, B> {
         while reports + orders > 0 || self.ship_state != "Open" || self.under_way() {
             self.now += 1;
             if self.now > end {
-                return Err(format!("no end: shore {}, ship {}", self.shore_state, self.ship_state));
+                return Err(format!(
+                    "no end: shore {}, ship {}",
+                    self.shore_state, self.ship_state
+                ));
             }
             self.deliver(faultless)?;
             if self.shore_state == "Closed" || self.ship_state == "Closed" {
@@ -430,7 +442,8 @@ impl<A: Lines, B: Lines> Run<'_, A, B> {
                 self.done.link.lost += 1;
                 continue;
             }
-            let mut packet = Packet { due: self.now + 1, bytes: bytes.clone(), damaged: false, tag };
+            let mut packet =
+                Packet { due: self.now + 1, bytes: bytes.clone(), damaged: false, tag };
             if self.rng.percent(self.rates.damage) {
                 self.done.link.damaged += 1;
                 packet.damaged = true;
@@ -448,12 +461,19 @@ impl<A: Lines, B: Lines> Run<'_, A, B> {
 
     fn deliver(&mut self, faultless: bool) -> Result<(), String> {
         for packet in due(&mut self.to_shore, self.now) {
+            self.note(Way::ToShore, &packet.bytes)?;
             self.deliver_ashore(packet, faultless)?;
         }
         for packet in due(&mut self.to_ship, self.now) {
+            self.note(Way::ToShip, &packet.bytes)?;
             self.deliver_aboard(packet, faultless)?;
         }
         Ok(())
+    }
+
+    fn note(&mut self, way: Way, datagram: &[u8]) -> Result<(), String> {
+        let noted = self.capture.as_mut().map_or(Ok(()), |capture| capture.add(way, datagram));
+        noted.map_err(|error| format!("capture: {error}"))
     }
 
     fn deliver_ashore(&mut self, packet: Packet, faultless: bool) -> Result<(), String> {
@@ -489,7 +509,8 @@ impl<A: Lines, B: Lines> Run<'_, A, B> {
             self.enter(true, flight, Some((self.opening, Tag::Flight)));
         }
         if faultless && before == "Sent" {
-            let fine = lines[1] == "0 hello" && lines[2] == "1 spec" && lines[3].starts_with("2 open ");
+            let fine =
+                lines[1] == "0 hello" && lines[2] == "1 spec" && lines[3].starts_with("2 open ");
             fine.then_some(()).ok_or(format!("in order, and yet: {lines:?}"))?;
         }
         self.aboard.heard(&packet, &lines, &self.orders, &mut self.done.orders.handed_out)

@@ -4,8 +4,8 @@ use std::io::{self, BufWriter, Read, Write};
 use std::process::ExitCode;
 
 use peer::{
-    console, dayconsole, dayfiles, days, handshakes, links, lists, parts, rng, setlines, shipconsole,
-    shipcover, shipstored, stored, wire,
+    capture, console, dayconsole, dayfiles, days, handshakes, links, lists, parts, rng, setlines,
+    shipconsole, shipcover, shipstored, stored, wire,
 };
 
 const USAGE: &str = "\
@@ -31,9 +31,10 @@ peer shipdays --seed S --calls N [--spent K] [--keep FILE] --console PROGRAM [AR
 peer shiplines --seed S --calls N   the calls of such days, as input for the ship's console
 peer shipcover --seed S --calls N   how often each outcome of each call and each kind of record
                                    occurs in them, in each state
-peer links --seed S --handshakes N [--shore CONSOLE --ship SHIPCONSOLE]
-                                   both ends against each other over a bad link: programs, `-` and
-                                   nothing being the models
+peer links [--seed S] [--handshakes N] [--shore CONSOLE] [--ship SHIPCONSOLE] [--capture FILE]
+                                   both ends against each other over a bad link, else 2,000 times,
+                                   by programs or else by the models; FILE gets what arrives,
+                                   for tshark
 peer lists --seed S --count N --lister PROGRAM [ARGUMENT ..]
                                    random datagrams through a frame lister
 peer parts --seed S --count N --gatherer PROGRAM [ARGUMENT ..]
@@ -62,12 +63,7 @@ fn main() -> ExitCode {
         ["shipdays", ..] => return run_days::<days::Aboard>(&words[1..]),
         ["shiplines", "--seed", seed, "--calls", calls] => ship_lines(seed, calls),
         ["shipcover", "--seed", seed, "--calls", calls] => ship_cover(seed, calls),
-        ["links", "--seed", seed, "--handshakes", count] => {
-            return run_links(seed, count, "-", "-")
-        }
-        ["links", "--seed", seed, "--handshakes", count, "--shore", shore, "--ship", ship] => {
-            return run_links(seed, count, shore, ship)
-        }
+        ["links", ..] => return run_links(&words[1..]),
         ["lists", "--seed", seed, "--count", count, "--lister", ..] => {
             return run_many(lists::run, seed.parse().ok(), count.parse().ok(), &words[6..])
         }
@@ -163,23 +159,31 @@ fn run_days<E: days::End>(words: &[&str]) -> ExitCode {
     }
 }
 
-/// Both ends against each other; `-` is the model, else a program is named.
-fn both_ends(seed: &str, count: &str, shore: &str, ship: &str) -> Result<links::Done, String> {
-    let seed = seed.parse().map_err(|_| "the seed is a number")?;
-    let count = count.parse().map_err(|_| "the count is a number")?;
-    let mut shore: Box<dyn links::Lines> = match shore {
-        "-" => Box::new(console::Console::default()),
-        program => Box::new(links::Program::start(program)?),
-    };
-    let mut ship: Box<dyn links::Lines> = match ship {
-        "-" => Box::new(shipconsole::ShipConsole::default()),
-        program => Box::new(links::Program::start(program)?),
-    };
-    links::run(seed, count, &mut shore, &mut ship)
+/// Both ends against each other; each is the model unless a program is named.
+fn both_ends(words: &[&str]) -> Result<links::Done, String> {
+    let (mut seed, mut count, mut capture) = (1, 2_000, None);
+    let mut shore: Box<dyn links::Lines> = Box::new(console::Console::default());
+    let mut ship: Box<dyn links::Lines> = Box::new(shipconsole::ShipConsole::default());
+    for pair in words.chunks(2) {
+        let told = |error: io::Error| error.to_string();
+        match *pair {
+            ["--seed", value] => seed = value.parse().map_err(|_| "the seed is a number")?,
+            ["--handshakes", value] => {
+                count = value.parse().map_err(|_| "the count is a number")?
+            }
+            ["--shore", program] => shore = Box::new(links::Program::start(program)?),
+            ["--ship", program] => ship = Box::new(links::Program::start(program)?),
+            ["--capture", path] => {
+                capture = Some(capture::Capture::create(path.as_ref()).map_err(told)?)
+            }
+            _ => return Err(USAGE.to_string()),
+        }
+    }
+    links::run(seed, count, &mut shore, &mut ship, capture)
 }
 
-fn run_links(seed: &str, count: &str, shore: &str, ship: &str) -> ExitCode {
-    match both_ends(seed, count, shore, ship) {
+fn run_links(words: &[&str]) -> ExitCode {
+    match both_ends(words) {
         Ok(done) => {
             print!("{done}");
             ExitCode::SUCCESS

@@ -108,7 +108,9 @@ fn sent(day: &mut ShipScript) {
     day.line("again 45");
     day.line("again 44");
     day.hello(0x20, &[2], 3);
-    day.heading("Sent: a HelloRequest is ignored; data, change cipher spec and protection are not for now");
+    day.heading(
+        "Sent: a HelloRequest is ignored; data, change cipher spec and protection are not for now",
+    );
     day.clear(Content::Handshake, 0, &REQUEST);
     day.clear(Content::Handshake, 0, &[0, 0]);
     day.clear(Content::Data, 0, &[1]);
@@ -158,7 +160,9 @@ fn server_hellos(day: &mut ShipScript) {
 }
 
 fn replied(day: &mut ShipScript) {
-    day.heading("Replied: HelloRequest, warning, protected records; another ServerHello; a wrong one");
+    day.heading(
+        "Replied: HelloRequest, warning, protected records; another ServerHello; a wrong one",
+    );
     day.clear(Content::Handshake, 0, &REQUEST);
     day.clear_alert(1, 90, 0);
     day.finished(0);
@@ -246,7 +250,9 @@ fn open(day: &mut ShipScript) {
 }
 
 fn window(day: &mut ShipScript) {
-    day.heading("9 to 14 are lost, 15 to 17 arrive, 14 and 12 come late, from before the refresh at 16");
+    day.heading(
+        "9 to 14 are lost, 15 to 17 arrive, 14 and 12 come late, from before the refresh at 16",
+    );
     for number in [15, 16, 17, 14, 12] {
         day.data(number, "order");
     }
@@ -349,7 +355,9 @@ fn reply_in_parts(day: &mut ShipScript) {
 }
 
 fn everything_in_one_datagram(day: &mut ShipScript) {
-    day.heading("reply, request, data and a critical alert in one datagram: the flight is put out, Closed");
+    day.heading(
+        "reply, request, data and a critical alert in one datagram: the flight is put out, Closed",
+    );
     day.hello(0x31, &[2], 16);
     let message = day.server_hello(0x85, Kind::Sha80, 16);
     let connection = day.coast.connection_of(&message).expect("a hello was said");

@@ -9,7 +9,7 @@ fn both_ends_over_a_bad_link() {
     let count = std::env::var("HANDSHAKES").ok().and_then(|text| text.parse().ok());
     let count = count.unwrap_or(2_000);
     let (mut shore, mut ship) = (Console::default(), ShipConsole::default());
-    let done = links::run(1, count, &mut shore, &mut ship).unwrap();
+    let done = links::run(1, count, &mut shore, &mut ship, None).unwrap();
     print!("{done}");
     assert_eq!((done.handshakes, done.faultless), (count, count.div_ceil(4)));
     let most = done.reports.sent + done.orders.sent;

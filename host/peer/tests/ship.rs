@@ -158,7 +158,8 @@ fn a_finished_of_the_wrong_label_closes() {
 fn hello_requests() {
     let mut script = sent();
     let reply = script.reply(0x80, Kind::Sha, 3);
-    for (part, name) in [(&reply[..0], "Sent"), (&reply[..40], "Replied"), (&reply[40..46], "Spec")] {
+    for (part, name) in [(&reply[..0], "Sent"), (&reply[..40], "Replied"), (&reply[40..46], "Spec")]
+    {
         if !part.is_empty() {
             script.receive(part);
         }
@@ -250,7 +251,10 @@ fn the_long_day_spends_both_numbers_and_nothing_closes() {
     assert!(text.contains(" sent=-,65536 ") && text.contains(" sent=65536,2 "));
     assert!(text.contains("again ok\nout 43") && text.contains("again ok\nout c1"));
     let last = text.lines().last().unwrap();
-    assert!(last.contains("state Opening n=0 marks=0000000000000001 arrived=1 sent=2,2 "), "{last}");
+    assert!(
+        last.contains("state Opening n=0 marks=0000000000000001 arrived=1 sent=2,2 "),
+        "{last}"
+    );
 }
 
 /// All that can happen to a ship, but for spent numbers: what, in which states, with which outcomes.
@@ -323,7 +327,8 @@ fn table() -> BTreeSet<Cell> {
     for row in TABLE.lines().filter(|row| !row.is_empty()) {
         let mut words = row.split_whitespace();
         let what = words.next().unwrap().replace('_', " ");
-        let is_state = |word: &&str| word.starts_with(char::is_uppercase) || ["each", "live"].contains(word);
+        let is_state =
+            |word: &&str| word.starts_with(char::is_uppercase) || ["each", "live"].contains(word);
         let (states, outcomes): (Vec<&str>, Vec<&str>) = words.partition(is_state);
         let all = format!("{LIVE} Closed Barred");
         let states = states.iter().flat_map(|state| match *state {

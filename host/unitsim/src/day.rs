@@ -24,7 +24,6 @@ pub struct Day<'a> {
     unconfirmed: usize,
     pub sent: usize,
     pub said_again: usize,
-    pub reboots: usize,
 }
 
 /// A hello is said again as it is so many times, then another one is said.
@@ -49,7 +48,6 @@ impl Day<'_> {
             unconfirmed: 0,
             sent: 0,
             said_again: 0,
-            reboots: 0,
             options,
         })
     }
@@ -57,9 +55,6 @@ impl Day<'_> {
     pub fn run(&mut self) -> Result<(), String> {
         self.shake_hands()?;
         for index in 0..self.options.reports {
-            if index > 0 && self.options.reboot.is_some_and(|after| index % after == 0) {
-                self.reboot()?;
-            }
             self.report(index)?;
         }
         for datagram in self.out.empty() {
@@ -100,13 +95,6 @@ impl Day<'_> {
         let datagram = self.ship.again().map_err(refused)?;
         self.said_again += 1;
         self.send(datagram)
-    }
-
-    /// Power is lost on board: all is forgotten but the session, and the ship says hello anew.
-    fn reboot(&mut self) -> Result<(), String> {
-        self.reboots += 1;
-        (self.other, self.unconfirmed) = (None, 0);
-        self.shake_hands()
     }
 
     /// Until the gateway is known to have our Finished, the flight goes before each report (10.4).

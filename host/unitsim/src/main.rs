@@ -47,9 +47,6 @@ fn run(options: &Options) -> Result<(), String> {
         "{}: {} reports sent; the link lost {}, repeated {}, delayed {}, reordered {}, damaged {}{forwarded}",
         options.ship, day.sent, did.lost, did.repeated, did.delayed, did.reordered, did.damaged
     );
-    if day.reboots > 0 {
-        println!("{}: rebooted {} times", options.ship, day.reboots);
-    }
     println!("{}: said again {} hellos and flights", options.ship, day.said_again);
     println!(
         "{}: to be handed out {}, forged {}, too old {}, repeated {}",

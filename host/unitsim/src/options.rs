@@ -23,8 +23,6 @@ unitsim: a ship's unit behind a bad link, for trying a gateway.
                          places late, once the gateway has our Finished  [0]
     --every MILLISECONDS pause behind each datagram  [1]
     --timer MILLISECONDS how long the ship waits for a reply before it says its hello again  [20]
-    --reboot N           after each N reports the ship forgets all but its session and says hello anew;
-                         the gateway must take a hello beside an open connection
     --mac sha80|sha      [sha80]
     --refresh N          the key refresh  [4]
     --expected FILE      writes what must be in the list: number, length, bytes in hexadecimal
@@ -48,7 +46,6 @@ pub struct Options {
     pub rates: Rates,
     pub every: Duration,
     pub timer: Duration,
-    pub reboot: Option<usize>,
     pub kind: Kind,
     pub refresh: u8,
     pub expected: Option<PathBuf>,
@@ -71,7 +68,6 @@ pub fn read(mut words: impl Iterator<Item = String>) -> Result<Option<Options>, 
     let (mut to, mut sessions, mut ship) = (None, None, None);
     let (mut expected, mut capture, mut close) = (None, None, false);
     let (mut reports, mut seed, mut every, mut timer) = (300, 1, 1, 20);
-    let mut reboot = None;
     let mut rates = Rates::default();
     let (mut kind, mut refresh) = (Kind::Sha80, 4);
     while let Some(word) = words.next() {
@@ -99,7 +95,6 @@ pub fn read(mut words: impl Iterator<Item = String>) -> Result<Option<Options>, 
             "--forward" => rates.forward = percent(&word, &value)?,
             "--every" => every = number(&word, &value)?,
             "--timer" => timer = number(&word, &value)?,
-            "--reboot" => reboot = Some(number(&word, &value)?),
             "--refresh" => refresh = number(&word, &value)?,
             "--mac" if value == "sha80" => kind = Kind::Sha80,
             "--mac" if value == "sha" => kind = Kind::Sha,
@@ -111,9 +106,6 @@ pub fn read(mut words: impl Iterator<Item = String>) -> Result<Option<Options>, 
     let sessions = sessions.ok_or("--sessions FILE is missing")?;
     let (session, secret, width) = planted(&sessions, &ship)?;
     let (every, timer) = (Duration::from_millis(every), Duration::from_millis(timer));
-    if reboot == Some(0) {
-        return Err("--reboot 0 is no day".to_string());
-    }
     Ok(Some(Options {
         to,
         session,
@@ -125,7 +117,6 @@ pub fn read(mut words: impl Iterator<Item = String>) -> Result<Option<Options>, 
         rates,
         every,
         timer,
-        reboot,
         kind,
         refresh,
         expected,

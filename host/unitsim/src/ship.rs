@@ -189,6 +189,9 @@ mod tests {
         let mut ship = Judged { ship: fresh(32), judge: fresh(64), difference: None };
         day(&mut ship);
         let difference = ship.difference.unwrap();
-        assert!(difference.starts_with("receive: the ship Records { answers: [Err(10)]"), "{difference}");
+        assert!(
+            difference.starts_with("receive: the ship Records { answers: [Err(10)]"),
+            "{difference}"
+        );
     }
 }

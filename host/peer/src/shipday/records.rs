@@ -158,7 +158,8 @@ impl Day<'_> {
             3 if message.len() == 15 => message[self.rng.under(3)] ^= 1,
             4 => {
                 let connection = self.coast.connection();
-                message = connection.map_or(Vec::new(), |connection| connection.server_hello.clone())
+                message =
+                    connection.map_or(Vec::new(), |connection| connection.server_hello.clone())
             }
             _ => message = vec![self.rng.pick(&[1, 2, 11, 14, 20]), 0, 0],
         }
@@ -175,7 +176,8 @@ impl Day<'_> {
             return wire::write(type_byte, number, &self.rng.bytes(24));
         };
         let mut keys = connection.keys.clone();
-        let code = |keys: &Keys, writer, type_byte, number| keys.code(writer, type_byte, number, &bytes);
+        let code =
+            |keys: &Keys, writer, type_byte, number| keys.code(writer, type_byte, number, &bytes);
         let right = code(&keys, Writer::Shore, type_byte, number);
         let wrong = match self.rng.under(9) {
             0 => code(&keys, Writer::Unit, type_byte, number),
