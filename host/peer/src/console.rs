@@ -9,10 +9,10 @@ use crate::messages;
 use crate::shore::{Answer, Judged, Received, Refusal, Shore, State, Tally};
 use crate::short::Gathering;
 
-const LONGEST_LINE: usize = 8192;
-const MOST_ROOM: usize = 2048;
+pub(crate) const LONGEST_LINE: usize = 8192;
+pub(crate) const MOST_ROOM: usize = 2048;
 /// Nine digits.
-const MOST_NUMBER: usize = 999_999_999;
+pub(crate) const MOST_NUMBER: usize = 999_999_999;
 
 #[derive(Default)]
 pub struct Console {
@@ -36,14 +36,23 @@ enum Call {
 }
 
 /// Runs every line of the input.
-pub fn run(mut input: impl BufRead, mut output: impl Write) -> io::Result<()> {
+pub fn run(input: impl BufRead, output: impl Write) -> io::Result<()> {
     let mut console = Console::default();
+    run_lines(input, output, |line| console.line(line))
+}
+
+/// Hands on each line, without its newline, and writes the lines that it gives.
+pub(crate) fn run_lines(
+    mut input: impl BufRead,
+    mut output: impl Write,
+    mut given: impl FnMut(&[u8]) -> Vec<String>,
+) -> io::Result<()> {
     let mut line = Vec::new();
     while input.read_until(b'\n', &mut line)? > 0 {
         if line.last() == Some(&b'\n') {
             line.pop();
         }
-        for written in console.line(&line) {
+        for written in given(&line) {
             writeln!(output, "{written}")?;
         }
         line.clear();
@@ -121,7 +130,7 @@ impl Console {
     }
 }
 
-fn bad_line() -> Vec<String> {
+pub(crate) fn bad_line() -> Vec<String> {
     vec!["bad line".to_string()]
 }
 
@@ -181,14 +190,14 @@ fn run_call(
     }
 }
 
-fn write_done(call: &str, done: Result<(), Refusal>, lines: &mut Vec<String>) {
+pub(crate) fn write_done(call: &str, done: Result<(), Refusal>, lines: &mut Vec<String>) {
     lines.push(match done {
         Ok(()) => format!("{call} ok"),
         Err(refusal) => refused(call, refusal),
     });
 }
 
-fn write_sent(call: &str, sent: Result<Vec<u8>, Refusal>, lines: &mut Vec<String>) {
+pub(crate) fn write_sent(call: &str, sent: Result<Vec<u8>, Refusal>, lines: &mut Vec<String>) {
     match sent {
         Ok(record) => {
             lines.push(format!("{call} ok"));
@@ -278,7 +287,7 @@ fn read(line: &[u8]) -> Option<Call> {
     }
 }
 
-fn is_protected(word: &[u8]) -> Option<bool> {
+pub(crate) fn is_protected(word: &[u8]) -> Option<bool> {
     match word {
         b"clear" => Some(false),
         b"protected" => Some(true),
@@ -287,7 +296,7 @@ fn is_protected(word: &[u8]) -> Option<bool> {
 }
 
 /// Lowercase hex, `-` for the empty string; an empty word is no byte string.
-fn bytes(word: &[u8]) -> Option<Vec<u8>> {
+pub(crate) fn bytes(word: &[u8]) -> Option<Vec<u8>> {
     match word {
         b"-" => Some(Vec::new()),
         b"" => None,
@@ -296,7 +305,7 @@ fn bytes(word: &[u8]) -> Option<Vec<u8>> {
 }
 
 /// Decimal without sign or leading zero, at most nine digits, at most `most`.
-fn number(word: &[u8], most: usize) -> Option<usize> {
+pub(crate) fn number(word: &[u8], most: usize) -> Option<usize> {
     let canonical = word == b"0" || !word.starts_with(b"0");
     if word.is_empty() || word.len() > 9 || !canonical || !word.iter().all(u8::is_ascii_digit) {
         return None;

@@ -4,17 +4,62 @@
 //! program, one reads the program's lines and compares. What is expected is always queued before
 //! the call is, so that the comparer never waits for a line whose call was not yet made.
 
-use std::io::{BufRead, BufReader, BufWriter, Write};
+use std::io::{self, BufRead, BufReader, BufWriter, Write};
 use std::path::PathBuf;
 use std::process::{Child, ChildStdout, Command, Stdio};
-use std::sync::mpsc::{sync_channel, Receiver, SyncSender};
+use std::sync::mpsc::{sync_channel, Receiver};
 use std::thread;
 
-use crate::console::Console;
-use crate::day;
+use crate::console::{self, Console};
+use crate::day::{self, Sink};
 use crate::report::{Counts, Difference, Report};
 use crate::rng::Rng;
+use crate::shipconsole::{self, ShipConsole};
+use crate::shipday;
 use crate::shrink;
+
+/// A console, and the days that are made for it.
+pub trait End {
+    type Model: Default;
+    fn random(seed: u64, model: &mut Self::Model, sink: &mut Sink);
+    fn spent(seed: u64, protected: bool, model: &mut Self::Model, sink: &mut Sink);
+    fn run(input: &[u8], output: &mut Vec<u8>) -> io::Result<()>;
+}
+
+pub struct Ashore;
+pub struct Aboard;
+
+impl End for Ashore {
+    type Model = Console;
+
+    fn random(seed: u64, model: &mut Console, sink: &mut Sink) {
+        day::random(seed, model, sink)
+    }
+
+    fn spent(seed: u64, protected: bool, model: &mut Console, sink: &mut Sink) {
+        day::spent(seed, protected, model, sink)
+    }
+
+    fn run(input: &[u8], output: &mut Vec<u8>) -> io::Result<()> {
+        console::run(input, output)
+    }
+}
+
+impl End for Aboard {
+    type Model = ShipConsole;
+
+    fn random(seed: u64, model: &mut ShipConsole, sink: &mut Sink) {
+        shipday::random(seed, model, sink)
+    }
+
+    fn spent(seed: u64, protected: bool, model: &mut ShipConsole, sink: &mut Sink) {
+        shipday::spent(seed, protected, model, sink)
+    }
+
+    fn run(input: &[u8], output: &mut Vec<u8>) -> io::Result<()> {
+        shipconsole::run(input, output)
+    }
+}
 
 /// What to run.
 #[derive(Clone, Debug, PartialEq, Eq)]
@@ -64,7 +109,7 @@ impl Plan {
 }
 
 /// Runs the plan; an Err is a difference, or a program that could not be run.
-pub fn run(plan: &Plan) -> Result<Report, Box<Difference>> {
+pub fn run<E: End>(plan: &Plan) -> Result<Report, Box<Difference>> {
     let mut child = match start(plan) {
         Ok(child) => child,
         Err(error) => return Err(Box::new(could_not_start(plan, &error.to_string()))),
@@ -77,7 +122,11 @@ pub fn run(plan: &Plan) -> Result<Report, Box<Difference>> {
     let writer = thread::spawn(move || write_all(BufWriter::new(stdin), &written, last_newline));
     let for_comparer = plan.clone();
     let comparer = thread::spawn(move || compare(&for_comparer, child, stdout, &expected));
-    let (days, spending_calls) = make_days(plan, expect, write);
+    let (days, spending_calls) = make_days::<E>(plan, |day, line, lines| {
+        let sent = expect.send(Expected { day, line: line.to_vec(), lines });
+        sent.is_ok() && write.send(line.to_vec()).is_ok()
+    });
+    drop((expect, write));
     writer.join().expect("the writer does not panic");
     match comparer.join().expect("the comparer does not panic") {
         Ok(counts) => {
@@ -85,7 +134,7 @@ pub fn run(plan: &Plan) -> Result<Report, Box<Difference>> {
             Ok(Report { seed, calls, days, spending_calls, counts })
         }
         Err(mut difference) => {
-            difference.few = shrink::shrink(&plan.program, &difference.days_lines);
+            difference.few = shrink::shrink::<E>(&plan.program, &difference.days_lines);
             keep(plan, &difference.few);
             Err(difference)
         }
@@ -101,17 +150,17 @@ fn start(plan: &Plan) -> std::io::Result<Child> {
 }
 
 /// Makes ordinary days until enough calls are made, then the days that spend the numbers.
-fn make_days(plan: &Plan, expect: SyncSender<Expected>, write: SyncSender<Vec<u8>>) -> (u64, u64) {
+/// Each call is handed on with its day and its lines, until no more are wanted.
+pub fn make_days<E: End>(
+    plan: &Plan,
+    mut hand_on: impl FnMut(u64, &[u8], Vec<String>) -> bool,
+) -> (u64, u64) {
     let mut seeds = Rng::new(plan.seed);
-    let mut model = Console::default();
+    let mut model = E::Model::default();
     let (mut days, mut calls, mut gone) = (0, 0, false);
-    let hand_on = |day: u64, line: &[u8], lines: Vec<String>| {
-        let sent = expect.send(Expected { day, line: line.to_vec(), lines });
-        sent.is_ok() && write.send(line.to_vec()).is_ok()
-    };
     while calls < plan.calls && !gone {
         days += 1;
-        day::random(seeds.draw(), &mut model, &mut |line, lines| {
+        E::random(seeds.draw(), &mut model, &mut |line, lines| {
             gone = !hand_on(days, line, lines);
             calls += 1;
             !gone && calls < plan.calls
@@ -123,7 +172,7 @@ fn make_days(plan: &Plan, expect: SyncSender<Expected>, write: SyncSender<Vec<u8
             break;
         }
         days += 1;
-        day::spent(seeds.draw(), turn % 2 == 0, &mut model, &mut |line, lines| {
+        E::spent(seeds.draw(), turn % 2 == 0, &mut model, &mut |line, lines| {
             gone = !hand_on(days, line, lines);
             calls += 1;
             !gone

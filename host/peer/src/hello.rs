@@ -112,6 +112,64 @@ pub fn write_server(random: &[u8], session: &[u8], kind: Kind, refresh: u8) -> V
     message(2, &body)
 }
 
+/// What a ServerHello says, in the order of its layout (10.5.1.3).
+#[derive(Clone, PartialEq, Eq, Debug)]
+pub struct ServerHello {
+    pub version: u8,
+    pub random: Vec<u8>,
+    pub session: Vec<u8>,
+    pub client_key: u8,
+    pub suite: [u8; 2],
+    pub compression: u8,
+    pub numbering: u8,
+    pub refresh: u8,
+}
+
+impl ServerHello {
+    /// The whole handshake message. The length field is that of the session; bounds are not looked at.
+    pub fn message(&self) -> Vec<u8> {
+        let mut body = vec![self.version];
+        body.extend(&self.random);
+        body.push(self.session.len() as u8);
+        body.extend(&self.session);
+        body.push(self.client_key);
+        body.extend(self.suite);
+        body.extend([self.compression, self.numbering, self.refresh]);
+        message(2, &body)
+    }
+}
+
+/// Reads a whole ServerHello message; nothing if it is malformed: a length that is not the rest's, a
+/// session identifier over 8 bytes, a cut, bytes left over.
+pub fn read_server(message: &[u8]) -> Option<ServerHello> {
+    let mut message = Reader { left: message };
+    if message.uint8()? != 2 {
+        return None;
+    }
+    let mut body = message.list16()?;
+    message.end()?;
+
+    let version = body.uint8()?;
+    let random = body.take(16)?.to_vec();
+    let session = body.list8(0, 8)?.left.to_vec();
+    let client_key = body.uint8()?;
+    let suite = [body.uint8()?, body.uint8()?];
+    let compression = body.uint8()?;
+    let numbering = body.uint8()?;
+    let refresh = body.uint8()?;
+    body.end()?;
+    Some(ServerHello {
+        version,
+        random,
+        session,
+        client_key,
+        suite,
+        compression,
+        numbering,
+        refresh,
+    })
+}
+
 /// A handshake message: type, length, body (10.5).
 pub fn message(kind: u8, body: &[u8]) -> Vec<u8> {
     let mut message = vec![kind];
@@ -251,6 +309,27 @@ mod tests {
         assert_eq!(padded(211).len(), 256);
         assert!(read(&padded(211)).is_some());
         assert!(read(&padded(212)).is_none());
+    }
+
+    #[test]
+    fn server_hellos() {
+        let whole = write_server(&[7; 16], &[9; 8], Kind::Sha, 3);
+        let read = read_server(&whole).unwrap();
+        assert_eq!(read.message(), whole);
+        assert_eq!((read.version, read.client_key, read.suite), (1, 0, [0, 3]));
+        assert_eq!((read.random, read.session), (vec![7; 16], vec![9; 8]));
+        assert_eq!((read.compression, read.numbering, read.refresh), (0, 2, 3));
+        for cut in 0..whole.len() {
+            assert!(read_server(&whole[..cut]).is_none());
+            assert!(cut < 3 || read_server(&message(2, &whole[3..cut])).is_none());
+        }
+        assert!(read_server(&[&whole[..], &[0]].concat()).is_none());
+        assert!(read_server(&message(2, &[&whole[3..], &[0]].concat())).is_none());
+        assert!(read_server(&message(1, &whole[3..])).is_none());
+        let of_session = |size: usize| write_server(&[7; 16], &vec![9; size], Kind::Sha, 3);
+        assert!(read_server(&of_session(0)).is_some());
+        assert!(read_server(&of_session(7)).is_some());
+        assert!(read_server(&of_session(9)).is_none());
     }
 
     #[test]

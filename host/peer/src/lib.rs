@@ -9,6 +9,8 @@
 #![forbid(unsafe_code)]
 
 pub mod alert;
+pub mod capture;
+pub mod coast;
 pub mod console;
 pub mod damage;
 pub mod day;
@@ -23,6 +25,7 @@ pub mod hex;
 pub mod hmac;
 pub mod keys;
 pub mod lines;
+pub mod links;
 pub mod lists;
 pub mod macs;
 pub mod messages;
@@ -35,6 +38,13 @@ pub mod setlines;
 pub mod sets;
 pub mod sha1;
 pub mod shapes;
+pub mod ship;
+pub mod shipconsole;
+pub mod shipcover;
+pub mod shipday;
+pub mod shiplines;
+pub mod shipscript;
+pub mod shipstored;
 pub mod shore;
 pub mod short;
 pub mod shrink;

@@ -113,7 +113,7 @@ fn with_number(rng: &mut Rng) -> Vec<u8> {
 }
 
 /// A good line with one byte changed, taken out or put in.
-fn spoiled(rng: &mut Rng, good: &[u8]) -> Vec<u8> {
+pub(crate) fn spoiled(rng: &mut Rng, good: &[u8]) -> Vec<u8> {
     let mut line = good.to_vec();
     if line.is_empty() {
         return line;

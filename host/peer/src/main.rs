@@ -4,7 +4,8 @@ use std::io::{self, BufWriter, Read, Write};
 use std::process::ExitCode;
 
 use peer::{
-    console, dayconsole, dayfiles, days, handshakes, lists, parts, rng, setlines, stored, wire,
+    capture, console, dayconsole, dayfiles, days, handshakes, links, lists, parts, rng, setlines,
+    shipconsole, shipcover, shipstored, stored, wire,
 };
 
 const USAGE: &str = "\
@@ -13,6 +14,9 @@ peer lister                        the lines that the frame lister must write fo
 peer day                           the stored day, as input for the console
 peer long-day                      the day on which the sending numbers run out (refusal 15)
 peer handshakes                    two worked handshakes, one `name hex` to a line
+peer shipconsole                   the lines that the ship's console must write for those on stdin
+peer shipday                       the stored day of a ship, as input for that console
+peer ship-long-day                 the day on which its sending numbers run out
 peer dayconsole                    the lines that the day console must write for those on stdin
 peer dayfiles --seed S --count N   lines for the day console: N lists and damaged files
 peer daycuts --seed S --count N     lines for the day console: every cut of N files, mended
@@ -22,6 +26,15 @@ peer days --seed S --calls N [--spent K] [--keep FILE] --console PROGRAM [ARGUME
                                    random days through PROGRAM, each line compared; K days on
                                    which sending numbers run out (else 2 to each 200,000 calls);
                                    FILE gets the few lines that make a difference
+peer shipdays --seed S --calls N [--spent K] [--keep FILE] --console PROGRAM [ARGUMENT ..]
+                                   the same for the ship's console
+peer shiplines --seed S --calls N   the calls of such days, as input for the ship's console
+peer shipcover --seed S --calls N   how often each outcome of each call and each kind of record
+                                   occurs in them, in each state
+peer links [--seed S] [--handshakes N] [--shore CONSOLE] [--ship SHIPCONSOLE] [--capture FILE]
+                                   both ends against each other over a bad link, else 2,000 times,
+                                   by programs or else by the models; FILE gets what arrives,
+                                   for tshark
 peer lists --seed S --count N --lister PROGRAM [ARGUMENT ..]
                                    random datagrams through a frame lister
 peer parts --seed S --count N --gatherer PROGRAM [ARGUMENT ..]
@@ -36,12 +49,21 @@ fn main() -> ExitCode {
         ["lister"] => lister(),
         ["day"] => print(&stored::day()),
         ["long-day"] => print(&stored::long_day()),
+        ["shipday"] => print(&shipstored::day()),
+        ["ship-long-day"] => print(&shipstored::long_day()),
         ["handshakes"] => print(&handshakes::worked()),
+        ["shipconsole"] => {
+            shipconsole::run(io::stdin().lock(), BufWriter::new(io::stdout().lock()))
+        }
         ["dayconsole"] => dayconsole::run(io::stdin().lock(), BufWriter::new(io::stdout().lock())),
         ["dayfiles", "--seed", seed, "--count", count] => day_files(seed, count, dayfiles::lines),
         ["daycuts", "--seed", seed, "--count", count] => day_files(seed, count, dayfiles::cuts),
         ["setlines", "--seed", seed, "--count", count] => set_lines(seed, count),
-        ["days", ..] => return run_days(&words[1..]),
+        ["days", ..] => return run_days::<days::Ashore>(&words[1..]),
+        ["shipdays", ..] => return run_days::<days::Aboard>(&words[1..]),
+        ["shiplines", "--seed", seed, "--calls", calls] => ship_lines(seed, calls),
+        ["shipcover", "--seed", seed, "--calls", calls] => ship_cover(seed, calls),
+        ["links", ..] => return run_links(&words[1..]),
         ["lists", "--seed", seed, "--count", count, "--lister", ..] => {
             return run_many(lists::run, seed.parse().ok(), count.parse().ok(), &words[6..])
         }
@@ -91,24 +113,83 @@ fn set_lines(seed: &str, count: &str) -> io::Result<()> {
     output.flush()
 }
 
+/// The calls of random days of a ship, without a program; those on which numbers run out are left out.
+fn ship_plan(seed: &str, calls: &str) -> io::Result<days::Plan> {
+    let words = ["--seed", seed, "--calls", calls, "--spent", "0", "--console", "-"];
+    days::Plan::read(&words).ok_or(io::Error::other("seed and calls are numbers"))
+}
+
+fn ship_lines(seed: &str, calls: &str) -> io::Result<()> {
+    let mut output = BufWriter::new(io::stdout().lock());
+    days::make_days::<days::Aboard>(&ship_plan(seed, calls)?, |_, line, _| {
+        output.write_all(&[line, b"\n"].concat()).is_ok()
+    });
+    output.flush()
+}
+
+fn ship_cover(seed: &str, calls: &str) -> io::Result<()> {
+    let mut coverage = shipcover::Coverage::default();
+    days::make_days::<days::Aboard>(&ship_plan(seed, calls)?, |_, line, lines| {
+        coverage.line(line, &lines);
+        true
+    });
+    print(&coverage.to_string())
+}
+
 fn lister() -> io::Result<()> {
     let mut datagram = Vec::new();
     io::stdin().read_to_end(&mut datagram)?;
     print(&wire::list(&datagram))
 }
 
-fn run_days(words: &[&str]) -> ExitCode {
+fn run_days<E: days::End>(words: &[&str]) -> ExitCode {
     let Some(plan) = days::Plan::read(words) else {
         eprint!("{USAGE}");
         return ExitCode::from(2);
     };
-    match days::run(&plan) {
+    match days::run::<E>(&plan) {
         Ok(report) => {
             print!("{report}");
             ExitCode::SUCCESS
         }
         Err(difference) => {
             print!("{difference}");
+            ExitCode::FAILURE
+        }
+    }
+}
+
+/// Both ends against each other; each is the model unless a program is named.
+fn both_ends(words: &[&str]) -> Result<links::Done, String> {
+    let (mut seed, mut count, mut capture) = (1, 2_000, None);
+    let mut shore: Box<dyn links::Lines> = Box::new(console::Console::default());
+    let mut ship: Box<dyn links::Lines> = Box::new(shipconsole::ShipConsole::default());
+    for pair in words.chunks(2) {
+        let told = |error: io::Error| error.to_string();
+        match *pair {
+            ["--seed", value] => seed = value.parse().map_err(|_| "the seed is a number")?,
+            ["--handshakes", value] => {
+                count = value.parse().map_err(|_| "the count is a number")?
+            }
+            ["--shore", program] => shore = Box::new(links::Program::start(program)?),
+            ["--ship", program] => ship = Box::new(links::Program::start(program)?),
+            ["--capture", path] => {
+                capture = Some(capture::Capture::create(path.as_ref()).map_err(told)?)
+            }
+            _ => return Err(USAGE.to_string()),
+        }
+    }
+    links::run(seed, count, &mut shore, &mut ship, capture)
+}
+
+fn run_links(words: &[&str]) -> ExitCode {
+    match both_ends(words) {
+        Ok(done) => {
+            print!("{done}");
+            ExitCode::SUCCESS
+        }
+        Err(what) => {
+            println!("{what}");
             ExitCode::FAILURE
         }
     }

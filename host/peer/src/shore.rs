@@ -100,8 +100,8 @@ struct Sending {
 }
 
 const SPENT: u32 = 65536;
-const ROOM_OF_RECEIVE: usize = 128;
-const LARGEST_DATA: usize = 1300;
+pub(crate) const ROOM_OF_RECEIVE: usize = 128;
+pub(crate) const LARGEST_DATA: usize = 1300;
 /// How many of the records that we sent an alert may be about.
 const RECORDS_SENT: usize = 8;
 
@@ -466,12 +466,12 @@ impl Shore {
 }
 
 /// One record more that we sent; of nine the oldest is forgotten.
-fn remember(records_sent: &mut Vec<Checksum>, record: &[u8]) {
+pub(crate) fn remember(records_sent: &mut Vec<Checksum>, record: &[u8]) {
     records_sent.insert(0, alert::checksum(record));
     records_sent.truncate(RECORDS_SENT);
 }
 
-fn unspent(next: u32) -> Result<u16, Refusal> {
+pub(crate) fn unspent(next: u32) -> Result<u16, Refusal> {
     if next == SPENT {
         return Err(Refusal::Spent);
     }

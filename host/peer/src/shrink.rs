@@ -4,16 +4,16 @@ use std::io::Write;
 use std::process::{Command, Stdio};
 use std::thread;
 
-use crate::console;
+use crate::days::End;
 
 /// All trials together run at most so many lines.
 const MOST_LINES: usize = 1_000_000;
 
 /// As few of the lines as can be found by leaving out halves, quarters and so on, then each.
-pub fn shrink(program: &[String], lines: &[Vec<u8>]) -> Vec<Vec<u8>> {
+pub fn shrink<E: End>(program: &[String], lines: &[Vec<u8>]) -> Vec<Vec<u8>> {
     let mut lines = lines.to_vec();
     let mut tried = 0;
-    if !differs(program, &lines) {
+    if !differs::<E>(program, &lines) {
         return Vec::new();
     }
     let mut size = lines.len();
@@ -23,7 +23,7 @@ pub fn shrink(program: &[String], lines: &[Vec<u8>]) -> Vec<Vec<u8>> {
             tried += lines.len();
             let end = lines.len().min(place + size);
             let fewer = [&lines[..place], &lines[end..]].concat();
-            if differs(program, &fewer) {
+            if differs::<E>(program, &fewer) {
                 lines = fewer;
             } else {
                 place = end;
@@ -40,10 +40,10 @@ pub fn text(lines: &[Vec<u8>]) -> Vec<u8> {
 }
 
 /// Whether the program writes anything but what the model writes.
-fn differs(program: &[String], lines: &[Vec<u8>]) -> bool {
+fn differs<E: End>(program: &[String], lines: &[Vec<u8>]) -> bool {
     let input = text(lines);
     let mut expected = Vec::new();
-    console::run(&input[..], &mut expected).expect("memory takes all lines");
+    E::run(&input[..], &mut expected).expect("memory takes all lines");
     output(program, input) != Some(expected)
 }
 

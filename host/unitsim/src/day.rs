@@ -1,33 +1,35 @@
-//! A ship's day: hello, Finished, and reports, all over the bad link (WTLS 10.4).
+//! A ship's day: hello, Finished, and reports, all over the bad link (WTLS 10.4). What is to be said
+//! again, and when, is decided here; what it is, the ship knows.
 
 use crate::link::Link;
 use crate::options::Options;
 use crate::shore::Gateway;
 use peer::rng::Rng;
-use peer::unit::{Hello, Unit};
-use peer::wire::Content;
 use std::thread;
-use std::time::Duration;
+use std::time::{Duration, Instant};
+use unitsim::ship::{Second, Ship};
 
 pub struct Day<'a> {
     options: &'a Options,
-    unit: Unit,
+    ship: Box<dyn Ship>,
+    /// Another ship of the same session that says hello, where it is in doubt whether the gateway has
+    /// our Finished; it takes the ship's place once it is open.
+    other: Option<Box<dyn Ship>>,
     rng: Rng,
     pub out: Link,
     pub back: Link,
     pub gateway: Gateway,
-    /// The number of the next report; 0 was the Finished.
-    number: u16,
-    /// Set by the warning 57: the gateway has our Finished, so it need not be prepended any more.
-    confirmed: bool,
+    /// The last datagram that was heard, for the alert that ends the day.
+    last_heard: Vec<u8>,
     unconfirmed: usize,
     pub sent: usize,
+    pub said_again: usize,
 }
 
 /// A hello is said again as it is so many times, then another one is said.
 const SAME_HELLOS: usize = 5;
 const MOST_HELLOS: usize = 200;
-/// After so many reports without the warning 57 the handshake may have failed: another hello.
+/// After so many reports without an answer the handshake may have failed: another hello.
 const DOUBT_AFTER: usize = 32;
 
 const CRITICAL: u8 = 2;
@@ -36,15 +38,16 @@ const CONNECTION_CLOSE_NOTIFY: u8 = 0;
 impl Day<'_> {
     pub fn new(options: &Options) -> Result<Day<'_>, String> {
         Ok(Day {
-            unit: Unit::new(&options.session, &options.secret),
+            ship: fresh(options)?,
+            other: None,
             rng: Rng::new(options.seed),
             out: Link::new(options.rates, options.seed + 1),
             back: Link::new(options.rates, options.seed + 2),
             gateway: Gateway::new(options)?,
-            number: 1,
-            confirmed: false,
+            last_heard: Vec::new(),
             unconfirmed: 0,
             sent: 0,
+            said_again: 0,
             options,
         })
     }
@@ -59,58 +62,80 @@ impl Day<'_> {
             self.pause();
         }
         if self.options.close {
-            let notice = self.unit.alert(CRITICAL, CONNECTION_CLOSE_NOTIFY);
-            let notice = self.unit.protect(Content::Alert, false, self.number, &notice);
-            self.gateway.deliver(&notice.ok_or("no reply yet")?)?;
+            let notice = self.ship.alert(CRITICAL, CONNECTION_CLOSE_NOTIFY, &self.last_heard);
+            self.gateway.deliver(&notice.map_err(refused)?)?;
         }
         Ok(())
     }
 
+    /// Says hello, and says it again each time that the timer runs out.
     fn shake_hands(&mut self) -> Result<(), String> {
-        let mut message = Vec::new();
         for said in 0..MOST_HELLOS {
             if said % SAME_HELLOS == 0 {
-                message = self.hello();
+                self.ship = fresh(self.options)?;
+                let hello = self.hello()?;
+                self.send(hello)?;
+            } else {
+                self.say_again()?;
             }
-            let datagram = self.unit.say_hello(&message);
-            self.send(datagram)?;
-            if self.listen()? {
+            if self.listen_until(Instant::now() + self.options.timer)? {
                 return Ok(());
             }
         }
         Err(format!("no reply to {MOST_HELLOS} hellos"))
     }
 
-    fn hello(&mut self) -> Vec<u8> {
+    fn hello(&mut self) -> Result<Vec<u8>, String> {
         let random = self.rng.bytes(16);
-        Hello::plain(&random, &self.options.session, self.options.kind, self.options.refresh)
-            .message()
+        let macs = [self.options.kind.number()];
+        self.ship.hello(&random, &macs, self.options.refresh).map_err(refused)
     }
 
-    /// Until the warning 57 comes, change cipher spec and Finished go before each report (10.4).
+    fn say_again(&mut self) -> Result<(), String> {
+        let datagram = self.ship.again().map_err(refused)?;
+        self.said_again += 1;
+        self.send(datagram)
+    }
+
+    /// Until the gateway is known to have our Finished, the flight goes before each report (10.4).
     fn report(&mut self, index: usize) -> Result<(), String> {
         let bytes = self.text(index);
-        let data =
-            self.unit.protect(Content::Data, false, self.number, &bytes).ok_or("no reply yet")?;
-        self.out.forwards = self.confirmed;
-        let datagram = if self.confirmed {
-            data
-        } else {
+        let confirmed = self.ship.again().is_err();
+        self.out.forwards = confirmed;
+        if !confirmed {
             self.unconfirmed += 1;
-            let change = self.unit.clear(Content::ChangeCipherSpec, true, 1, &[1]);
-            let finished = self.unit.finished(true, 0).ok_or("no reply yet")?;
-            [change, finished, data].concat()
-        };
-        self.number = self.number.checked_add(1).ok_or("all numbers are spent")?;
-        self.sent += 1;
-        self.send(datagram)?;
-        self.listen()?;
-        if !self.confirmed && self.unconfirmed % DOUBT_AFTER == DOUBT_AFTER - 1 {
-            let message = self.hello();
-            let hello = self.unit.say_hello(&message);
-            self.send(hello)?;
+            self.say_again()?;
             self.listen()?;
         }
+        let data = self.ship.send(&bytes).map_err(refused)?;
+        self.sent += 1;
+        self.send(data)?;
+        self.listen()?;
+        match confirmed {
+            true => Ok(()),
+            false => self.doubt(),
+        }
+    }
+
+    /// Now and then, while nothing is known of our Finished: another ship says hello, a few times the
+    /// same. The ship itself goes on.
+    fn doubt(&mut self) -> Result<(), String> {
+        let since = self.unconfirmed % DOUBT_AFTER;
+        if since == DOUBT_AFTER - 1 {
+            let mut other = fresh(self.options)?;
+            let random = self.rng.bytes(16);
+            let macs = [self.options.kind.number()];
+            let hello = other.hello(&random, &macs, self.options.refresh).map_err(refused)?;
+            self.other = Some(other);
+            self.send(hello)?;
+        } else if let (Some(other), true) = (&mut self.other, since < SAME_HELLOS - 1) {
+            let hello = other.again().map_err(refused)?;
+            self.said_again += 1;
+            self.send(hello)?;
+        } else {
+            return Ok(());
+        }
+        self.listen()?;
         Ok(())
     }
 
@@ -134,19 +159,59 @@ impl Day<'_> {
         thread::sleep(self.options.every);
     }
 
-    /// Hears what came back over the link; true if there was a reply to the last hello.
+    /// Hears what comes until then; true as soon as a reply has opened the ship.
+    fn listen_until(&mut self, end: Instant) -> Result<bool, String> {
+        loop {
+            if self.listen()? {
+                return Ok(true);
+            }
+            let left = end.saturating_duration_since(Instant::now());
+            if left.is_zero() {
+                return Ok(false);
+            }
+            self.gateway.wait(left)?;
+        }
+    }
+
+    /// Hears what came back over the link; true if a reply has opened a ship. Its flight goes out at
+    /// once.
     fn listen(&mut self) -> Result<bool, String> {
-        let mut replied = false;
+        let mut opened = false;
         for datagram in std::mem::take(&mut self.gateway.inbox) {
             for datagram in self.back.pass(datagram) {
-                if self.unit.hear_reply(&datagram).is_ok() {
-                    replied = true;
-                    (self.number, self.confirmed, self.unconfirmed) = (1, false, 0);
-                } else if let Ok(content) = self.unit.hear(&datagram) {
-                    self.confirmed |= content.starts_with(&[1, 57]);
+                if let Some(flight) = self.hear(&datagram) {
+                    opened = true;
+                    self.unconfirmed = 0;
+                    self.send(flight)?;
                 }
             }
         }
-        Ok(replied)
+        Ok(opened)
     }
+
+    /// The other ship is asked first; where it opens, it is the ship from then on.
+    fn hear(&mut self, datagram: &[u8]) -> Option<Vec<u8>> {
+        if let Some(mut other) = self.other.take() {
+            if let Some(flight) = other.receive(datagram).flight() {
+                self.ship = other;
+                self.last_heard = datagram.to_vec();
+                return Some(flight.to_vec());
+            }
+            self.other = Some(other);
+        }
+        let heard = self.ship.receive(datagram);
+        if heard.is_news() {
+            self.last_heard = datagram.to_vec();
+        }
+        heard.flight().map(<[u8]>::to_vec)
+    }
+}
+
+/// The ship of the second implementation, today the only one.
+fn fresh(options: &Options) -> Result<Box<dyn Ship>, String> {
+    Ok(Box::new(Second::fresh(&options.session, &options.secret, options.width)?))
+}
+
+fn refused(number: u8) -> String {
+    format!("the ship itself refused a call with {number}")
 }

@@ -1,6 +1,5 @@
 //! `unitsim`: see `unitsim --help`.
 
-mod capture;
 mod day;
 mod link;
 mod options;
@@ -48,6 +47,7 @@ fn run(options: &Options) -> Result<(), String> {
         "{}: {} reports sent; the link lost {}, repeated {}, delayed {}, reordered {}, damaged {}{forwarded}",
         options.ship, day.sent, did.lost, did.repeated, did.delayed, did.reordered, did.damaged
     );
+    println!("{}: said again {} hellos and flights", options.ship, day.said_again);
     println!(
         "{}: to be handed out {}, forged {}, too old {}, repeated {}",
         options.ship, tally.handed_out, tally.forged, tally.too_old, tally.repeated

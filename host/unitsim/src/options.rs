@@ -22,6 +22,7 @@ unitsim: a ship's unit behind a bad link, for trying a gateway.
     --forward P          per cent of the reports that take the store-and-forward routing and come forty
                          places late, once the gateway has our Finished  [0]
     --every MILLISECONDS pause behind each datagram  [1]
+    --timer MILLISECONDS how long the ship waits for a reply before it says its hello again  [20]
     --mac sha80|sha      [sha80]
     --refresh N          the key refresh  [4]
     --expected FILE      writes what must be in the list: number, length, bytes in hexadecimal
@@ -44,6 +45,7 @@ pub struct Options {
     pub seed: u64,
     pub rates: Rates,
     pub every: Duration,
+    pub timer: Duration,
     pub kind: Kind,
     pub refresh: u8,
     pub expected: Option<PathBuf>,
@@ -65,7 +67,7 @@ pub struct Rates {
 pub fn read(mut words: impl Iterator<Item = String>) -> Result<Option<Options>, String> {
     let (mut to, mut sessions, mut ship) = (None, None, None);
     let (mut expected, mut capture, mut close) = (None, None, false);
-    let (mut reports, mut seed, mut every) = (300, 1, 1);
+    let (mut reports, mut seed, mut every, mut timer) = (300, 1, 1, 20);
     let mut rates = Rates::default();
     let (mut kind, mut refresh) = (Kind::Sha80, 4);
     while let Some(word) = words.next() {
@@ -92,6 +94,7 @@ pub fn read(mut words: impl Iterator<Item = String>) -> Result<Option<Options>, 
             "--damage" => rates.damage = percent(&word, &value)?,
             "--forward" => rates.forward = percent(&word, &value)?,
             "--every" => every = number(&word, &value)?,
+            "--timer" => timer = number(&word, &value)?,
             "--refresh" => refresh = number(&word, &value)?,
             "--mac" if value == "sha80" => kind = Kind::Sha80,
             "--mac" if value == "sha" => kind = Kind::Sha,
@@ -102,7 +105,7 @@ pub fn read(mut words: impl Iterator<Item = String>) -> Result<Option<Options>, 
     let ship = ship.ok_or("--ship NAME is missing")?;
     let sessions = sessions.ok_or("--sessions FILE is missing")?;
     let (session, secret, width) = planted(&sessions, &ship)?;
-    let every = Duration::from_millis(every);
+    let (every, timer) = (Duration::from_millis(every), Duration::from_millis(timer));
     Ok(Some(Options {
         to,
         session,
@@ -113,6 +116,7 @@ pub fn read(mut words: impl Iterator<Item = String>) -> Result<Option<Options>, 
         seed,
         rates,
         every,
+        timer,
         kind,
         refresh,
         expected,

@@ -1,8 +1,8 @@
 //! The gateway as it must be: all that the link delivers goes to the real one and through the
 //! shore's rules, and the real one's replies must be the same to the byte.
 
-use crate::capture::{Capture, Way};
 use crate::options::Options;
+use peer::capture::{Capture, Way};
 use peer::shore::{Answer, Received, Shore, Tally};
 use peer::wire;
 use std::io;
@@ -93,6 +93,13 @@ impl Gateway {
         while let Some(datagram) = self.next(wait)? {
             self.inbox.push(datagram);
         }
+        Ok(())
+    }
+
+    /// Waits for the next datagram, but no longer than this.
+    pub fn wait(&mut self, longest: Duration) -> Result<(), String> {
+        let datagram = self.next(longest)?;
+        self.inbox.extend(datagram);
         Ok(())
     }
 

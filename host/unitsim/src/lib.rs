@@ -1,0 +1,3 @@
+//! The boundary at which a ship stands in the simulator; the simulator itself is the program.
+
+pub mod ship;
