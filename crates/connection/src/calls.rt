@@ -2,16 +2,15 @@
 ghost use mathlib.Core.Path.{_≡_};
 ghost use Rattle.connection.specs.Calls.{freshOf, closedOf, startedOf, leaving, sessionOf, outcomeNumber};
 ghost use lib.ListN.{length};
-ghost use Rattle.connection.specs.Connection.{connectionOf, alone, ended, restarted};
+ghost use Rattle.connection.specs.Connection.{ended};
 use crate::connection::Connection;
-use crate::handshake::Handshake;
+use crate::connection::alone;
 use crate::handshake::Session;
 use crate::handshake::blank;
 use crate::handshake::made;
 use crate::handshake::none_started;
 use crate::refusal::Refusal;
 use crate::refusal::number;
-use crate::sent::SentRecords;
 use crate::state::State;
 
 pub enum Outcome {
@@ -96,17 +95,6 @@ fn leave(outcome: Outcome, connection: Connection) -> Called
     Called {
         outcome,
         connection,
-    }
-}
-
-// A connection of one handshake: none is started beside it, and nothing is sent.
-fn alone(handshake: Handshake) -> Connection
-    ensures { λ r. ⌜ r ≡ alone handshake ⌝ }
-{
-    Connection {
-        handshake,
-        started: none_started(),
-        sent: SentRecords::fresh(),
     }
 }
 

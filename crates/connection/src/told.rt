@@ -142,7 +142,10 @@ fn sent_after(sent: SentRecords, kept: Kept, answer: Answer) -> SentRecords
     ensures { λ r. ⌜ r ≡ sentAfter sent kept answer ⌝ }
 {
     match answer {
-        Answer::Reply(size) => replied(sent, kept.reply, size),
+        Answer::Reply(size) => {
+            let reply = kept.reply;
+            replied(sent, reply, size)
+        }
         Answer::Nothing => sent,
         Answer::Resent(_) => sent,
         Answer::Spec => sent,
