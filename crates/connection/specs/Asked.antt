@@ -54,8 +54,11 @@ abbrev pub rightUnder : Handshake → Record → List ℕ → Bool
 rightUnder h r fragment = genuineUnder (h .protection .keys) FromUnit (r .number) (r .byte) fragment
 
 -- "A protected handshake record is tried under the started one first, once its change cipher spec has come, then under the open one"
+abbrev pub finishedOf : Handshake → Record → List ℕ → Whom
+finishedOf started r fragment = pick (isSpec (started .state)) (pick (rightUnder started r fragment) Started Open) Open
+
 abbrev pub finishedTo : Connection → Record → List ℕ → Whom
-finishedTo c r fragment = pick (isSpec (c .started .state)) (pick (rightUnder (c .started) r fragment) Started Open) Open
+finishedTo c r fragment = finishedOf (c .started) r fragment
 
 -- The Open rows. A ClientHello first in its datagram; in a later place, and every other clear record: "Clear alerts touch the
 -- started one only". "other protected records go to the open one".

@@ -22,6 +22,8 @@ use Rattle.connection.specs.declared.handshake.Kept.{Kept}
 use Rattle.connection.specs.declared.handshake.Handshake.{Handshake}
 use Rattle.connection.specs.declared.connection.Connection.{Connection}
 use Rattle.connection.specs.declared.told.Told.{Told}
+use Rattle.connection.specs.declared.told.Place.{Place}
+use Rattle.connection.specs.declared.told.Place.the-variants as P
 
 -- A new reply adds its three records to those that we sent: 40 bytes of ServerHello, 6 of change cipher spec, and Finished. "a
 -- resent reply not counted"
@@ -95,3 +97,32 @@ toldRecord c random d r = toldBy c (whomOf c d r) (judgedIn c random d r)
 abbrev pub keptBy : Bool → Connection → Kept
 keptBy true c = c .started .kept
 keptBy false c = c .handshake .kept
+
+-- the same in one step: where the handshake that was asked goes, by its state as it is left
+abbrev pub placeOf : Whom → State → Place
+placeOf A.Only state = P.Kept
+placeOf A.Open S.Idle = P.Alone
+placeOf A.Open S.Replied = P.Alone
+placeOf A.Open S.Spec = P.Alone
+placeOf A.Open S.Open = P.Kept
+placeOf A.Open S.Closed = P.Alone
+placeOf A.Open S.Barred = P.Alone
+placeOf A.Started S.Idle = P.Beside
+placeOf A.Started S.Replied = P.Beside
+placeOf A.Started S.Spec = P.Beside
+placeOf A.Started S.Open = P.Alone
+placeOf A.Started S.Closed = P.Dropped
+placeOf A.Started S.Barred = P.Dropped
+placeOf A.Newcomer S.Idle = P.Nowhere
+placeOf A.Newcomer S.Replied = P.Beside
+placeOf A.Newcomer S.Spec = P.Beside
+placeOf A.Newcomer S.Open = P.Nowhere
+placeOf A.Newcomer S.Closed = P.Nowhere
+placeOf A.Newcomer S.Barred = P.Nowhere
+
+abbrev pub placedBy : Connection → Handshake → SentRecords → Place → Connection
+placedBy c h sent P.Kept = connectionOf h (c .started) sent
+placedBy c h sent P.Alone = connectionOf h noneStarted sent
+placedBy c h sent P.Beside = connectionOf (c .handshake) h sent
+placedBy c h sent P.Dropped = connectionOf (c .handshake) noneStarted sent
+placedBy c h sent P.Nowhere = connectionOf (c .handshake) (c .started) sent

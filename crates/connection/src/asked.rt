@@ -2,10 +2,13 @@
 ghost use Prim.Native.Nat.{ℕ, _+_, _<_, _≤_};
 ghost use mathlib.Core.Path.{_≡_};
 ghost use lib.ListN.{length};
-ghost use Rattle.connection.specs.Asked.{whomOf, openTo, greetingTo, helloTo, besideTo, finishedTo, rightUnder, underWay, isSpec, askedOf};
+ghost use Rattle.digest.specs.Pick.{pick};
+ghost use Rattle.connection.specs.Clear.{isKept};
+ghost use Rattle.connection.specs.Asked.{whomOf, openTo, greetingTo, finishedOf, underWay, isSpec, askedOf};
 use crate::clear::same_hello;
 use crate::connection::Connection;
 use crate::handshake::Handshake;
+use crate::handshake::Kept;
 use crate::handshake::newcomer;
 use crate::state::Kind;
 use crate::state::State;
@@ -51,29 +54,29 @@ pub(crate) fn whom_of(c: Connection, d: &[u8], r: Record) -> Whom
 fn in_open(c: Connection, r: Record, fragment: &[u8], kind: Kind) -> Whom
     ensures { λ w. ⌜ w ≡ openTo c r (now (fragment .entry)) kind ⌝ }
 {
+    let started = c.started;
+    let state = started.state;
     match kind {
         Kind::ClearHello => {
             if r.start == 0 {
                 return greeting(c, fragment);
             }
-            beside(c)
+            beside(state)
         }
-        Kind::ClearChange => beside(c),
-        Kind::ClearAlert => beside(c),
-        Kind::OtherClear => beside(c),
+        Kind::ClearChange => beside(state),
+        Kind::ClearAlert => beside(state),
+        Kind::OtherClear => beside(state),
         Kind::ProtectedChange => Whom::Open,
         Kind::ProtectedAlert => Whom::Open,
-        Kind::ProtectedHandshake => finished(c, r, fragment),
+        Kind::ProtectedHandshake => finished(started, r, fragment),
         Kind::ProtectedData => Whom::Open,
     }
 }
 
 // The started one; where there is none, a newcomer.
-fn beside(c: Connection) -> Whom
-    ensures { λ w. ⌜ w ≡ besideTo c ⌝ }
+fn beside(state: State) -> Whom
+    ensures { λ w. ⌜ w ≡ pick (underWay state) Whom.Started Whom.Newcomer ⌝ }
 {
-    let started = c.started;
-    let state = started.state;
     if under_way(state) {
         return Whom::Started;
     }
@@ -84,22 +87,21 @@ fn beside(c: Connection) -> Whom
 fn greeting(c: Connection, m: &[u8]) -> Whom
     ensures { λ w. ⌜ w ≡ greetingTo c (now (m .entry)) ⌝ }
 {
+    let h = c.handshake;
     let started = c.started;
     let state = started.state;
-    if under_way(state) {
-        let kept = started.kept;
-        if same_hello(kept, m) {
-            return Whom::Started;
-        }
+    if !under_way(state) {
+        return hello(h.kept, m);
     }
-    hello(c, m)
+    if same_hello(started.kept, m) {
+        return Whom::Started;
+    }
+    hello(h.kept, m)
 }
 
-fn hello(c: Connection, m: &[u8]) -> Whom
-    ensures { λ w. ⌜ w ≡ helloTo c (now (m .entry)) ⌝ }
+fn hello(kept: Kept, m: &[u8]) -> Whom
+    ensures { λ w. ⌜ w ≡ pick (isKept kept (now (m .entry))) Whom.Open Whom.Newcomer ⌝ }
 {
-    let h = c.handshake;
-    let kept = h.kept;
     if same_hello(kept, m) {
         return Whom::Open;
     }
@@ -107,29 +109,21 @@ fn hello(c: Connection, m: &[u8]) -> Whom
 }
 
 // A protected handshake record: the started one's in Spec if its code is right there, else the open one's.
-fn finished(c: Connection, r: Record, fragment: &[u8]) -> Whom
-    ensures { λ w. ⌜ w ≡ finishedTo c r (now (fragment .entry)) ⌝ }
+fn finished(started: Handshake, r: Record, fragment: &[u8]) -> Whom
+    ensures { λ w. ⌜ w ≡ finishedOf started r (now (fragment .entry)) ⌝ }
 {
-    let started = c.started;
     let state = started.state;
     if !is_spec(state) {
         return Whom::Open;
     }
-    if right(started, r, fragment) {
-        return Whom::Started;
-    }
-    Whom::Open
-}
-
-// Whether the code of a record is right under the keys of a handshake.
-fn right(h: Handshake, r: Record, fragment: &[u8]) -> bool
-    ensures { λ b. ⌜ b ≡ rightUnder h r (now (fragment .entry)) ⌝ }
-{
-    let protection = h.protection;
+    let protection = started.protection;
     let keys = protection.keys;
     let mac = keys.mac;
     let key = keys.key(Sense::FromUnit, r.number);
-    genuine(key, mac, r.number, r.byte, fragment)
+    if genuine(key, mac, r.number, r.byte, fragment) {
+        return Whom::Started;
+    }
+    Whom::Open
 }
 
 // Replied or Spec.

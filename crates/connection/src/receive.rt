@@ -10,6 +10,7 @@ ghost use Rattle.record.specs.Datagram.{walkOf};
 use crate::answer::Answer;
 use crate::answer::Slot;
 use crate::answer::reply_size;
+use crate::asked::whom_of;
 use crate::connection::Connection;
 use crate::handshake::Kept;
 use crate::refusal::Refusal;
@@ -130,7 +131,8 @@ fn each(c: Connection, d: &[u8], ours: [u8; 16], walk: Walk, out: &mut [u8]) -> 
 {
     let records = walk.records;
     let count = walk.count;
-    let first = tell(c, ours, d, records[0]);
+    let who = whom_of(c, d, records[0]);
+    let first = tell(c, who, ours, d, records[0]);
     let answer = first.answer;
     let mut left = first.connection;
     let written = put_reply(kept_by(first.beside, left), answer, out);
@@ -141,7 +143,8 @@ fn each(c: Connection, d: &[u8], ours: [u8; 16], walk: Walk, out: &mut [u8]) -> 
     answers[0] = Slot { answer };
     let mut i: usize = 0;
     while i + 1 < count {
-        let next = tell(left, ours, d, records[i + 1]);
+        let who = whom_of(left, d, records[i + 1]);
+        let next = tell(left, who, ours, d, records[i + 1]);
         let answer = next.answer;
         answers[i + 1] = Slot { answer };
         left = next.connection;

@@ -2,14 +2,12 @@
 ghost use Prim.Native.Nat.{ℕ, _+_, _-_, _<_, _≤_};
 ghost use mathlib.Core.Path.{_≡_};
 ghost use lib.ListN.{length, take, drop};
-ghost use Rattle.connection.specs.Told.{toldRecord, toldBy, leftWith, startedTo, besideOpen, sentAfter, repliedWith, isBeside};
+ghost use Rattle.connection.specs.Told.{toldRecord, placeOf, placedBy, sentAfter, repliedWith, isBeside};
+ghost use Rattle.connection.specs.Asked.{whomOf};
 ghost use Rattle.connection.specs.Sent.{sumOf};
 use crate::answer::Answer;
-use crate::answer::Judged;
 use crate::asked::Whom;
 use crate::asked::asked;
-use crate::asked::under_way;
-use crate::asked::whom_of;
 use crate::connection::Connection;
 use crate::handshake::Handshake;
 use crate::handshake::Kept;
@@ -28,101 +26,94 @@ pub struct Told {
     pub beside: bool,
 }
 
-// A record of the datagram d, judged by the handshake that is asked about it.
-pub(crate) fn tell(c: Connection, random: [u8; 16], d: &[u8], r: Record) -> Told
-    requires { ⌜ (length random ≡ 16) × ((0 < r .size) × (r .start + r .head + r .size ≤ length (now d))) ⌝ }
-    ensures { λ t. ⌜ t ≡ toldRecord c random (now (d .entry)) r ⌝ }
-{
-    let who = whom_of(c, d, r);
-    leave(c, who, judge(asked(c, who), c.sent, random, d, r))
+// Where the handshake that was asked goes, as it is left.
+pub enum Place {
+    // it is the open one, or the only one, as before
+    Kept,
+    // the same, and none is started beside it
+    Alone,
+    // it is the started one
+    Beside,
+    // the started one is dropped
+    Dropped,
+    // nothing changes
+    Nowhere,
 }
 
-fn leave(c: Connection, who: Whom, j: Judged) -> Told
-    ensures { λ t. ⌜ t ≡ toldBy c who j ⌝ }
+// A record of the datagram d, judged by the handshake that is asked about it.
+pub(crate) fn tell(c: Connection, who: Whom, random: [u8; 16], d: &[u8], r: Record) -> Told
+    requires { ⌜ (who ≡ whomOf c (now d) r) × ((length random ≡ 16) × ((0 < r .size) × (r .start + r .head + r .size ≤ length (now d)))) ⌝ }
+    ensures { λ t. ⌜ t ≡ toldRecord c random (now (d .entry)) r ⌝ }
 {
+    let sent = c.sent;
+    let j = judge(asked(c, who), sent, random, d, r);
     let answer = j.answer;
     let h = j.handshake;
-    let sent = sent_after(c.sent, h.kept, answer);
+    let state = h.state;
+    let place = place_of(who, state);
     Told {
         answer,
-        connection: left(c, h, sent, who),
+        connection: placed(c, h, sent_after(sent, h.kept, answer), place),
         beside: is_beside(who),
     }
 }
 
-// The connection that is left by the handshake that was asked, as it is now.
-fn left(c: Connection, h: Handshake, sent: SentRecords, who: Whom) -> Connection
-    ensures { λ r. ⌜ r ≡ leftWith c h sent who ⌝ }
+fn placed(c: Connection, h: Handshake, sent: SentRecords, place: Place) -> Connection
+    ensures { λ r. ⌜ r ≡ placedBy c h sent place ⌝ }
 {
-    let state = h.state;
     let mut k = c;
     k.sent = sent;
+    match place {
+        Place::Kept => {
+            k.handshake = h;
+            k
+        }
+        Place::Alone => {
+            k.handshake = h;
+            k.started = none_started();
+            k
+        }
+        Place::Beside => {
+            k.started = h;
+            k
+        }
+        Place::Dropped => {
+            k.started = none_started();
+            k
+        }
+        Place::Nowhere => k,
+    }
+}
+
+fn place_of(who: Whom, state: State) -> Place
+    ensures { λ p. ⌜ p ≡ placeOf who state ⌝ }
+{
     match who {
-        Whom::Only => {
-            k.handshake = h;
-            k
-        }
-        Whom::Open => {
-            k.handshake = h;
-            k.started = beside_open(c.started, state);
-            k
-        }
-        Whom::Started => started_left(k, h, state),
-        Whom::Newcomer => {
-            if under_way(state) {
-                k.started = h;
-                return k;
-            }
-            k
-        }
-    }
-}
-
-// What closes or bars the open one drops the started one too.
-fn beside_open(started: Handshake, state: State) -> Handshake
-    ensures { λ r. ⌜ r ≡ besideOpen started state ⌝ }
-{
-    match state {
-        State::Idle => none_started(),
-        State::Replied => none_started(),
-        State::Spec => none_started(),
-        State::Open => started,
-        State::Closed => none_started(),
-        State::Barred => none_started(),
-    }
-}
-
-// The started one, as it is now: open, it replaces the other; closed, it is dropped.
-fn started_left(c: Connection, h: Handshake, state: State) -> Connection
-    ensures { λ r. ⌜ r ≡ startedTo c h (c .sent) state ⌝ }
-{
-    let mut k = c;
-    match state {
-        State::Idle => {
-            k.started = h;
-            k
-        }
-        State::Replied => {
-            k.started = h;
-            k
-        }
-        State::Spec => {
-            k.started = h;
-            k
-        }
-        State::Open => {
-            k.handshake = h;
-            k.started = none_started();
-            k
-        }
-        State::Closed => {
-            k.started = none_started();
-            k
-        }
-        State::Barred => {
-            k.started = none_started();
-            k
-        }
+        Whom::Only => Place::Kept,
+        Whom::Open => match state {
+            State::Idle => Place::Alone,
+            State::Replied => Place::Alone,
+            State::Spec => Place::Alone,
+            State::Open => Place::Kept,
+            State::Closed => Place::Alone,
+            State::Barred => Place::Alone,
+        },
+        Whom::Started => match state {
+            State::Idle => Place::Beside,
+            State::Replied => Place::Beside,
+            State::Spec => Place::Beside,
+            State::Open => Place::Alone,
+            State::Closed => Place::Dropped,
+            State::Barred => Place::Dropped,
+        },
+        Whom::Newcomer => match state {
+            State::Idle => Place::Nowhere,
+            State::Replied => Place::Beside,
+            State::Spec => Place::Beside,
+            State::Open => Place::Nowhere,
+            State::Closed => Place::Nowhere,
+            State::Barred => Place::Nowhere,
+        },
     }
 }
 
