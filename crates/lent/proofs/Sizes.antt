@@ -234,19 +234,12 @@ asked-fits c A.Newcomer f g = record { id = f .id; reply = omega (arith, length-
 
 small-reply : (c : Connection) (random d : List ℕ) (rs : List Record) → length random ≡ 16 → Fitting (c .handshake) → Fitting (c .started)
     → length (firstReply c random d rs) ≤ 84
-unfolding firstReply
+unfolding firstReply toldRecord judgedIn Small
 small-reply c random d [] lr f g = omega arith
-small-reply c random d (r ∷ rs) lr f g = told
-  where
-    whom = whomOf c d r
-    fits = asked-fits c whom f g
-
-    one : replySize (toldRecord c random d r .answer) ≤ 84
-    unfolding toldRecord judgedIn Small
-    one = small-record (askedOf c whom) random lr (fits .id) (fits .reply) (c .sent) d r
-
-    told : length (take (replySize (toldRecord c random d r .answer)) (keptBy (toldRecord c random d r .beside) (toldRecord c random d r .connection) .reply)) ≤ 84
-    told = omega (arith, one, take-most (replySize (toldRecord c random d r .answer)) (keptBy (toldRecord c random d r .beside) (toldRecord c random d r .connection) .reply))
+small-reply c random d (r ∷ rs) lr f g =
+    let fits = asked-fits c (whomOf c d r) f g in
+    let kept = keptBy (toldRecord c random d r .beside) (toldRecord c random d r .connection) in
+    omega (arith, small-record (askedOf c (whomOf c d r)) random lr (fits .id) (fits .reply) (c .sent) d r, take-most (replySize (toldRecord c random d r .answer)) (kept .reply))
 
 -- ---- the offset of a record at fault
 
