@@ -3,14 +3,14 @@
 pub mod answer;
 pub mod asked;
 pub mod calls;
-pub mod clear;
+mod clear;
 pub mod connection;
 pub mod handshake;
-pub mod judge;
-pub mod protected;
+mod judge;
+mod protected;
 pub mod receive;
 pub mod refusal;
-pub mod reply;
+mod reply;
 pub mod send;
 pub mod sent;
 pub mod state;
