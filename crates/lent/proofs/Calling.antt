@@ -22,7 +22,8 @@ use Rattle.connection.specs.declared.connection.Connection.{Connection}
 use Rattle.connection.specs.declared.calls.Called.{Called}
 use Rattle.connection.specs.declared.refusal.Refusal.the-variants.{Argument}
 use Rattle.connection.proofs.Sending.{no-level, no-level-output}
-use Rattle.lent.specs.Saved.{stateSize, mark, isSaved, connectionIn, loaded}
+use Rattle.lent.specs.Fields.{bytesIn}
+use Rattle.lent.specs.Saved.{stateSize, handshakeSize, handshakePlace, startedPlace, mark, isHandshake, isSaved, connectionIn, loaded}
 use Rattle.lent.specs.Calls.{resultOf, refusalIn, leftIn, leftLoaded, calledResult, calledState, calledLoads, sense, lentFor}
 
 -- a test and another
@@ -48,7 +49,9 @@ unfolding isSaved
 saved-size b h =
     eqb-true (length b) stateSize
     (both-true (eqb (length b) stateSize)
-    (pick (eqb (wordAt b 0) mark) (pick (ltb 5 (getD b 4 0)) false (pick (eqb (getD b 65 0) 2) true (eqb (getD b 65 0) 3))) false)
+    (pick (eqb (wordAt b 0) mark)
+    (pick (isHandshake (bytesIn b handshakePlace handshakeSize)) (isHandshake (bytesIn b startedPlace handshakeSize)) false)
+    false)
     h .0)
 
 pub lent-sizes : (b : List ℕ) (counts places : ℕ) → lentFor b counts places ≡ true → (length b ≡ stateSize) × ((counts ≡ 16) × (places ≡ 192))

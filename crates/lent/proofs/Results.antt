@@ -18,7 +18,7 @@ use Rattle.message.specs.declared.alert.Sorted.the-variants as D
 use Rattle.record.specs.declared.header.Content.the-variants as C
 use Rattle.connection.specs.Calls.{freshOf, closedOf, startedOf}
 use Rattle.connection.specs.Receive.{receivedOf, outputOf, framedTo, sentOf, wholeOf, runOf}
-use Rattle.connection.specs.Send.{dataSent, dataOutput, dataOutcome, alertSent, alertOutput, alertSentAs, alertOutputAs, alertOutcome, alertBody, nextAlert, afterAlert, sentTo, outputTo, done, nextProtected, afterProtected}
+use Rattle.connection.specs.Send.{dataSent, dataOutput, dataOutcome, alertSent, alertOutput, alertSentAs, alertOutputAs, alertOutcome, alertBody, nextAlert, senderOf, sentTo, outputTo, done, nextProtected, afterSend}
 use Rattle.connection.specs.Tally.{countedOf}
 use Rattle.connection.specs.declared.refusal.Refusal.the-variants.{Room, Argument}
 use Rattle.connection.specs.declared.handshake.Handshake.{Handshake}
@@ -92,7 +92,7 @@ unfolding startResult startState
 start-refused state h = called-refused startedOf state h
 
 -- a send, by its outcome
-sent-alone : (t : Bool) (o : Outcome) (c : Connection) (next : List ℕ) (after : Handshake) (state out : List ℕ)
+sent-alone : (t : Bool) (o : Outcome) (c : Connection) (next : List ℕ) (after : Connection) (state out : List ℕ)
     → IsRefused (pick t (sentResult (sentTo c (done next after) o)) notTaken)
     → (pick t (sentState state (sentTo c (done next after) o)) state ≡ state) × (pick t (outputTo out next o) out ≡ out)
 sent-alone true Done c next after state out h = absurd (h (refusal-part 0 (length next) 0))
@@ -105,15 +105,15 @@ unfolding dataResult dataState dataOut dataSent dataOutput
 data-refused state bytes out h =
     let k = connectionIn state .handshake in
     let next = nextProtected k C.Data bytes in
-    sent-alone (isSaved state) (dataOutcome k (length bytes) (length out)) (connectionIn state) next (afterProtected k next) state out h
+    sent-alone (isSaved state) (dataOutcome k (length bytes) (length out)) (connectionIn state) next (afterSend true (connectionIn state) next) state out h
 
 alert-alone : (t : Bool) (state : List ℕ) (c : Connection) (protected : Bool) (answered out : List ℕ) (g : Graded) (d : Sorted)
     → IsRefused (pick t (sentResult (alertSentAs c protected answered (length out) g d)) notTaken)
     → (pick t (sentState state (alertSentAs c protected answered (length out) g d)) state ≡ state) × (pick t (alertOutputAs c protected answered out g d) out ≡ out)
 alert-alone t state c protected answered out (G.Is level) (D.Assigned description) h =
-    let k = c .handshake in
+    let k = senderOf protected c in
     let next = nextAlert protected k (alertBody level description answered) in
-    sent-alone t (alertOutcome protected k (length answered) (length out)) c next (afterAlert protected k next) state out h
+    sent-alone t (alertOutcome protected k (length answered) (length out)) c next (afterSend protected c next) state out h
 alert-alone true state c protected answered out (G.Is level) D.Unassigned h = (refl, refl)
 alert-alone false state c protected answered out (G.Is level) D.Unassigned h = (refl, refl)
 alert-alone true state c protected answered out G.Unassigned (D.Assigned description) h = (refl, refl)

@@ -21,7 +21,7 @@ use Rattle.connection.specs.declared.receive.Taken.{Taken}
 use Rattle.connection.specs.declared.receive.Taken.the-variants as T
 use Rattle.connection.specs.declared.receive.Received.{Received}
 use Rattle.connection.specs.declared.send.Sent.{Sent}
-use Rattle.lent.specs.Saved.{stateSize, savedOf, isSaved, connectionIn, Loaded, Is, loaded}
+use Rattle.lent.specs.Saved.{stateSize, handshakePlace, savedOf, isSaved, connectionIn, Loaded, Is, loaded}
 use Rattle.lent.specs.Report.{reportOf}
 use Rattle.lent.specs.Counts.{tallyBytes, tallyIn}
 
@@ -59,7 +59,7 @@ abbrev pub leftLoaded : List ℕ → Connection → Outcome → Loaded
 leftLoaded state c Done = Is c
 leftLoaded state c (Refused refusal) = loaded state
 
--- fresh: in 490 bytes, whatever they hold
+-- fresh: in 940 bytes, whatever they hold
 unfoldable pub freshResult : List ℕ → List ℕ → ℕ → ℕ → ℕ
 freshResult id secret width room =
     pick (eqb room stateSize) (resultOf (refusalIn (freshOf id secret width .outcome)) 0 0) notTaken
@@ -112,7 +112,7 @@ startLoads state = calledLoads startedOf state
 
 -- the state's number, as the count
 unfoldable pub stateResult : List ℕ → ℕ
-stateResult state = pick (isSaved state) (resultOf 0 0 (getD state 4 0)) notTaken
+stateResult state = pick (isSaved state) (resultOf 0 0 (getD state handshakePlace 0)) notTaken
 
 -- the arrival report (02, P1: "the arrival report counts over the width"), and the width that it counts over, each as
 -- the count

@@ -30,7 +30,7 @@ fn a_framing_fault_prints_its_offset() {
 
 #[test]
 fn what_is_no_saved_connection_does_not_load() {
-    assert_eq!(Connection::load(&[0; 490]), Err(Refusal::Argument));
+    assert_eq!(Connection::load(&[0; 940]), Err(Refusal::Argument));
     assert_eq!(Connection::load(&[]), Err(Refusal::Argument));
     let mut connection = Connection::fresh(&[1; 8], &[2; 20], 32).unwrap();
     connection.close().unwrap();

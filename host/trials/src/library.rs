@@ -203,8 +203,8 @@ impl Library {
                 .to_string();
         };
         let saved = connection.save();
-        let (highest, marks) = (big(&saved[435..437]), big(&saved[437..445]));
-        let (protected, clear) = (big(&saved[445..449]), big(&saved[449..453]));
+        let (highest, marks) = (big(&saved[472..474]), big(&saved[474..482]));
+        let (protected, clear) = (big(&saved[482..486]), big(&saved[486..490]));
         let n = if marks == 0 { "-".to_string() } else { highest.to_string() };
         let sent = match protected {
             0 => "-,-".to_string(),
@@ -215,7 +215,7 @@ impl Library {
             "state {:?} n={n} marks={marks:016x} arrived={} sent={sent} checksum={} tally={},{},{},{} parts={}",
             connection.state(),
             connection.arrived(),
-            hex(&saved[458..462]),
+            hex(&saved[8..12]),
             tally.handed_out(),
             tally.forged(),
             tally.too_old(),
