@@ -71,7 +71,8 @@ impl Day<'_> {
     /// Says hello, and says it again each time that the timer runs out.
     fn shake_hands(&mut self) -> Result<(), String> {
         for said in 0..MOST_HELLOS {
-            if said % SAME_HELLOS == 0 {
+            // A reply that was changed on its way may have closed the ship.
+            if said % SAME_HELLOS == 0 || self.ship.again().is_err() {
                 self.ship = fresh(self.options)?;
                 let hello = self.hello()?;
                 self.send(hello)?;
@@ -128,8 +129,10 @@ impl Day<'_> {
             let hello = other.hello(&random, &macs, self.options.refresh).map_err(refused)?;
             self.other = Some(other);
             self.send(hello)?;
-        } else if let (Some(other), true) = (&mut self.other, since < SAME_HELLOS - 1) {
-            let hello = other.again().map_err(refused)?;
+        } else if let Some(Ok(hello)) = self.other.as_mut().map(|other| other.again()) {
+            if since >= SAME_HELLOS - 1 {
+                return Ok(());
+            }
             self.said_again += 1;
             self.send(hello)?;
         } else {
