@@ -183,18 +183,26 @@ uint64_t gateway_mac(uint32_t edition, uint32_t number, uint8_t *out, size_t roo
    they are. Refused: 16, where the bytes are not as many. */
 uint64_t gateway_gatherer(uint8_t *gatherer, size_t gatherer_size);
 
-/* Takes one short message: its user data, which is a header of GSM 03.40 with ports and perhaps a place among parts, and a part.
-   `assembly` has room of at least 1,400 bytes; `said` is 10 bytes; the rest is as for gateway_receive. The gatherer is no part of
-   the connection: whichever messages are to be gathered together are lent the same one.
-   Done: `said` tells what became of it, one of enum gateway_message_kind. A message that waits leaves the connection, the tally,
-   `assembly`, `out` and `answers`. One that shows a datagram, where it was received or at the front of `assembly`, is answered as
+/* Gathers one short message: its user data, which is a header of GSM 03.40 with ports and perhaps a place among parts, and a part.
+   `assembly` has room of at least 1,400 bytes; `said` is 10 bytes.
+   Done: `said` tells what became of it, one of enum gateway_message_kind, and where the datagram that it shows stands; that one is
+   for gateway_receive on whichever connection it is for. `assembly` is written to only where it then has the datagram.
+   Refused, in this order: 16 (no saved gatherer, or `said` of another size), 6 (`assembly` under 1,400), 19, 20, 21, 22; these
+   change nothing, save that 22 drops the reference.
+   A late copy of a part of a finished reference begins a new gathering. So that these do not fill the gatherer, drop what has
+   waited too long. */
+uint64_t gateway_gather(uint8_t *gatherer, size_t gatherer_size, const uint8_t *message, size_t message_size,
+                        uint8_t *assembly, size_t assembly_size, uint8_t *said, size_t said_size);
+
+/* Takes one short message for a connection: it is gathered as gateway_gather does it, and the datagram that it then shows is
+   received as gateway_receive does it. The gatherer is no part of the connection: whichever messages are to be gathered together
+   are lent the same one.
+   Done: `said` tells what became of it. A message that waits leaves the connection, the tally, `assembly`, `out` and `answers`. One that shows a datagram, where it was received or at the front of `assembly`, is answered as
    gateway_receive answers that datagram: the count, what is written, the answers with their places counted in the datagram.
    Refused, in this order: 16 (as for a receive; also: no saved gatherer, or `said` of another size), 6 (room under 128, or
    `assembly` under 1,400), 19, 20, 21, 22; these change nothing, save that 22 drops the reference. Then the framing of the
    datagram that is shown, 1 to 5, as for a receive: it leaves the connection, the tally, `out` and `answers`; but the
-   reference is finished, `said` tells of it, and `assembly` has the datagram.
-   A late copy of a part of a finished reference begins a new gathering. So that these do not fill the gatherer, drop what has
-   waited too long. */
+   reference is finished, `said` tells of it, and `assembly` has the datagram. */
 uint64_t gateway_message(uint8_t *state, size_t state_size, uint8_t *tally, size_t tally_size,
                          uint8_t *gatherer, size_t gatherer_size, const uint8_t *message, size_t message_size,
                          uint8_t *assembly, size_t assembly_size, const uint8_t *random, size_t random_size,

@@ -11,6 +11,7 @@ ghost use Rattle.lent.specs.Calls.{receiveResult, receiveState, receiveTally, r
 ghost use Rattle.lent.specs.Macs.{macResult, macOut};
 ghost use Rattle.lentshort.specs.Saved.{loadedGatherer};
 ghost use Rattle.lentshort.specs.Calls.{emptyResult, emptyBytes, emptyLoads, dropResult, dropBytes, dropLoads, heldResult};
+ghost use Rattle.lentshort.specs.Gathered.{keeps, gatherKeeps, gatherLoads};
 ghost use Rattle.lentshort.specs.Message.{hears, leaves, messageLeaves, connectionLoads, gathererLoads};
 
 // A fresh connection of a planted session, with a window of this width, 32 to 64, in 490 bytes. Refusal: 16.
@@ -170,6 +171,18 @@ pub extern "C" fn gateway_held(gatherer: &[u8], slot: u32) -> u64
     ensures exact { λ r. ⌜ r ≡ heldResult (now (gatherer .entry)) slot ⌝ }
 {
     lentshort::held(gatherer, slot)
+}
+
+// Gathers a short message, whatever connection its datagram is for: `said` tells what became of it, and where the datagram that it
+// shows stands. Refusals: 16, 6, 19 to 22.
+#[no_mangle]
+pub extern "C" fn gateway_gather(gatherer: &mut [u8], bytes: &[u8], assembly: &mut [u8], said: &mut [u8]) -> u64
+    ensures exact { λ r. ⌜ keeps r (now (gatherer .exit)) (now (assembly .exit)) (now (said .exit))
+        ≡ gatherKeeps (now (gatherer .entry)) (now (bytes .entry)) (now (assembly .entry)) (now (said .entry)) ⌝ }
+    ensures loads { λ _. ⌜ loadedGatherer (now (gatherer .exit)) ≡ gatherLoads (now (gatherer .entry)) (now (bytes .entry))
+        (now (assembly .entry)) (now (said .entry)) ⌝ }
+{
+    lentshort::gather_message(gatherer, bytes, assembly, said)
 }
 
 // Takes a short message: it is gathered, and the datagram that it then shows is received. `said` tells what became of it; the

@@ -30,15 +30,22 @@ pub struct Ports {
     pub originator: u16,
 }
 
-/// A short message that was taken.
-#[derive(Clone, Debug)]
-pub enum Messaged<'d, 'o> {
+/// What became of a short message.
+#[derive(Clone, Copy, PartialEq, Eq, Debug)]
+pub enum Gathered<'d> {
     /// It waits for further parts.
     Waiting { ports: Ports, held: Held },
-    /// Its datagram stands in the message from `start` on: what that got.
-    Received { ports: Ports, start: usize, datagram: &'d [u8], got: Result<Received<'d, 'o>, Refused> },
-    /// Its datagram was gathered: what that got.
-    Gathered { ports: Ports, datagram: &'d [u8], got: Result<Received<'d, 'o>, Refused> },
+    /// Its datagram stands in the message, from `start` on.
+    Alone { ports: Ports, start: usize, datagram: &'d [u8] },
+    /// Its datagram was gathered from several.
+    Whole { ports: Ports, datagram: &'d [u8] },
+}
+
+/// A short message that was taken for a connection: what became of it, and what its datagram got, where it shows one.
+#[derive(Clone, Debug)]
+pub struct Messaged<'d, 'o> {
+    pub gathered: Gathered<'d>,
+    pub got: Option<Result<Received<'d, 'o>, Refused>>,
 }
 
 impl Gatherer {
@@ -84,8 +91,14 @@ impl Gatherer {
         debug_assert_eq!(dropped.refusal, 0);
     }
 
-    /// Takes one short message for a connection: its user data. `random` and `out` are as for
-    /// [`Connection::receive`].
+    /// Gathers one short message: its user data.
+    pub fn gather<'d>(&'d mut self, message: &'d [u8]) -> Result<Gathered<'d>, Refusal> {
+        let mut said = [0; SAID_SIZE];
+        done(raw::gather(&mut self.bytes[..], message, &mut self.assembly[..], &mut said))?;
+        Ok(self.told(&said, message).expect("a message that was gathered is told of"))
+    }
+
+    /// Takes one short message for a connection. `random` and `out` are as for [`Connection::receive`].
     pub fn message<'d, 'o>(
         &'d mut self,
         connection: &mut Connection,
@@ -106,32 +119,52 @@ impl Gatherer {
             out,
             &mut answers,
         );
-        let refused = refusal(given);
-        let out: &'o [u8] = out;
-        let number = |at: usize| u16::from_be_bytes([said[at], said[at + 1]]);
-        let (ports, place) = (Ports { destination: number(4), originator: number(6) }, number(8));
-        let got = |datagram: &'d [u8]| match refused {
+        let (refused, out): (_, &'o [u8]) = (refusal(given), out);
+        let Some(gathered) = self.told(&said, message) else {
+            return Err(refused.expect("a message that tells nothing was refused"));
+        };
+        let got = gathered.datagram().map(|datagram| match refused {
             Some(refusal) => Err(Refused { refusal, offset: given.count }),
             None => {
                 let to_send = &out[..given.written];
                 Ok(Received { datagram, answers, count: given.count, to_send })
             }
-        };
-        match (said[0], refused) {
-            (1, _) => {
+        });
+        Ok(Messaged { gathered, got })
+    }
+
+    /// What the 10 bytes tell; nothing where they were left as zeros.
+    fn told<'d>(&'d self, said: &[u8; SAID_SIZE], message: &'d [u8]) -> Option<Gathered<'d>> {
+        let number = |at: usize| u16::from_be_bytes([said[at], said[at + 1]]);
+        let (ports, place) = (Ports { destination: number(4), originator: number(6) }, number(8));
+        let place = usize::from(place);
+        match said[0] {
+            0 => None,
+            1 => {
                 let held = Held { reference: said[1], have: said[2].into(), total: said[3] };
-                Ok(Messaged::Waiting { ports, held })
+                Some(Gathered::Waiting { ports, held })
             }
-            (2, _) => {
-                let start = usize::from(place);
-                let datagram = &message[start..];
-                Ok(Messaged::Received { ports, start, datagram, got: got(datagram) })
-            }
-            (3, _) => {
-                let datagram = &self.assembly[..usize::from(place)];
-                Ok(Messaged::Gathered { ports, datagram, got: got(datagram) })
-            }
-            (_, refused) => Err(refused.expect("a message that tells nothing was refused")),
+            2 => Some(Gathered::Alone { ports, start: place, datagram: &message[place..] }),
+            _ => Some(Gathered::Whole { ports, datagram: &self.assembly[..place] }),
+        }
+    }
+}
+
+impl<'d> Gathered<'d> {
+    /// The datagram that is shown, if one is.
+    pub fn datagram(&self) -> Option<&'d [u8]> {
+        match self {
+            Gathered::Waiting { .. } => None,
+            Gathered::Alone { datagram, .. } | Gathered::Whole { datagram, .. } => Some(datagram),
+        }
+    }
+
+    /// The ports of the message.
+    pub fn ports(&self) -> Ports {
+        match self {
+            Gathered::Waiting { ports, .. }
+            | Gathered::Alone { ports, .. }
+            | Gathered::Whole { ports, .. } => *ports,
         }
     }
 }

@@ -35,7 +35,7 @@ mod tally;
 
 pub use answer::{Answer, Answers, Received};
 pub use connection::{Connection, Refused, Sense, State};
-pub use gatherer::{Gatherer, Held, Messaged, Ports};
+pub use gatherer::{Gathered, Gatherer, Held, Messaged, Ports};
 pub use mac::{Edition, MacKind};
 pub use refusal::Refusal;
 pub use tally::Tally;

@@ -57,6 +57,16 @@ mod exported {
         pub fn gateway_gatherer(gatherer: *mut u8, gatherer_size: usize) -> u64;
         pub fn gateway_drop(gatherer: *mut u8, gatherer_size: usize, reference: u32) -> u64;
         pub fn gateway_held(gatherer: *const u8, gatherer_size: usize, slot: u32) -> u64;
+        pub fn gateway_gather(
+            gatherer: *mut u8,
+            gatherer_size: usize,
+            message: *const u8,
+            message_size: usize,
+            assembly: *mut u8,
+            assembly_size: usize,
+            said: *mut u8,
+            said_size: usize,
+        ) -> u64;
         pub fn gateway_message(
             state: *mut u8,
             state_size: usize,
@@ -224,6 +234,27 @@ pub fn drop(gatherer: &mut [u8], reference: u32) -> Result {
 pub fn held(gatherer: &[u8], slot: u32) -> Result {
     // Safety: the pointer is that of a slice, beside its length.
     Result::of(unsafe { exported::gateway_held(gatherer.as_ptr(), gatherer.len(), slot) })
+}
+
+pub fn gather(
+    gatherer: &mut [u8],
+    message: &[u8],
+    assembly: &mut [u8],
+    said: &mut [u8],
+) -> Result {
+    // Safety: each pointer is that of a slice, beside its length.
+    Result::of(unsafe {
+        exported::gateway_gather(
+            gatherer.as_mut_ptr(),
+            gatherer.len(),
+            message.as_ptr(),
+            message.len(),
+            assembly.as_mut_ptr(),
+            assembly.len(),
+            said.as_mut_ptr(),
+            said.len(),
+        )
+    })
 }
 
 #[allow(clippy::too_many_arguments)]

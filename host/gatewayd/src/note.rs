@@ -48,6 +48,15 @@ pub enum Note {
     Replaced,
     /// The system did not take a datagram of ours.
     NotSent(ErrorKind),
+    /// A short message that was not gathered.
+    MessageRefused {
+        refusal: Refusal,
+    },
+    /// A gathering of short messages that had waited for too long.
+    GatheringDropped {
+        have: usize,
+        total: u8,
+    },
     /// The library did not write an alert of ours.
     AlertRefused {
         refusal: Refusal,
@@ -76,6 +85,8 @@ impl Note {
             Note::Hinted => (13, 0),
             Note::AlertPassedOver => (14, 0),
             Note::ClosedInClear { .. } => (15, 0),
+            Note::MessageRefused { refusal } => (16, refusal.number()),
+            Note::GatheringDropped { .. } => (17, 0),
         }
     }
 }
@@ -109,6 +120,10 @@ impl fmt::Display for Note {
             Note::Replaced => write!(f, "the open connection was replaced by a new one"),
             Note::NotSent(kind) => write!(f, "datagram not sent: {kind}"),
             Note::AlertRefused { refusal } => write!(f, "alert not sent: {refusal}"),
+            Note::MessageRefused { refusal } => write!(f, "short message {refusal}"),
+            Note::GatheringDropped { have, total } => {
+                write!(f, "short message dropped: {have} of {total} parts had waited for too long")
+            }
         }
     }
 }

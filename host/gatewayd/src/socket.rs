@@ -35,10 +35,18 @@ const HANDED_OVER: RawFd = 3;
 impl Socket {
     /// The socket that was handed over to us, if there is one; else a new one.
     pub fn open(address: SocketAddr) -> io::Result<Socket> {
-        let socket = match handed_over()? {
-            Some(socket) => socket,
-            None => UdpSocket::bind(address)?,
-        };
+        match handed_over()? {
+            Some(socket) => Socket::over(socket),
+            None => Socket::bind(address),
+        }
+    }
+
+    /// A new one.
+    pub fn bind(address: SocketAddr) -> io::Result<Socket> {
+        Socket::over(UdpSocket::bind(address)?)
+    }
+
+    fn over(socket: UdpSocket) -> io::Result<Socket> {
         let version_6 = socket.local_addr()?.is_ipv6();
         let socket = Socket { socket, version_6 };
         socket.prepare()?;

@@ -61,7 +61,9 @@ impl Day<'_> {
         if self.options.close {
             let notice = self.unit.alert(CRITICAL, CONNECTION_CLOSE_NOTIFY);
             let notice = self.unit.protect(Content::Alert, false, self.number, &notice);
-            self.gateway.deliver(&notice.ok_or("no reply yet")?)?;
+            for carried in self.gateway.carried(notice.ok_or("no reply yet")?) {
+                self.gateway.deliver(&carried)?;
+            }
         }
         Ok(())
     }
@@ -123,8 +125,10 @@ impl Day<'_> {
     }
 
     fn send(&mut self, datagram: Vec<u8>) -> Result<(), String> {
-        for datagram in self.out.pass(datagram) {
-            self.gateway.deliver(&datagram)?;
+        for carried in self.gateway.carried(datagram) {
+            for delivered in self.out.pass(carried) {
+                self.gateway.deliver(&delivered)?;
+            }
         }
         self.pause();
         self.gateway.hear(Duration::ZERO)

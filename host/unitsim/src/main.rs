@@ -3,6 +3,7 @@
 mod capture;
 mod day;
 mod link;
+mod messages;
 mod options;
 mod shore;
 
