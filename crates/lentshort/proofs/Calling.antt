@@ -8,13 +8,18 @@ use lib.ListN.{length, length-drop}
 use lib.Dec.{eqb}
 use borrow.Author.Tests.{eq-eqb, ne-eqb, lt-ltb, le-ltb, eqb-true}
 use Rattle.digest.specs.Pick.{pick}
-use Rattle.gather.specs.Gatherer.{Left, stepOf, datagramOf}
+use Rattle.gather.specs.Gatherer.{Left, freshOf, dropOf, stepOf, datagramOf}
 use Rattle.gather.specs.declared.gatherer.Answer.{Answer}
 use Rattle.short.specs.Message.{isShown, gatheredOf}
 use Rattle.lent.specs.Saved as C
 use Rattle.lent.specs.Calls.{resultOf, notTaken, lentFor, receiveResult, receiveState, receiveTally, receiveOut, receiveAnswers, receiveLoads}
-use Rattle.lent.proofs.Calling.{both-true}
-use Rattle.lentshort.specs.Saved.{gathererSize, isGatherer, gathererIn, storeIn, loadedGatherer}
+use Rattle.lent.proofs.Calling.{both-true, test-yes, test-no}
+use Rattle.digest.proofs.Picks.{if-lt, if-ge}
+use Rattle.gather.specs.Slot.{countOf}
+use Rattle.gather.specs.declared.slot.Slot.{Slot}
+use Rattle.gather.specs.declared.gatherer.Gatherer.{Gatherer}
+use Rattle.lentshort.specs.Calls.{emptyResult, emptyBytes, emptyLoads, dropResult, dropBytes, dropLoads, holding, heldResult}
+use Rattle.lentshort.specs.Saved.{gathererSize, savedGatherer, isGatherer, slotIn, gathererIn, storeIn, Is, loadedGatherer}
 use Rattle.lentshort.specs.Said.{saidSize, sayingOf}
 use Rattle.lentshort.specs.Gathered.{lentToGather, gathererAfter, gathererThen, unshownNumber, Keeps, keeps, kept, gatherKeeps, gatherLoads}
 use Rattle.lentshort.specs.Message.{lentTo, Heard, hears, heardOf, heardLoads, Leaves, leaves, made, shown, messageLeaves, connectionLoads, gathererLoads}
@@ -33,6 +38,72 @@ pub lent-sizes : (state : List ℕ) (counts places : ℕ) (gatherer : List ℕ) 
 unfolding lentTo
 lent-sizes state counts places gatherer saying h =
     gather-sizes gatherer saying (both-true (lentToGather gatherer saying) (lentFor state counts places) h .0)
+
+-- ---- an empty gatherer, a reference dropped, a slot told
+
+module _ (b : List ℕ) where
+  pub empty-room : (r : ℕ) → (length b ≡ gathererSize → ⊥) → r ≡ notTaken
+      → (r ≡ emptyResult (length b)) × ((b ≡ emptyBytes b) × (loadedGatherer b ≡ emptyLoads b))
+  unfolding emptyResult emptyBytes emptyLoads
+  empty-room r h e = (
+    rw (ne-eqb (length b) gathererSize h) e,
+    (rw (ne-eqb (length b) gathererSize h) refl, rw (ne-eqb (length b) gathererSize h) refl),
+  )
+
+  pub empty-made : (r : ℕ) (g : Gatherer) (a : List ℕ) → length b ≡ gathererSize → g ≡ freshOf → r ≡ resultOf 0 0 0
+      → a ≡ savedGatherer g (storeIn b) → loadedGatherer a ≡ Is g (storeIn b)
+      → (r ≡ emptyResult (length b)) × ((a ≡ emptyBytes b) × (loadedGatherer a ≡ emptyLoads b))
+  unfolding emptyResult emptyBytes emptyLoads
+  empty-made r g a h f e m l = (
+    rw (eq-eqb (length b) gathererSize h) e,
+    (
+      rw (eq-eqb (length b) gathererSize h) (m ∙ ap (λ x. savedGatherer x (storeIn b)) f),
+      rw (eq-eqb (length b) gathererSize h) (l ∙ ap (λ x. Is x (storeIn b)) f),
+    ),
+  )
+
+  pub drop-over : (r n : ℕ) → 255 < n → r ≡ notTaken
+      → (r ≡ dropResult b n) × ((b ≡ dropBytes b n) × (loadedGatherer b ≡ dropLoads b n))
+  unfolding dropResult dropBytes dropLoads
+  drop-over r n h e = (if-lt _ 255 n h e, (if-lt _ 255 n h refl, if-lt _ 255 n h refl))
+
+  pub drop-none : (r n : ℕ) (t : Bool) → n ≤ 255 → t ≡ isGatherer b → t ≡ false → r ≡ notTaken
+      → (r ≡ dropResult b n) × ((b ≡ dropBytes b n) × (loadedGatherer b ≡ dropLoads b n))
+  unfolding dropResult dropBytes dropLoads
+  drop-none r n t h s f e = (
+    if-ge _ 255 n h (test-no _ s f e),
+    (if-ge _ 255 n h (test-no _ s f refl), if-ge _ 255 n h (test-no _ s f refl)),
+  )
+
+  pub drop-done : (r n : ℕ) (t : Bool) (g k : Gatherer) (a : List ℕ) → n ≤ 255 → t ≡ isGatherer b → t ≡ true
+      → g ≡ gathererIn b → k ≡ dropOf g n → r ≡ resultOf 0 0 0 → a ≡ savedGatherer k (storeIn b)
+      → loadedGatherer a ≡ Is k (storeIn b)
+      → (r ≡ dropResult b n) × ((a ≡ dropBytes b n) × (loadedGatherer a ≡ dropLoads b n))
+  unfolding dropResult dropBytes dropLoads
+  drop-done r n t g k a h s f eg ek e m l =
+      let is : k ≡ dropOf (gathererIn b) n = ek ∙ ap (λ x. dropOf x n) eg in (
+        if-ge _ 255 n h (test-yes _ s f e),
+        (
+          if-ge _ 255 n h (test-yes _ s f (m ∙ ap (λ x. savedGatherer x (storeIn b)) is)),
+          if-ge _ 255 n h (test-yes _ s f (l ∙ ap (λ x. Is x (storeIn b)) is)),
+        ),
+      )
+
+  pub held-over : (r n : ℕ) → 3 < n → r ≡ notTaken → r ≡ heldResult b n
+  unfolding heldResult
+  held-over r n h e = if-lt _ 3 n h e
+
+  pub held-none : (r n : ℕ) (t : Bool) → n ≤ 3 → t ≡ isGatherer b → t ≡ false → r ≡ notTaken → r ≡ heldResult b n
+  unfolding heldResult
+  held-none r n t h s f e = if-ge _ 3 n h (test-no _ s f e)
+
+  pub held-told : (r n : ℕ) (t : Bool) (x : Slot) (have : ℕ) → n ≤ 3 → t ≡ isGatherer b → t ≡ true
+      → x ≡ slotIn b (4 + 24 * n) → have ≡ countOf (x .sizes) → r ≡ resultOf 0 have (x .total * 256 + x .reference)
+      → r ≡ heldResult b n
+  unfolding heldResult
+  held-told r n t x have h s f ex eh e =
+      if-ge _ 3 n h
+      (test-yes _ s f (e ∙ ap (λ k. resultOf 0 k (x .total * 256 + x .reference)) eh ∙ ap (λ (y : Slot). holding y) ex))
 
 -- ---- the gathering
 

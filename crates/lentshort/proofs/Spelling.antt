@@ -4,9 +4,11 @@ use mathlib.Core.List.{List, [], _∷_, _++_}
 use Prim.Native.Nat.{ℕ, zero, suc, _+_, _*_, _/_, _%_, _≤_, _<_}
 use native.Mathlib.Omega.{arith}
 use native.Mathlib.Nat.{add-zero}
-use lib.ListN.{length, take, drop, getD, length-append}
-use lib.Seq.{getD-drop, drop-drop, take-add}
-use Rattle.digest.specs.Bytes.{bytes2}
+use native.Mathlib.Numerals.{add-one}
+use lib.ListN.{length, take, drop, getD, length-append, drop-of-length-le}
+use lib.Seq.{getD-drop, drop-drop, drop-cons, take-add}
+use Rattle.digest.specs.Bytes.{bytes2, laidOver, laidWithin}
+use Rattle.connection.proofs.Filling.{within}
 use Rattle.gather.specs.declared.slot.Slot.{Slot}
 use Rattle.lent.specs.Fields.{bytesIn, twoIn}
 use Rattle.lent.specs.Saved.{Bytes}
@@ -55,6 +57,82 @@ spelled-size (n ∷ s) = more (length (spelled s)) (length s) (spelled-size s)
 pub slot-size : (s : Slot) → SlotRanged s → length (slotBytes s) ≡ 24
 unfolding slotBytes
 slot-size s r = ap (λ n. suc (suc n)) (spelled-size (s .sizes)) ∙ ap (λ n. suc (suc (2 * n))) (r .eleven)
+
+-- ---- as the code reads and writes them
+
+-- the eleven sizes of a slot, each from its place
+pub sizes-in : (b : List ℕ) (at s0 s1 s2 s3 s4 s5 s6 s7 s8 s9 s10 : ℕ)
+    → s0 ≡ twoIn b (at + 2)
+    → s1 ≡ twoIn b (at + 4)
+    → s2 ≡ twoIn b (at + 6)
+    → s3 ≡ twoIn b (at + 8)
+    → s4 ≡ twoIn b (at + 10)
+    → s5 ≡ twoIn b (at + 12)
+    → s6 ≡ twoIn b (at + 14)
+    → s7 ≡ twoIn b (at + 16)
+    → s8 ≡ twoIn b (at + 18)
+    → s9 ≡ twoIn b (at + 20)
+    → s10 ≡ twoIn b (at + 22)
+    → s0 ∷ s1 ∷ s2 ∷ s3 ∷ s4 ∷ s5 ∷ s6 ∷ s7 ∷ s8 ∷ s9 ∷ s10 ∷ [] ≡ spelledIn 11 b (at + 2)
+unfolding spelledIn
+sizes-in b at s0 s1 s2 s3 s4 s5 s6 s7 s8 s9 s10 e0 e1 e2 e3 e4 e5 e6 e7 e8 e9 e10 =
+    let p1 : at + 4 ≡ at + 2 + 2 = omega arith in
+    let p2 : at + 6 ≡ at + 2 + 2 + 2 = omega arith in
+    let p3 : at + 8 ≡ at + 2 + 2 + 2 + 2 = omega arith in
+    let p4 : at + 10 ≡ at + 2 + 2 + 2 + 2 + 2 = omega arith in
+    let p5 : at + 12 ≡ at + 2 + 2 + 2 + 2 + 2 + 2 = omega arith in
+    let p6 : at + 14 ≡ at + 2 + 2 + 2 + 2 + 2 + 2 + 2 = omega arith in
+    let p7 : at + 16 ≡ at + 2 + 2 + 2 + 2 + 2 + 2 + 2 + 2 = omega arith in
+    let p8 : at + 18 ≡ at + 2 + 2 + 2 + 2 + 2 + 2 + 2 + 2 + 2 = omega arith in
+    let p9 : at + 20 ≡ at + 2 + 2 + 2 + 2 + 2 + 2 + 2 + 2 + 2 + 2 = omega arith in
+    let p10 : at + 22 ≡ at + 2 + 2 + 2 + 2 + 2 + 2 + 2 + 2 + 2 + 2 + 2 = omega arith in
+    λ i. e0 i ∷ (e1 ∙ ap (twoIn b) p1) i ∷ (e2 ∙ ap (twoIn b) p2) i ∷ (e3 ∙ ap (twoIn b) p3) i ∷ (e4 ∙ ap (twoIn b) p4) i ∷ (e5 ∙ ap (twoIn b) p5) i ∷ (e6 ∙ ap (twoIn b) p6) i ∷ (e7 ∙ ap (twoIn b) p7) i ∷ (e8 ∙ ap (twoIn b) p8) i ∷ (e9 ∙ ap (twoIn b) p9) i ∷ (e10 ∙ ap (twoIn b) p10) i ∷ []
+
+-- eleven elements, one by one
+unfoldable pub firsts : List ℕ → List ℕ
+firsts l =
+    getD l 0 0 ∷ getD l 1 0 ∷ getD l 2 0 ∷ getD l 3 0 ∷ getD l 4 0 ∷ getD l 5 0 ∷ getD l 6 0 ∷ getD l 7 0 ∷ getD l 8 0 ∷ getD l 9 0 ∷ getD l 10 0 ∷ []
+
+-- from the k-th on
+rest-is : (l : List ℕ) (k n : ℕ) → length l ≡ k + suc n → drop k l ≡ getD l k 0 ∷ drop (k + 1) l
+rest-is l k n e =
+    drop-cons l k 0 (omega arith) ∙ ap (λ x. getD l k 0 ∷ drop x l) (sym (add-one k))
+
+pub eleven-of : (l : List ℕ) → length l ≡ 11 → l ≡ firsts l
+unfolding firsts
+eleven-of l e =
+    rest-is l 0 10 e
+    ∙ ap (λ t. getD l 0 0 ∷ t)
+    (rest-is l 1 9 e
+    ∙ ap (λ t. getD l 1 0 ∷ t)
+    (rest-is l 2 8 e
+    ∙ ap (λ t. getD l 2 0 ∷ t)
+    (rest-is l 3 7 e
+    ∙ ap (λ t. getD l 3 0 ∷ t)
+    (rest-is l 4 6 e
+    ∙ ap (λ t. getD l 4 0 ∷ t)
+    (rest-is l 5 5 e
+    ∙ ap (λ t. getD l 5 0 ∷ t)
+    (rest-is l 6 4 e
+    ∙ ap (λ t. getD l 6 0 ∷ t)
+    (rest-is l 7 3 e
+    ∙ ap (λ t. getD l 7 0 ∷ t)
+    (rest-is l 8 2 e
+    ∙ ap (λ t. getD l 8 0 ∷ t)
+    (rest-is l 9 1 e
+    ∙ ap (λ t. getD l 9 0 ∷ t)
+    (rest-is l 10 0 e ∙ ap (λ t. getD l 10 0 ∷ t) (drop-of-length-le l {i = 11} (omega arith))))))))))))
+
+-- the 24 bytes of a slot, laid over others
+pub slot-laid : (s : Slot) (d e : List ℕ) (at : ℕ) → length (s .sizes) ≡ 11 → at + 24 ≤ length d
+    → e ≡ laidWithin d at (s .reference ∷ s .total ∷ spelled (firsts (s .sizes))) → e ≡ laidOver d at (slotBytes s)
+unfolding slotBytes
+slot-laid s d e at l room made =
+    let is : s .reference ∷ s .total ∷ spelled (firsts (s .sizes)) ≡ slotBytes s
+    = ap (λ x. s .reference ∷ s .total ∷ spelled x) (sym (eleven-of (s .sizes) l)) in
+    let size : length (s .reference ∷ s .total ∷ spelled (firsts (s .sizes))) ≡ 24
+    = ap length is ∙ ap (λ n. suc (suc n)) (spelled-size (s .sizes)) ∙ ap (λ n. suc (suc (2 * n))) l in
+    within d at _ e (omega (arith, size)) made ∙ ap (laidOver d at) is
 
 -- ---- from the bytes that spell them
 
