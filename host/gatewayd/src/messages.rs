@@ -7,7 +7,7 @@ use crate::inbox::Inbox;
 use crate::note::Note;
 use crate::socket::{Datagram, Socket};
 use crate::way::Way;
-use gateway::{Gathered, Gatherer, Held, Ports};
+use gateway::{Gatherer, Held, Ports};
 use std::collections::HashMap;
 use std::io;
 use std::net::SocketAddr;
