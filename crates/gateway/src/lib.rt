@@ -176,7 +176,12 @@ pub extern "C" fn gateway_held(gatherer: &[u8], slot: u32) -> u64
 // Gathers a short message, whatever connection its datagram is for: `said` tells what became of it, and where the datagram that it
 // shows stands. Refusals: 16, 6, 19 to 22.
 #[no_mangle]
-pub extern "C" fn gateway_gather(gatherer: &mut [u8], bytes: &[u8], assembly: &mut [u8], said: &mut [u8]) -> u64
+pub extern "C" fn gateway_gather(
+    gatherer: &mut [u8],
+    bytes: &[u8],
+    assembly: &mut [u8],
+    said: &mut [u8],
+) -> u64
     ensures exact { λ r. ⌜ keeps r (now (gatherer .exit)) (now (assembly .exit)) (now (said .exit))
         ≡ gatherKeeps (now (gatherer .entry)) (now (bytes .entry)) (now (assembly .entry)) (now (said .entry)) ⌝ }
     ensures loads { λ _. ⌜ loadedGatherer (now (gatherer .exit)) ≡ gatherLoads (now (gatherer .entry)) (now (bytes .entry))
@@ -211,6 +216,14 @@ pub extern "C" fn gateway_message(
         (now (out .entry)) (now (answers .entry)) ⌝ }
 {
     lentshort::message(
-        state, tally, gatherer, bytes, assembly, random, said, out, answers,
+        state,
+        tally,
+        gatherer,
+        bytes,
+        assembly,
+        random,
+        said,
+        out,
+        answers,
     )
 }

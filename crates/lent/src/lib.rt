@@ -29,13 +29,12 @@ use leave::leave_received;
 use leave::leave_sent;
 use load::connection_in;
 use load::is_saved;
+pub use load::lent_for;
 use load::window_in;
 use macs::leave_named;
 use result::not_taken;
-use save::SIZE;
-
-pub use load::lent_for;
 pub use result::result_of;
+use save::SIZE;
 
 // A fresh connection of a planted session, with a window of this width, 32 to 64, in 490 bytes. Refusal: 16.
 pub fn fresh(id: &[u8], secret: &[u8], width: u32, state: &mut [u8]) -> u64

@@ -146,11 +146,11 @@ module _ (answer : Answer) (state tally d random out answers : List ℕ) where
   unfolding heardOf heardLoads
   heard-shown x r s t o a h e er es et eo ea el = (
     rw h
-    (λ i. hears ((er ∙ ap (λ y. receiveResult state tally answers y random (length out)) e) i)
-    ((es ∙ ap (λ y. receiveState state tally answers y random (length out)) e) i)
-    ((et ∙ ap (λ y. receiveTally state tally answers y random (length out)) e) i)
-    ((eo ∙ ap (λ y. receiveOut state tally answers y random out) e) i)
-    ((ea ∙ ap (λ y. receiveAnswers state tally answers y random (length out)) e) i)),
+        (λ i. hears ((er ∙ ap (λ y. receiveResult state tally answers y random (length out)) e) i)
+        ((es ∙ ap (λ y. receiveState state tally answers y random (length out)) e) i)
+        ((et ∙ ap (λ y. receiveTally state tally answers y random (length out)) e) i)
+        ((eo ∙ ap (λ y. receiveOut state tally answers y random out) e) i)
+        ((ea ∙ ap (λ y. receiveAnswers state tally answers y random (length out)) e) i)),
     rw h (el ∙ ap (λ y. receiveLoads state tally answers y random (length out)) e),
   )
 
@@ -232,10 +232,10 @@ module _ (state tally gatherer message assembly random said out answers : List �
       let heard = eh ∙ (λ i. heardOf (ea i) state tally (datagramOf (ea i) message (eb i)) random out answers) in
       let told = es ∙ ap (λ x. sayingOf x said) ea in (
         rw (is, eq-eqb (length random) 16 l, le-ltb (length (storeIn gatherer)) 5600 whole, le-ltb (length out) 128 m)
-        (λ i. leaves (heard i) (eg i) (eb i) (told i)),
+            (λ i. leaves (heard i) (eg i) (eb i) (told i)),
         (
           rw (is, eq-eqb (length random) 16 l, le-ltb (length (storeIn gatherer)) 5600 whole, le-ltb (length out) 128 m)
-          (ec ∙ (λ i. heardLoads (ea i) state tally (datagramOf (ea i) message (eb i)) random (length out) answers)),
+              (ec ∙ (λ i. heardLoads (ea i) state tally (datagramOf (ea i) message (eb i)) random (length out) answers)),
           rw (is, eq-eqb (length random) 16 l, le-ltb (length (storeIn gatherer)) 5600 whole, le-ltb (length out) 128 m) el,
         ),
       )

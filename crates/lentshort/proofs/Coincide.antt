@@ -31,7 +31,7 @@ message-one κs a x y s u e f =
     let same = e .0 ∙ sym (f .0) in (
       ap (λ (l : Leaves). l .heard .result) same,
       ap
-      (λ (l : Leaves).
-      (l .heard .state, (l .heard .tally, (l .gatherer, (tt, (l .assembly, (tt, (l .said, (l .heard .out, (l .heard .answers, tt))))))))))
-      same,
+          (λ (l : Leaves).
+          (l .heard .state, (l .heard .tally, (l .gatherer, (tt, (l .assembly, (tt, (l .said, (l .heard .out, (l .heard .answers, tt))))))))))
+          same,
     )

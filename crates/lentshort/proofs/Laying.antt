@@ -40,23 +40,23 @@ module _ (g : Gatherer) (d m e0 e1 e2 e3 e4 : List ℕ) (size : length d ≡ gat
     (a2 : e2 ≡ laidOver e1 28 (slotBytes (g .second)))
     (a3 : e3 ≡ laidOver e2 52 (slotBytes (g .third)))
     (a4 : e4 ≡ laidOver e3 76 (slotBytes (g .fourth)))
-    where
-  head-laid : Laid d 0 (headFields g) e4 100
-  head-laid =
-      let l0 = laid-more 0 4 m mark e0 (laid-none d 0 (omega arith)) refl is refl (omega arith) a0 in
-      let l1 = more (slotBytes (g .first)) e1 l0 (slot-size (g .first) (r .first)) (omega arith) a1 in
-      let l2 = more (slotBytes (g .second)) e2 l1 (slot-size (g .second) (r .second)) (omega arith) a2 in
-      let l3 = more (slotBytes (g .third)) e3 l2 (slot-size (g .third) (r .third)) (omega arith) a3 in
-      more (slotBytes (g .fourth)) e4 l3 (slot-size (g .fourth) (r .fourth)) (omega arith) a4
+  where
+    head-laid : Laid d 0 (headFields g) e4 100
+    head-laid =
+        let l0 = laid-more 0 4 m mark e0 (laid-none d 0 (omega arith)) refl is refl (omega arith) a0 in
+        let l1 = more (slotBytes (g .first)) e1 l0 (slot-size (g .first) (r .first)) (omega arith) a1 in
+        let l2 = more (slotBytes (g .second)) e2 l1 (slot-size (g .second) (r .second)) (omega arith) a2 in
+        let l3 = more (slotBytes (g .third)) e3 l2 (slot-size (g .third) (r .third)) (omega arith) a3 in
+        more (slotBytes (g .fourth)) e4 l3 (slot-size (g .fourth) (r .fourth)) (omega arith) a4
 
-  pub gatherer-laid : e4 ≡ savedGatherer g (storeIn d)
-  unfolding laidOver savedGatherer
-  gatherer-laid =
-      head-laid .bytes ∙ ap (λ n. joined (headFields g) ++ drop (0 + n) d) (head-size g r)
+    pub gatherer-laid : e4 ≡ savedGatherer g (storeIn d)
+    unfolding laidOver savedGatherer
+    gatherer-laid =
+        head-laid .bytes ∙ ap (λ n. joined (headFields g) ++ drop (0 + n) d) (head-size g r)
 
-  pub gatherer-loads : loadedGatherer e4 ≡ Is g (storeIn d)
-  gatherer-loads =
-      ap loadedGatherer gatherer-laid ∙ saved-loads g (storeIn d) r (length-drop storeAt d ∙ ap (λ n. n - storeAt) size)
+    pub gatherer-loads : loadedGatherer e4 ≡ Is g (storeIn d)
+    gatherer-loads =
+        ap loadedGatherer gatherer-laid ∙ saved-loads g (storeIn d) r (length-drop storeAt d ∙ ap (λ n. n - storeAt) size)
 
 -- ---- all of the bytes
 

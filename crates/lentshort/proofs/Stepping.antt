@@ -132,44 +132,44 @@ module _ (d ys : List ℕ) (size : length d ≡ gathererSize) where
 module _ (d message assembly ys assembly′ : List ℕ) (g : Gatherer) (step : Step) (size : length d ≡ gathererSize)
     (is : g ≡ gathererIn d)
     (made : leaves step ys assembly′ ≡ stepOf g (take (length d - storeAt) (drop storeAt d)) message assembly)
-    where
-  abbrev whole : Left
-  whole = stepOf (gathererIn d) (storeIn d) message assembly
+  where
+    abbrev whole : Left
+    whole = stepOf (gathererIn d) (storeIn d) message assembly
 
-  left : leaves step ys assembly′ ≡ whole
-  left = made ∙ (λ i. stepOf (is i) (store-lent d i) message assembly)
+    left : leaves step ys assembly′ ≡ whole
+    left = made ∙ (λ i. stepOf (is i) (store-lent d i) message assembly)
 
-  pub step-answer : step .answer ≡ whole .answer
-  step-answer = ap (λ (l : Left). l .answer) left
+    pub step-answer : step .answer ≡ whole .answer
+    step-answer = ap (λ (l : Left). l .answer) left
 
-  pub step-assembly : assembly′ ≡ whole .assembly
-  step-assembly = ap (λ (l : Left). l .assembly) left
+    pub step-assembly : assembly′ ≡ whole .assembly
+    step-assembly = ap (λ (l : Left). l .assembly) left
 
-  step-store : ys ≡ whole .store
-  step-store = ap (λ (l : Left). l .store) left
+    step-store : ys ≡ whole .store
+    step-store = ap (λ (l : Left). l .store) left
 
-  step-slots : step .gatherer ≡ whole .gatherer
-  step-slots = ap (λ (l : Left). l .gatherer) left
+    step-slots : step .gatherer ≡ whole .gatherer
+    step-slots = ap (λ (l : Left). l .gatherer) left
 
-  -- it touches the gathering, and that is saved
-  pub step-saved : (t : Bool) (e : List ℕ) → t ≡ touches (step .answer) → t ≡ true
-      → e ≡ savedGatherer (step .gatherer) (storeIn (putMid storeAt (length d - storeAt) d ys))
-      → loadedGatherer e ≡ Is (step .gatherer) (storeIn (putMid storeAt (length d - storeAt) d ys))
-      → (e ≡ gathererAfter d whole) × (loadedGatherer e ≡ gathererThen d whole)
-  step-saved t e s h a b =
-      let is-touched : touches (whole .answer) ≡ true = ap touches (sym step-answer) ∙ sym s ∙ h in
-      let put = putMid storeAt (length d - storeAt) d ys in (
-        after-touch d ys size whole e is-touched step-store (a ∙ ap (λ x. savedGatherer x (storeIn put)) step-slots),
-        then-touch d ys size whole e is-touched step-store (b ∙ ap (λ x. Is x (storeIn put)) step-slots),
-      )
+    -- it touches the gathering, and that is saved
+    pub step-saved : (t : Bool) (e : List ℕ) → t ≡ touches (step .answer) → t ≡ true
+        → e ≡ savedGatherer (step .gatherer) (storeIn (putMid storeAt (length d - storeAt) d ys))
+        → loadedGatherer e ≡ Is (step .gatherer) (storeIn (putMid storeAt (length d - storeAt) d ys))
+        → (e ≡ gathererAfter d whole) × (loadedGatherer e ≡ gathererThen d whole)
+    step-saved t e s h a b =
+        let is-touched : touches (whole .answer) ≡ true = ap touches (sym step-answer) ∙ sym s ∙ h in
+        let put = putMid storeAt (length d - storeAt) d ys in (
+          after-touch d ys size whole e is-touched step-store (a ∙ ap (λ x. savedGatherer x (storeIn put)) step-slots),
+          then-touch d ys size whole e is-touched step-store (b ∙ ap (λ x. Is x (storeIn put)) step-slots),
+        )
 
-  -- it does not, and every byte is what it was
-  pub step-left : (t : Bool) → t ≡ touches (step .answer) → t ≡ false
-      → (putMid storeAt (length d - storeAt) d ys ≡ gathererAfter d whole)
-      × (loadedGatherer (putMid storeAt (length d - storeAt) d ys) ≡ gathererThen d whole)
-  step-left t s h =
-      let untouched : touches (whole .answer) ≡ false = ap touches (sym step-answer) ∙ sym s ∙ h in
-      let still = step-still (gathererIn d) (storeIn d) assembly message in (
-        after-still d ys size whole (gathererIn d) still untouched step-store,
-        then-still d ys size whole (gathererIn d) still untouched step-store,
-      )
+    -- it does not, and every byte is what it was
+    pub step-left : (t : Bool) → t ≡ touches (step .answer) → t ≡ false
+        → (putMid storeAt (length d - storeAt) d ys ≡ gathererAfter d whole)
+        × (loadedGatherer (putMid storeAt (length d - storeAt) d ys) ≡ gathererThen d whole)
+    step-left t s h =
+        let untouched : touches (whole .answer) ≡ false = ap touches (sym step-answer) ∙ sym s ∙ h in
+        let still = step-still (gathererIn d) (storeIn d) assembly message in (
+          after-still d ys size whole (gathererIn d) still untouched step-store,
+          then-still d ys size whole (gathererIn d) still untouched step-store,
+        )

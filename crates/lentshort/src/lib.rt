@@ -78,7 +78,12 @@ pub fn held(gatherer: &[u8], slot: u32) -> u64
 
 // Gathers a short message, whatever connection its datagram is for: `said` tells what became of it, and where the datagram that it
 // shows stands. Refusals: 16, 6, 19 to 22.
-pub fn gather_message(gatherer: &mut [u8], bytes: &[u8], assembly: &mut [u8], said: &mut [u8]) -> u64
+pub fn gather_message(
+    gatherer: &mut [u8],
+    bytes: &[u8],
+    assembly: &mut [u8],
+    said: &mut [u8],
+) -> u64
     ensures exact { λ r. ⌜ keeps r (now (gatherer .exit)) (now (assembly .exit)) (now (said .exit))
         ≡ gatherKeeps (now (gatherer .entry)) (now (bytes .entry)) (now (assembly .entry)) (now (said .entry)) ⌝ }
     ensures loads { λ _. ⌜ loadedGatherer (now (gatherer .exit)) ≡ gatherLoads (now (gatherer .entry)) (now (bytes .entry))

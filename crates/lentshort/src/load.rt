@@ -7,8 +7,8 @@ ghost use Rattle.lentshort.specs.Saved.{gathererSize, isGatherer, gather
 ghost use Rattle.lentshort.specs.Gathered.{lentToGather};
 ghost use Rattle.lentshort.specs.Message.{lentTo};
 use crate::said::SAID;
-use crate::save::mark;
 use crate::save::SIZE;
+use crate::save::mark;
 use gather::Gatherer;
 use gather::Slot;
 use lent::lent_for;

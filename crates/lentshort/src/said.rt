@@ -24,15 +24,7 @@ pub(crate) fn put_said(d: &mut [u8], answer: Answer)
     }
 }
 
-fn put_told(
-    d: &mut [u8],
-    kind: u8,
-    reference: u8,
-    have: u8,
-    total: u8,
-    ports: Ports,
-    n: usize,
-)
+fn put_told(d: &mut [u8], kind: u8, reference: u8, have: u8, total: u8, ports: Ports, n: usize)
     requires { ⌜ length (now d) ≡ saidSize ⌝ }
     ensures { λ _. ⌜ now (d .exit) ≡ told kind reference have total ports n ⌝ }
 {

@@ -39,7 +39,7 @@ same-length-3 c = search needs
 
 -- src/lib.rt:90:9
 returns : tie.Need-returns
-returns c = 
+returns c =
     let s = c .before .before .before .before .before .before .before .before .before .before .stepped .ensures in
     gather-on _ _ _ _ _ _ _ _ _ _ _ (c .before .before .before .before .before .before .before .before .before .before .before .before .before .before .lent-to-gather .ensures) (c .before .before .before .before .before .before .before .before .before .before .before .before .before .if1 .taken) (s .0) (s .1 .0) (s .1 .1 .0) (s .1 .1 .1) (c .before .before .before .before .put-said .ensures) (c .before .unshown .ensures) (c .result-of .ensures)
 

@@ -75,7 +75,7 @@ same-length-9 c = search needs
 
 -- src/lib.rt:128:9
 returns-3 : tie.Need-returns-3
-returns-3 c = 
+returns-3 c =
     let s = c .before .before .before .before .before .before .before .before .before .before .before .before .before .before .before .before .before .before .before .before .before .before .stepped .ensures in
     let t = c .before .before .before .before .before .before .before .before .take .ensures in
     message-on _ _ _ _ _ _ _ _ _ _ _ _ _ _ _ _ _ _ _ (c .before .before .before .before .before .before .before .before .before .before .before .before .before .before .before .before .before .before .before .before .before .before .before .before .before .before .before .lent-to .ensures) (c .before .before .before .before .before .before .before .before .before .before .before .before .before .before .before .before .before .before .before .before .before .before .before .before .before .before .if2 .taken) (c .before .before .before .before .before .before .before .before .before .before .before .before .before .before .before .before .before .before .before .before .before .before .before .before .before .before .before .before .before .before .if1 .left) (c .before .before .before .before .before .before .before .before .before .before .before .before .before .before .before .before .before .before .before .before .before .before .before .before .before .if3 .left) (s .0) (s .1 .0) (s .1 .1 .0) (s .1 .1 .1) (c .before .before .before .before .before .before .before .before .before .before .before .before .before .before .before .before .put-said .ensures) (t .0) (t .1)

@@ -110,7 +110,7 @@ shared-slice-read-t29 c = search needs
 -- src/load.rt:66:1
 returns : tie.Need-returns
 unfolding slotIn
-returns c = 
+returns c =
     let b = c .before .before .before .before .before .before .before .before .before .before .before .before .before .before .args .b .now in
     let at = c .before .before .before .before .before .before .before .before .before .before .before .before .before .before .args .at in
     λ i. record {

@@ -39,14 +39,13 @@ same-length c = search needs
 
 -- src/save.rt:23:1
 returns : tie.Need-returns
-returns c = 
+returns c =
     let r : Ranged (c .before .before .before .before .before .before .before .before .before .before .before .before .before .before .before .before .before .before .before .before .before .before .before .args .g) = record {
       first = c .before .before .before .before .before .before .before .before .before .before .before .before .before .before .put-slot .ensures .1;
       second = c .before .before .before .before .before .before .before .before .before .before .put-slot2 .ensures .1;
       third = c .before .before .before .before .before .before .put-slot3 .ensures .1;
       fourth = c .before .before .put-slot4 .ensures .1;
-    } in
-    (
+    } in (
       gatherer-laid _ _ _ _ _ _ _ _ (c .before .before .before .before .before .before .before .before .before .before .before .before .before .before .before .before .before .before .before .before .before .before .before .pre) r (c .before .before .before .before .before .before .before .before .before .before .before .before .before .before .before .before .before .before .before .before .before .mark .ensures) (c .before .before .before .before .before .before .before .before .before .before .before .before .before .before .before .before .before .before .put .ensures) (c .before .before .before .before .before .before .before .before .before .before .before .before .before .before .put-slot .ensures .0) (c .before .before .before .before .before .before .before .before .before .before .put-slot2 .ensures .0) (c .before .before .before .before .before .before .put-slot3 .ensures .0) (c .before .before .put-slot4 .ensures .0),
       gatherer-loads _ _ _ _ _ _ _ _ (c .before .before .before .before .before .before .before .before .before .before .before .before .before .before .before .before .before .before .before .before .before .before .before .pre) r (c .before .before .before .before .before .before .before .before .before .before .before .before .before .before .before .before .before .before .before .before .before .mark .ensures) (c .before .before .before .before .before .before .before .before .before .before .before .before .before .before .before .before .before .before .put .ensures) (c .before .before .before .before .before .before .before .before .before .before .before .before .before .before .put-slot .ensures .0) (c .before .before .before .before .before .before .before .before .before .before .put-slot2 .ensures .0) (c .before .before .before .before .before .before .put-slot3 .ensures .0) (c .before .before .put-slot4 .ensures .0),
     )

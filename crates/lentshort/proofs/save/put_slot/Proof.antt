@@ -201,13 +201,12 @@ same-length c = search needs
 -- src/save.rt:36:1
 returns : tie.Need-returns
 unfolding spelled firsts
-returns c = 
+returns c =
     let s = c .before .before .before .before .before .before .before .args .s in
     let eleven : length (s .sizes) ≡ 11 = search (needs, c .before .before .before .before .before .before .before .good .1 .1 .0) in
     let reference : s .reference < 256 = search (needs, c .before .before .before .before .before .before .before .good .1 .1 .0) in
     let total : s .total < 256 = search (needs, c .before .before .before .before .before .before .before .good .1 .1 .0) in
-    let each : (i : ℕ) → Fits w16 (getD (s .sizes) i 0) = λ i. search (needs, c .before .before .before .before .before .before .before .good .1 .1 .0) in
-    (
+    let each : (i : ℕ) → Fits w16 (getD (s .sizes) i 0) = λ i. search (needs, c .before .before .before .before .before .before .before .good .1 .1 .0) in (
       slot-laid s (c .before .before .before .before .before .before .before .args .d .now) _ (c .before .before .before .before .before .before .before .args .at) eleven (c .before .before .before .before .before .before .before .pre) (c .before .before .put .ensures),
       record { reference = reference; total = total; eleven = eleven; size = λ i. each i .fits },
     )

@@ -42,7 +42,7 @@ same-length-2 c = search needs
 
 -- src/step.rt:24:9
 returns : tie.Need-returns
-returns c = 
+returns c =
     let d = c .before .before .before .before .before .before .before .before .before .before .before .before .before .before .before .before .before .before .args .d .now in
     let at = step-answer d _ _ _ _ _ _ (c .before .before .before .before .before .before .before .before .before .before .before .before .before .before .before .before .before .before .pre) (c .before .before .before .before .before .before .before .before .before .before .before .before .before .gatherer-in .ensures) (c .before .before .before .before .before .before .before .before .before .before .step .ensures) in
     let assembled = step-assembly d _ _ _ _ _ _ (c .before .before .before .before .before .before .before .before .before .before .before .before .before .before .before .before .before .before .pre) (c .before .before .before .before .before .before .before .before .before .before .before .before .before .gatherer-in .ensures) (c .before .before .before .before .before .before .before .before .before .before .step .ensures) in
@@ -59,7 +59,7 @@ same-length-4 c = search needs
 
 -- src/step.rt:12:1
 returns-2 : tie.Need-returns-2
-returns-2 c = 
+returns-2 c =
     let d = c .before .before .before .before .before .before .before .before .before .before .before .before .before .before .args .d .now in
     let at = step-answer d _ _ _ _ _ _ (c .before .before .before .before .before .before .before .before .before .before .before .before .before .before .pre) (c .before .before .before .before .before .before .before .before .before .gatherer-in .ensures) (c .before .before .before .before .before .before .step .ensures) in
     let assembled = step-assembly d _ _ _ _ _ _ (c .before .before .before .before .before .before .before .before .before .before .before .before .before .before .pre) (c .before .before .before .before .before .before .before .before .before .gatherer-in .ensures) (c .before .before .before .before .before .before .step .ensures) in

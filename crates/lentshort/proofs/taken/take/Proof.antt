@@ -35,7 +35,7 @@ same-length-4 c = search needs
 
 -- src/taken.rt:33:9
 returns : tie.Need-returns
-returns c = 
+returns c =
     let a = c .before .before .before .before .before .before .before .before .before .before .before .before .before .before .before .before .before .before .before .before .before .before .before .args in
     let shown = sym (c .before .before .before .before .before .before .before .before .before .before .before .before .before .before .before .shows .ensures) ∙ c .before .before .before .before .before .before .before .before .before .before .before .before .before .before .if1 .taken in
     let r = c .before .before .before .before .before .before .before .before .receive .ensures in
@@ -51,7 +51,7 @@ result-of-requires c κs = search needs
 
 -- src/taken.rt:15:1
 returns-2 : tie.Need-returns-2
-returns-2 c = 
+returns-2 c =
     let a = c .before .before .before .before .before .before .before .before .before .before .before .args in
     let none = sym (c .before .before .before .shows .ensures) ∙ c .before .before .if1 .left in
     heard-none (a .answer) _ _ _ _ _ _ _ _ none (c .before .unshown .ensures) (c .result-of .ensures)
