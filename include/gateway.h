@@ -1,8 +1,9 @@
 /* The shore end of one link, for C: WTLS (WAP-261, 6 April 2001) with one ship's unit, proved in Rattle.
 
-   Link target/staticlib/libgateway.a (`rt staticlib gateway`). There is no heap, no global and no system call: a connection and
-   a tally live in bytes that the caller lends, and nothing is kept between calls. A call may be made on any bytes whatever: what
-   is lent is tested, and what is wrong is refused with a number. A refused call leaves every lent byte as it was.
+   Link target/staticlib/libgateway.a (`rt staticlib gateway`). There is no heap, no global and no system call: a connection,
+   a tally and a gatherer of short messages live in bytes that the caller lends, and nothing is kept between calls. A call may be made on any bytes whatever: what
+   is lent is tested, and what is wrong is refused with a number. A refused call leaves every lent byte as it was, but for what
+   gateway_message says of its gathering.
 
    Lent bytes may be copied, stored and lent again later, by this program or another one: they are the connection. They hold the
    session's master secret.
@@ -10,8 +11,8 @@
    What the caller owes: each pointer has as many bytes behind it as the length beside it says (with a length of 0 it may be
    NULL), one that is not const overlaps no other of that call, and nothing else touches them before it returns.
 
-   `crates/gateway/src/lib.rt` has each promise below as a theorem, by the definitions in `crates/lent/specs` and
-   `crates/connection/specs`. */
+   `crates/gateway/src/lib.rt` has each promise below as a theorem, by the definitions in `crates/lent/specs`,
+   `crates/lentshort/specs` and the crates below. */
 #ifndef GATEWAY_H
 #define GATEWAY_H
 
@@ -38,6 +39,10 @@ extern "C" {
 #define GATEWAY_SEND_ROOM 1323   /* room for anything that a send can write: 3 + 1,300 + 20 */
 #define GATEWAY_RECORDS_MOST 8
 #define GATEWAY_NAME_ROOM 10     /* room for the name of any MAC kind */
+#define GATEWAY_GATHERER_SIZE 5700 /* a gatherer; the places are listed in crates/lentshort/specs/Saved.antt */
+#define GATEWAY_ASSEMBLY_ROOM 1400 /* the least room of an assembly buffer */
+#define GATEWAY_SAID_SIZE 10       /* what became of a short message */
+#define GATEWAY_REFERENCES_MOST 4  /* how many references a gatherer holds at once */
 
 /* What every call answers is one number of three parts. A part that a call says nothing of is 0; where it is refused, so is every
    part but the refusal, save for the offset of 1 to 5. */
@@ -65,7 +70,11 @@ enum gateway_refusal {
     GATEWAY_SPENT = 15,            /* sending number spent */
     GATEWAY_ARGUMENT = 16,         /* argument out of range; also: the bytes lent are no saved connection */
     GATEWAY_WRONG_FINISHED = 17,   /* genuine Finished with wrong contents */
-    GATEWAY_HELLO_WHILE_OPEN = 18  /* clear ClientHello while Open */
+    GATEWAY_HELLO_WHILE_OPEN = 18, /* clear ClientHello while Open */
+    GATEWAY_MESSAGE_HEADER = 19,   /* no ports, an element past its end or of wrong length, total over 11, place 0 or above the total */
+    GATEWAY_PART_DIFFERS = 20,     /* same place with other bytes, or same reference with another total */
+    GATEWAY_GATHERER_FULL = 21,    /* a new reference while all four are in use */
+    GATEWAY_PARTS_LONG = 22        /* parts over 1,400 bytes together with this one: the reference is dropped */
 };
 
 enum gateway_state {
@@ -170,6 +179,70 @@ uint64_t gateway_mac(uint32_t edition, uint32_t number, uint8_t *out, size_t roo
 #define GATEWAY_MAC_KEY(result) ((size_t)((result) >> 8 & 0x7f))
 #define GATEWAY_MAC_CODE(result) ((size_t)((result) & 0xff))
 
+/* An empty gatherer of short messages in 5,700 bytes, whatever they hold: no reference is held. The bytes of its parts stay what
+   they are. Refused: 16, where the bytes are not as many. */
+uint64_t gateway_gatherer(uint8_t *gatherer, size_t gatherer_size);
+
+/* Gathers one short message: its user data, which is a header of GSM 03.40 with ports and perhaps a place among parts, and a part.
+   `assembly` has room of at least 1,400 bytes; `said` is 10 bytes.
+   Done: `said` tells what became of it, one of enum gateway_message_kind, and where the datagram that it shows stands; that one is
+   for gateway_receive on whichever connection it is for. `assembly` is written to only where it then has the datagram.
+   Refused, in this order: 16 (no saved gatherer, or `said` of another size), 6 (`assembly` under 1,400), 19, 20, 21, 22; these
+   change nothing, save that 22 drops the reference.
+   A late copy of a part of a finished reference begins a new gathering. So that these do not fill the gatherer, drop what has
+   waited too long. */
+uint64_t gateway_gather(uint8_t *gatherer, size_t gatherer_size, const uint8_t *message, size_t message_size,
+                        uint8_t *assembly, size_t assembly_size, uint8_t *said, size_t said_size);
+
+/* Takes one short message for a connection: it is gathered as gateway_gather does it, and the datagram that it then shows is
+   received as gateway_receive does it. The gatherer is no part of the connection: whichever messages are to be gathered together
+   are lent the same one.
+   Done: `said` tells what became of it. A message that waits leaves the connection, the tally, `assembly`, `out` and `answers`. One that shows a datagram, where it was received or at the front of `assembly`, is answered as
+   gateway_receive answers that datagram: the count, what is written, the answers with their places counted in the datagram.
+   Refused, in this order: 16 (as for a receive; also: no saved gatherer, or `said` of another size), 6 (room under 128, or
+   `assembly` under 1,400), 19, 20, 21, 22; these change nothing, save that 22 drops the reference. Then the framing of the
+   datagram that is shown, 1 to 5, as for a receive: it leaves the connection, the tally, `out` and `answers`; but the
+   reference is finished, `said` tells of it, and `assembly` has the datagram. */
+uint64_t gateway_message(uint8_t *state, size_t state_size, uint8_t *tally, size_t tally_size,
+                         uint8_t *gatherer, size_t gatherer_size, const uint8_t *message, size_t message_size,
+                         uint8_t *assembly, size_t assembly_size, const uint8_t *random, size_t random_size,
+                         uint8_t *said, size_t said_size, uint8_t *out, size_t room,
+                         uint8_t *answers, size_t answers_size);
+
+/* Drops a reference, 0 to 255; one that is not held changes nothing. Refused: 16, where the reference is over 255 or the bytes are
+   no saved gatherer. */
+uint64_t gateway_drop(uint8_t *gatherer, size_t gatherer_size, uint32_t reference);
+
+/* What slot 0 to 3 of a gatherer holds: as the bytes written, how many places have come; the count has its total, 0 where the slot
+   is free, and its reference. Refused: 16, where the slot is over 3 or the bytes are no saved gatherer: with this, bytes that come
+   from elsewhere can be tested. */
+uint64_t gateway_held(const uint8_t *gatherer, size_t gatherer_size, uint32_t slot);
+
+#define GATEWAY_HELD_TOTAL(result) ((unsigned)((result) >> 8 & 0xff))
+#define GATEWAY_HELD_REFERENCE(result) ((unsigned)((result) & 0xff))
+
+/* What became of a short message. */
+enum gateway_message_kind {
+    GATEWAY_WAITING = 1,     /* it waits: `have` of `total` parts of its `reference` have come */
+    GATEWAY_IN_MESSAGE = 2,  /* the datagram is the message from `place` on */
+    GATEWAY_IN_ASSEMBLY = 3  /* the datagram is the first `place` bytes of the assembly buffer */
+};
+
+/* It, read out of the 10 bytes. What does not belong to its kind is 0. The bytes, numbers with the high byte first:
+
+       place  bytes
+           0      1  kind
+           1      1  reference
+           2      1  have
+           3      1  total
+           4      2  destination: the port
+           6      2  originator: the port
+           8      2  place */
+struct gateway_said {
+    unsigned kind, reference, have, total, destination, originator;
+    size_t place;
+};
+
 /* The number that n bytes spell, high byte first. */
 static inline uint64_t gateway_number(const uint8_t *bytes, size_t n) {
     uint64_t number = 0;
@@ -183,6 +256,12 @@ static inline struct gateway_answer gateway_answer_at(const uint8_t *answers, si
     struct gateway_answer answer = {a[0], a[1], a[2], (unsigned)gateway_number(a + 4, 4),
                                     (size_t)gateway_number(a + 8, 8), (size_t)gateway_number(a + 16, 8)};
     return answer;
+}
+
+static inline struct gateway_said gateway_said_in(const uint8_t *s) {
+    struct gateway_said said = {s[0], s[1], s[2], s[3], (unsigned)gateway_number(s + 4, 2), (unsigned)gateway_number(s + 6, 2),
+                                (size_t)gateway_number(s + 8, 2)};
+    return said;
 }
 
 #ifdef __cplusplus

@@ -1,7 +1,8 @@
--- Two outcomes that meet the contract of one exported call are the same. Each contract is that of the call of its name in `lent`, so
--- each theorem is, too.
+-- Two outcomes that meet the contract of one exported call are the same. Each contract is that of the call in `lent` or `lentshort`
+-- that it makes, so each theorem is, too.
 use Rattle.digest.specs.Determined.{OneOutcome}
 use Rattle.lent.proofs.Coincide.{fresh-one, receive-one, send-data-one, send-alert-one, close-one, start-one, state-one, arrived-one, width-one, mac-one}
+use Rattle.lentshort.proofs.Coincide.{empty-one, drop-reference-one, held-one, gather-message-one, message-one}
 use Rattle.gateway.proofs.gateway_fresh as gateway-fresh
 use Rattle.gateway.proofs.gateway_receive as gateway-receive
 use Rattle.gateway.proofs.gateway_send_data as gateway-send-data
@@ -12,6 +13,11 @@ use Rattle.gateway.proofs.gateway_state as gateway-state
 use Rattle.gateway.proofs.gateway_arrived as gateway-arrived
 use Rattle.gateway.proofs.gateway_width as gateway-width
 use Rattle.gateway.proofs.gateway_mac as gateway-mac
+use Rattle.gateway.proofs.gateway_gatherer as gateway-gatherer
+use Rattle.gateway.proofs.gateway_drop as gateway-drop
+use Rattle.gateway.proofs.gateway_held as gateway-held
+use Rattle.gateway.proofs.gateway_gather as gateway-gather
+use Rattle.gateway.proofs.gateway_message as gateway-message
 
 pub gateway-fresh-one : OneOutcome gateway-fresh.ended gateway-fresh.Reads.Learnt
 gateway-fresh-one = fresh-one
@@ -42,3 +48,18 @@ gateway-width-one = width-one
 
 pub gateway-mac-one : OneOutcome gateway-mac.ended gateway-mac.Reads.Learnt
 gateway-mac-one = mac-one
+
+pub gateway-gatherer-one : OneOutcome gateway-gatherer.ended gateway-gatherer.Reads.Learnt
+gateway-gatherer-one = empty-one
+
+pub gateway-drop-one : OneOutcome gateway-drop.ended gateway-drop.Reads.Learnt
+gateway-drop-one = drop-reference-one
+
+pub gateway-held-one : OneOutcome gateway-held.ended gateway-held.Reads.Learnt
+gateway-held-one = held-one
+
+pub gateway-gather-one : OneOutcome gateway-gather.ended gateway-gather.Reads.Learnt
+gateway-gather-one = gather-message-one
+
+pub gateway-message-one : OneOutcome gateway-message.ended gateway-message.Reads.Learnt
+gateway-message-one = message-one

@@ -1,5 +1,5 @@
-// What C and Rust link: each call is the one of its name in `lent`, under a name of its own. include/gateway.h is the
-// manual. A crate apart, since the archive's build proves its crate once more: so little is proved twice.
+// What C and Rust link: each call is one of `lent`, or for short messages of `lentshort`, under a name of its own.
+// include/gateway.h is the manual. A crate apart, since the archive's build proves its crate once more: so little is proved twice.
 ghost use mathlib.Core.Path.{_≡_};
 ghost use lib.ListN.{length};
 ghost use Rattle.lent.specs.Calls.{freshResult, freshState, closeResult, closeState, startResult, startState};
@@ -9,6 +9,10 @@ ghost use Rattle.lent.specs.Saved.{loaded};
 ghost use Rattle.lent.specs.Calls.{dataResult, dataState, dataOut, alertResult, alertState, alertOut};
 ghost use Rattle.lent.specs.Calls.{receiveResult, receiveState, receiveTally, receiveAnswers, receiveOut};
 ghost use Rattle.lent.specs.Macs.{macResult, macOut};
+ghost use Rattle.lentshort.specs.Saved.{loadedGatherer};
+ghost use Rattle.lentshort.specs.Calls.{emptyResult, emptyBytes, emptyLoads, dropResult, dropBytes, dropLoads, heldResult};
+ghost use Rattle.lentshort.specs.Gathered.{keeps, gatherKeeps, gatherLoads};
+ghost use Rattle.lentshort.specs.Message.{hears, leaves, messageLeaves, connectionLoads, gathererLoads};
 
 // A fresh connection of a planted session, with a window of this width, 32 to 64, in 940 bytes. Refusal: 16.
 #[no_mangle]
@@ -139,4 +143,87 @@ pub extern "C" fn gateway_mac(edition: u32, number: u32, out: &mut [u8]) -> u64
     ensures bytes { λ _. ⌜ now (out .exit) ≡ macOut edition number (now (out .entry)) ⌝ }
 {
     lent::mac(edition, number, out)
+}
+
+// An empty gatherer in 5,700 bytes: no reference is held. Refusal: 16.
+#[no_mangle]
+pub extern "C" fn gateway_gatherer(gatherer: &mut [u8]) -> u64
+    ensures exact { λ r. ⌜ r ≡ emptyResult (length (now (gatherer .entry))) ⌝ }
+    ensures bytes { λ _. ⌜ now (gatherer .exit) ≡ emptyBytes (now (gatherer .entry)) ⌝ }
+    ensures loads { λ _. ⌜ loadedGatherer (now (gatherer .exit)) ≡ emptyLoads (now (gatherer .entry)) ⌝ }
+{
+    lentshort::empty(gatherer)
+}
+
+// A reference dropped, 0 to 255; one not held changes nothing. Refusal: 16.
+#[no_mangle]
+pub extern "C" fn gateway_drop(gatherer: &mut [u8], reference: u32) -> u64
+    ensures exact { λ r. ⌜ r ≡ dropResult (now (gatherer .entry)) reference ⌝ }
+    ensures bytes { λ _. ⌜ now (gatherer .exit) ≡ dropBytes (now (gatherer .entry)) reference ⌝ }
+    ensures loads { λ _. ⌜ loadedGatherer (now (gatherer .exit)) ≡ dropLoads (now (gatherer .entry)) reference ⌝ }
+{
+    lentshort::drop_reference(gatherer, reference)
+}
+
+// What a slot, 0 to 3, holds: how many places have come, and the total and the reference as the count. Refusal: 16.
+#[no_mangle]
+pub extern "C" fn gateway_held(gatherer: &[u8], slot: u32) -> u64
+    ensures exact { λ r. ⌜ r ≡ heldResult (now (gatherer .entry)) slot ⌝ }
+{
+    lentshort::held(gatherer, slot)
+}
+
+// Gathers a short message, whatever connection its datagram is for: `said` tells what became of it, and where the datagram that it
+// shows stands. Refusals: 16, 6, 19 to 22.
+#[no_mangle]
+pub extern "C" fn gateway_gather(
+    gatherer: &mut [u8],
+    bytes: &[u8],
+    assembly: &mut [u8],
+    said: &mut [u8],
+) -> u64
+    ensures exact { λ r. ⌜ keeps r (now (gatherer .exit)) (now (assembly .exit)) (now (said .exit))
+        ≡ gatherKeeps (now (gatherer .entry)) (now (bytes .entry)) (now (assembly .entry)) (now (said .entry)) ⌝ }
+    ensures loads { λ _. ⌜ loadedGatherer (now (gatherer .exit)) ≡ gatherLoads (now (gatherer .entry)) (now (bytes .entry))
+        (now (assembly .entry)) (now (said .entry)) ⌝ }
+{
+    lentshort::gather_message(gatherer, bytes, assembly, said)
+}
+
+// Takes a short message: it is gathered, and the datagram that it then shows is received. `said` tells what became of it; the
+// rest is as for a receive. Refusals of the message: 16, 6, 19 to 22; of the datagram that is shown: 1 to 5.
+#[no_mangle]
+pub extern "C" fn gateway_message(
+    state: &mut [u8],
+    tally: &mut [u8],
+    gatherer: &mut [u8],
+    bytes: &[u8],
+    assembly: &mut [u8],
+    random: &[u8],
+    said: &mut [u8],
+    out: &mut [u8],
+    answers: &mut [u8],
+) -> u64
+    ensures exact { λ r. ⌜ leaves (hears r (now (state .exit)) (now (tally .exit)) (now (out .exit)) (now (answers .exit)))
+        (now (gatherer .exit)) (now (assembly .exit)) (now (said .exit))
+        ≡ messageLeaves (now (state .entry)) (now (tally .entry)) (now (gatherer .entry)) (now (bytes .entry))
+        (now (assembly .entry)) (now (random .entry)) (now (said .entry)) (now (out .entry)) (now (answers .entry)) ⌝ }
+    ensures loads { λ _. ⌜ loaded (now (state .exit)) ≡ connectionLoads (now (state .entry)) (now (tally .entry))
+        (now (gatherer .entry)) (now (bytes .entry)) (now (assembly .entry)) (now (random .entry)) (now (said .entry))
+        (now (out .entry)) (now (answers .entry)) ⌝ }
+    ensures gathers { λ _. ⌜ loadedGatherer (now (gatherer .exit)) ≡ gathererLoads (now (state .entry)) (now (tally .entry))
+        (now (gatherer .entry)) (now (bytes .entry)) (now (assembly .entry)) (now (random .entry)) (now (said .entry))
+        (now (out .entry)) (now (answers .entry)) ⌝ }
+{
+    lentshort::message(
+        state,
+        tally,
+        gatherer,
+        bytes,
+        assembly,
+        random,
+        said,
+        out,
+        answers,
+    )
 }

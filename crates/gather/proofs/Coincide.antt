@@ -11,6 +11,7 @@ use Rattle.gather.proofs.gatherer.Gatherer.fresh as gatherer-gatherer-f
 use Rattle.gather.proofs.gatherer.Gatherer.drop as gatherer-gatherer-drop
 use Rattle.gather.proofs.gatherer.Gatherer.step as gatherer-gatherer-step
 use Rattle.gather.proofs.gatherer.datagram as gatherer-datagram
+use Rattle.gather.proofs.slot.held_places as slot-held-places
 
 pub refusal-refusal-number-one : OneOutcome refusal-refusal-number.ended refusal-refusal-number.Reads.Learnt
 refusal-refusal-number-one κs a x y s u e f = (e ∙ sym f, refl)
@@ -33,3 +34,6 @@ gatherer-gatherer-step-one κs a x y s u e f =
 
 pub gatherer-datagram-one : OneOutcomeBy gatherer-datagram.ended (λ κs x y. now x ≡ now y) gatherer-datagram.Reads.Learnt
 gatherer-datagram-one κs a x y s u e f = (e ∙ sym f, refl)
+
+pub slot-held-places-one : OneOutcome slot-held-places.ended slot-held-places.Reads.Learnt
+slot-held-places-one κs a x y s u e f = (e ∙ sym f, refl)

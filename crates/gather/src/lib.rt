@@ -15,3 +15,4 @@ pub use header::read;
 pub use refusal::Refusal;
 pub use refusal::refusal_number;
 pub use slot::Slot;
+pub use slot::held_places;

@@ -60,7 +60,14 @@ pub(crate) fn bytes_below(s: Slot, n: usize) -> usize
     if 1400 < sum { 1400 } else { sum }
 }
 
-// How many places are held.
+// How many places of a slot are held.
+pub fn held_places(s: Slot) -> usize
+    ensures exact { λ r. ⌜ r ≡ countOf (s .sizes) ⌝ }
+{
+    places(s)
+}
+
+// The same, and that there are eleven at most.
 pub(crate) fn places(s: Slot) -> usize
     ensures { λ r. ⌜ (r ≡ countOf (s .sizes)) × (r ≤ 11) ⌝ }
 {

@@ -13,6 +13,8 @@ use Rattle.lent.proofs.state as state
 use Rattle.lent.proofs.arrived as arrived
 use Rattle.lent.proofs.width as width
 use Rattle.lent.proofs.mac as mac
+use Rattle.lent.proofs.load.lent_for as load-lent-for
+use Rattle.lent.proofs.result.result_of as result-result-of
 
 pub fresh-one : OneOutcome fresh.ended fresh.Reads.Learnt
 fresh-one κs a x y s u e f = (
@@ -64,3 +66,9 @@ mac-one κs a x y s u e f = (
   e .0 ∙ sym (f .0),
   λ i. (tt, (tt, ((e .1 ∙ sym (f .1)) i, tt))),
 )
+
+pub load-lent-for-one : OneOutcome load-lent-for.ended load-lent-for.Reads.Learnt
+load-lent-for-one κs a x y s u e f = (e ∙ sym f, refl)
+
+pub result-result-of-one : OneOutcome result-result-of.ended result-result-of.Reads.Learnt
+result-result-of-one κs a x y s u e f = (e ∙ sym f, refl)

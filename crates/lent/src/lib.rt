@@ -29,11 +29,11 @@ use leave::leave_received;
 use leave::leave_sent;
 use load::connection_in;
 use load::is_saved;
-use load::lent_for;
+pub use load::lent_for;
 use load::open_window;
 use macs::leave_named;
 use result::not_taken;
-use result::result_of;
+pub use result::result_of;
 use save::SIZE;
 
 // A fresh connection of a planted session, with a window of this width, 32 to 64, in 940 bytes. Refusal: 16.

@@ -52,8 +52,8 @@ fn is_handshake(s: &[u8]) -> bool
 }
 
 // Whether what is lent to a receive has its sizes, and the bytes are a saved connection.
-pub(crate) fn lent_for(state: &[u8], counts: usize, places: usize) -> bool
-    ensures { λ r. ⌜ r ≡ lentFor (now (state .entry)) counts places ⌝ }
+pub fn lent_for(state: &[u8], counts: usize, places: usize) -> bool
+    ensures exact { λ r. ⌜ r ≡ lentFor (now (state .entry)) counts places ⌝ }
 {
     if counts != 16 {
         return false;

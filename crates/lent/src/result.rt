@@ -3,8 +3,8 @@
 ghost use mathlib.Core.Path.{_≡_};
 ghost use Rattle.lent.specs.Calls.{resultOf, notTaken};
 
-pub(crate) fn result_of(refusal: u8, written: usize, count: usize) -> u64
-    ensures { λ r. ⌜ r ≡ resultOf refusal written count ⌝ }
+pub fn result_of(refusal: u8, written: usize, count: usize) -> u64
+    ensures exact { λ r. ⌜ r ≡ resultOf refusal written count ⌝ }
 {
     let high = refusal as u64 * 65536 + (written % 65536) as u64;
     high * 65536 + (count % 65536) as u64

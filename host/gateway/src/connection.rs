@@ -120,6 +120,11 @@ impl Connection {
         Ok(&out[..given.written])
     }
 
+    /// The bytes, for a call of the library.
+    pub(crate) fn lent(&mut self) -> &mut [u8] {
+        &mut self.state
+    }
+
     /// Leads anywhere but Barred to Closed.
     pub fn close(&mut self) -> Result<(), Refusal> {
         done(raw::close(&mut self.state)).map(|_| ())
@@ -138,14 +143,14 @@ impl fmt::Debug for Connection {
     }
 }
 
-fn refusal(given: Raw) -> Option<Refusal> {
+pub(crate) fn refusal(given: Raw) -> Option<Refusal> {
     match given.refusal {
         0 => None,
         number => Some(Refusal::numbered(number).expect("a refusal has its number")),
     }
 }
 
-fn done(given: Raw) -> Result<Raw, Refusal> {
+pub(crate) fn done(given: Raw) -> Result<Raw, Refusal> {
     match refusal(given) {
         None => Ok(given),
         Some(refusal) => Err(refusal),

@@ -1,6 +1,6 @@
 //! The shore end of one link, for Rust: WTLS (WAP-261, 6 April 2001) with one ship's unit, proved in Rattle.
 //!
-//! [`Connection`] is one connection with a unit, [`Tally`] its tally. Both are plain bytes: there is no heap behind them, and
+//! [`Connection`] is one connection with a unit, [`Tally`] its tally, [`Gatherer`] gathers short messages. All are plain bytes: there is no heap behind them, and
 //! they may be stored and loaded again. Every refusal is a [`Refusal`], which prints its number and its meaning.
 //!
 //! ```
@@ -27,6 +27,7 @@
 
 mod answer;
 mod connection;
+mod gatherer;
 mod mac;
 pub mod raw;
 mod refusal;
@@ -34,6 +35,7 @@ mod tally;
 
 pub use answer::{Answer, Answers, Received};
 pub use connection::{Connection, Refused, Sense, State};
+pub use gatherer::{Gathered, Gatherer, Held, Messaged, Ports};
 pub use mac::{Edition, MacKind};
 pub use refusal::Refusal;
 pub use tally::Tally;
@@ -57,5 +59,11 @@ pub const DATAGRAM_MOST: usize = 1400;
 pub const DATA_MOST: usize = 1300;
 /// Room for anything that a send can write.
 pub const SEND_ROOM: usize = 1323;
+pub const GATHERER_SIZE: usize = 5700;
+/// The least room of an assembly buffer.
+pub const ASSEMBLY_ROOM: usize = 1400;
+pub const SAID_SIZE: usize = 10;
+/// How many references a gatherer holds at once.
+pub const REFERENCES_MOST: usize = 4;
 /// Room for the name of any MAC kind.
 pub const NAME_ROOM: usize = 10;

@@ -54,6 +54,39 @@ mod exported {
         pub fn gateway_arrived(state: *const u8, state_size: usize) -> u64;
         pub fn gateway_width(state: *const u8, state_size: usize) -> u64;
         pub fn gateway_mac(edition: u32, number: u32, out: *mut u8, room: usize) -> u64;
+        pub fn gateway_gatherer(gatherer: *mut u8, gatherer_size: usize) -> u64;
+        pub fn gateway_drop(gatherer: *mut u8, gatherer_size: usize, reference: u32) -> u64;
+        pub fn gateway_held(gatherer: *const u8, gatherer_size: usize, slot: u32) -> u64;
+        pub fn gateway_gather(
+            gatherer: *mut u8,
+            gatherer_size: usize,
+            message: *const u8,
+            message_size: usize,
+            assembly: *mut u8,
+            assembly_size: usize,
+            said: *mut u8,
+            said_size: usize,
+        ) -> u64;
+        pub fn gateway_message(
+            state: *mut u8,
+            state_size: usize,
+            tally: *mut u8,
+            tally_size: usize,
+            gatherer: *mut u8,
+            gatherer_size: usize,
+            message: *const u8,
+            message_size: usize,
+            assembly: *mut u8,
+            assembly_size: usize,
+            random: *const u8,
+            random_size: usize,
+            said: *mut u8,
+            said_size: usize,
+            out: *mut u8,
+            room: usize,
+            answers: *mut u8,
+            answers_size: usize,
+        ) -> u64;
     }
 }
 
@@ -186,4 +219,77 @@ pub fn width(state: &[u8]) -> Result {
 pub fn mac(edition: u32, number: u32, out: &mut [u8]) -> Result {
     // Safety: the pointer is that of a slice, beside its length.
     Result::of(unsafe { exported::gateway_mac(edition, number, out.as_mut_ptr(), out.len()) })
+}
+
+pub fn gatherer(gatherer: &mut [u8]) -> Result {
+    // Safety: the pointer is that of a slice, beside its length.
+    Result::of(unsafe { exported::gateway_gatherer(gatherer.as_mut_ptr(), gatherer.len()) })
+}
+
+pub fn drop(gatherer: &mut [u8], reference: u32) -> Result {
+    // Safety: the pointer is that of a slice, beside its length.
+    Result::of(unsafe { exported::gateway_drop(gatherer.as_mut_ptr(), gatherer.len(), reference) })
+}
+
+pub fn held(gatherer: &[u8], slot: u32) -> Result {
+    // Safety: the pointer is that of a slice, beside its length.
+    Result::of(unsafe { exported::gateway_held(gatherer.as_ptr(), gatherer.len(), slot) })
+}
+
+pub fn gather(
+    gatherer: &mut [u8],
+    message: &[u8],
+    assembly: &mut [u8],
+    said: &mut [u8],
+) -> Result {
+    // Safety: each pointer is that of a slice, beside its length.
+    Result::of(unsafe {
+        exported::gateway_gather(
+            gatherer.as_mut_ptr(),
+            gatherer.len(),
+            message.as_ptr(),
+            message.len(),
+            assembly.as_mut_ptr(),
+            assembly.len(),
+            said.as_mut_ptr(),
+            said.len(),
+        )
+    })
+}
+
+#[allow(clippy::too_many_arguments)]
+pub fn message(
+    state: &mut [u8],
+    tally: &mut [u8],
+    gatherer: &mut [u8],
+    message: &[u8],
+    assembly: &mut [u8],
+    random: &[u8],
+    said: &mut [u8],
+    out: &mut [u8],
+    answers: &mut [u8],
+) -> Result {
+    // Safety: each pointer is that of a slice, beside its length.
+    Result::of(unsafe {
+        exported::gateway_message(
+            state.as_mut_ptr(),
+            state.len(),
+            tally.as_mut_ptr(),
+            tally.len(),
+            gatherer.as_mut_ptr(),
+            gatherer.len(),
+            message.as_ptr(),
+            message.len(),
+            assembly.as_mut_ptr(),
+            assembly.len(),
+            random.as_ptr(),
+            random.len(),
+            said.as_mut_ptr(),
+            said.len(),
+            out.as_mut_ptr(),
+            out.len(),
+            answers.as_mut_ptr(),
+            answers.len(),
+        )
+    })
 }

@@ -24,11 +24,15 @@ pub enum Refusal {
     Argument = 16,
     WrongFinished = 17,
     HelloWhileOpen = 18,
+    MessageHeader = 19,
+    PartDiffers = 20,
+    GathererFull = 21,
+    PartsLong = 22,
 }
 
 use Refusal::*;
 
-const ALL: [Refusal; 18] = [
+const ALL: [Refusal; 22] = [
     Size,
     Header,
     Type,
@@ -47,10 +51,14 @@ const ALL: [Refusal; 18] = [
     Argument,
     WrongFinished,
     HelloWhileOpen,
+    MessageHeader,
+    PartDiffers,
+    GathererFull,
+    PartsLong,
 ];
 
 impl Refusal {
-    /// The number in the list of the rules, 1 to 18.
+    /// The number in the list of the rules, 1 to 22.
     pub fn number(self) -> u8 {
         self as u8
     }
@@ -81,6 +89,12 @@ impl Refusal {
             Argument => "argument out of range; also: the bytes lent are no saved connection",
             WrongFinished => "genuine Finished with wrong contents",
             HelloWhileOpen => "clear ClientHello while Open",
+            MessageHeader => {
+                "no ports, an element past its end or of wrong length, total over 11, place 0 or above the total"
+            }
+            PartDiffers => "same place with other bytes, or same reference with another total",
+            GathererFull => "a new reference while all four are in use",
+            PartsLong => "parts over 1,400 bytes together with this one: the reference is dropped",
         }
     }
 }

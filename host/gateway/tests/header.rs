@@ -38,14 +38,18 @@ fn sizes() {
     assert_eq!(size("DATA_MOST"), gateway::DATA_MOST);
     assert_eq!(size("SEND_ROOM"), gateway::SEND_ROOM);
     assert_eq!(size("NAME_ROOM"), gateway::NAME_ROOM);
+    assert_eq!(size("GATHERER_SIZE"), gateway::GATHERER_SIZE);
+    assert_eq!(size("ASSEMBLY_ROOM"), gateway::ASSEMBLY_ROOM);
+    assert_eq!(size("SAID_SIZE"), gateway::SAID_SIZE);
+    assert_eq!(size("REFERENCES_MOST"), gateway::REFERENCES_MOST);
 }
 
-/// `NotAllowed` is GATEWAY_NOT_ALLOWED, and prints as `refused 8: ` and the words of the header; so all eighteen.
+/// `NotAllowed` is GATEWAY_NOT_ALLOWED, and prints as `refused 8: ` and the words of the header; so all twenty-two.
 #[test]
 fn refusals_by_name_number_and_meaning() {
     let refusals = refusals();
     assert_eq!(refusals[0], ("GATEWAY_DONE".to_string(), 0, String::new()));
-    assert_eq!(refusals.len(), 19);
+    assert_eq!(refusals.len(), 23);
     for (place, (name, number, comment)) in refusals.iter().enumerate().skip(1) {
         let refusal = Refusal::numbered(*number).expect(name);
         assert_eq!((usize::from(refusal.number()), *number as usize), (place, place));
@@ -59,5 +63,5 @@ fn refusals_by_name_number_and_meaning() {
         assert_eq!(refusal.meaning(), comment);
     }
     assert_eq!(Refusal::numbered(0), None);
-    assert_eq!(Refusal::numbered(19), None);
+    assert_eq!(Refusal::numbered(23), None);
 }

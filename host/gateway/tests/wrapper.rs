@@ -4,13 +4,13 @@ use gateway::{Answer, Connection, Refusal, State, Tally};
 
 #[test]
 fn refusals_print_their_number_and_meaning() {
-    for number in 1..=18 {
+    for number in 1..=22 {
         let refusal = Refusal::numbered(number).expect("the list has it");
         assert_eq!(u32::from(refusal.number()), number);
         assert_eq!(refusal.to_string(), format!("refused {number}: {}", refusal.meaning()));
     }
     assert_eq!(Refusal::numbered(0), None);
-    assert_eq!(Refusal::numbered(19), None);
+    assert_eq!(Refusal::numbered(23), None);
     assert_eq!(Refusal::Forged.to_string(), "refused 9: code not right");
 }
 

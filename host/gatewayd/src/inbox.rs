@@ -4,7 +4,7 @@
 use crate::socket::{Batch, Datagram, Socket, BATCH};
 use std::io;
 use std::sync::atomic::{AtomicBool, AtomicU64, Ordering};
-use std::sync::mpsc::{sync_channel, Receiver, RecvTimeoutError, SyncSender};
+use std::sync::mpsc::{sync_channel, Receiver, RecvTimeoutError, SyncSender, TryRecvError};
 use std::sync::Arc;
 use std::thread;
 use std::time::Duration;
@@ -49,6 +49,22 @@ impl Inbox {
         while run.len() < most {
             let Ok(batch) = self.batches.try_recv() else { break };
             run.extend(batch?);
+        }
+        Ok(run)
+    }
+
+    /// The datagrams that wait, about so many at most. Waits for none; but once it is closed, none means that all are taken.
+    pub fn poll(&mut self, most: usize) -> io::Result<Vec<Datagram>> {
+        if self.is_closed {
+            return self.next(most, Duration::ZERO);
+        }
+        let mut run = Vec::new();
+        while run.len() < most {
+            match self.batches.try_recv() {
+                Ok(batch) => run.extend(batch?),
+                Err(TryRecvError::Empty) => break,
+                Err(TryRecvError::Disconnected) => return Err(io::Error::other("the receiver ended")),
+            }
         }
         Ok(run)
     }

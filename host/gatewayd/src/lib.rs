@@ -10,6 +10,7 @@ pub mod hex;
 pub mod hints;
 pub mod inbox;
 pub mod log;
+pub mod messages;
 pub mod note;
 pub mod options;
 pub mod randoms;

@@ -51,6 +51,15 @@ pub enum Note {
         kind: ErrorKind,
         so_far: u64,
     },
+    /// A short message that was not gathered.
+    MessageRefused {
+        refusal: Refusal,
+    },
+    /// A gathering of short messages that had waited for too long.
+    GatheringDropped {
+        have: usize,
+        total: u8,
+    },
     /// The library did not write an alert of ours.
     AlertRefused {
         refusal: Refusal,
@@ -79,6 +88,8 @@ impl Note {
             Note::Hinted => (13, 0),
             Note::AlertPassedOver => (14, 0),
             Note::ClosedInClear { .. } => (15, 0),
+            Note::MessageRefused { refusal } => (16, refusal.number()),
+            Note::GatheringDropped { .. } => (17, 0),
         }
     }
 }
@@ -114,6 +125,10 @@ impl fmt::Display for Note {
                 write!(f, "datagram not sent: {kind}; {so_far} so far")
             }
             Note::AlertRefused { refusal } => write!(f, "alert not sent: {refusal}"),
+            Note::MessageRefused { refusal } => write!(f, "short message {refusal}"),
+            Note::GatheringDropped { have, total } => {
+                write!(f, "short message dropped: {have} of {total} parts had waited for too long")
+            }
         }
     }
 }

@@ -25,6 +25,9 @@ gatewayd: the shore end of the link, over UDP. One connection for each planted s
                            and barred sessions stay
     --listen ADDRESS:PORT  where to listen  [127.0.0.1:9202]; not asked if a socket was handed over
                            (LISTEN_FDS, as systemd does it)
+    --listen-messages ADDRESS:PORT  where relays of short messages send to: the user data of one
+                           message to a datagram  [none]
+    --gather-for SECONDS   parts of a short message wait so long for the others  [300]
     --reopen-after SECONDS a hello is answered beside an open connection that has been silent for so
                            long  [5]
     --warn-every SECONDS   at most one warning 57 to a ship in this time  [60]
@@ -54,6 +57,8 @@ pub struct Options {
     pub store: Where,
     pub start: Start,
     pub listen: SocketAddr,
+    pub listen_messages: Option<SocketAddr>,
+    pub gather_for: Duration,
     pub reopen_after: Duration,
     pub warn_every: Duration,
     pub hint_every: Option<Duration>,
@@ -67,6 +72,8 @@ struct Said {
     store: Option<String>,
     start: Start,
     listen: SocketAddr,
+    listen_messages: Option<SocketAddr>,
+    gather_for: Duration,
     reopen_after: Duration,
     warn_every: Duration,
     hint_every: Option<Duration>,
@@ -80,6 +87,8 @@ pub fn read(mut words: impl Iterator<Item = OsString>) -> Result<Command, String
         store: None,
         start: Start::AsItWas,
         listen: SocketAddr::from(([127, 0, 0, 1], 9202)),
+        listen_messages: None,
+        gather_for: Duration::from_secs(300),
         reopen_after: Duration::from_secs(5),
         warn_every: Duration::from_secs(60),
         hint_every: None,
@@ -100,6 +109,8 @@ pub fn read(mut words: impl Iterator<Item = OsString>) -> Result<Command, String
         store: Where::said(said.state, said.store)?,
         start: said.start,
         listen: said.listen,
+        listen_messages: said.listen_messages,
+        gather_for: said.gather_for,
         reopen_after: said.reopen_after,
         warn_every: said.warn_every,
         hint_every: said.hint_every,
@@ -120,11 +131,9 @@ impl Said {
             "--store" => self.store = Some(text(value()?)?),
             "--restored" => self.start = Start::Restored,
             "--afresh" => self.start = Start::Afresh,
-            "--listen" => {
-                let value = text(value()?)?;
-                self.listen =
-                    value.parse().map_err(|_| format!("--listen: {value} is no ADDRESS:PORT"))?;
-            }
+            "--listen" => self.listen = address(word, value()?)?,
+            "--listen-messages" => self.listen_messages = Some(address(word, value()?)?),
+            "--gather-for" => self.gather_for = seconds(word, value()?)?,
             "--reopen-after" => self.reopen_after = seconds(word, value()?)?,
             "--warn-every" => self.warn_every = seconds(word, value()?)?,
             "--hint-every" => self.hint_every = Some(seconds(word, value()?)?),
@@ -138,6 +147,11 @@ impl Said {
 /// Paths may be any bytes, everything else is UTF-8.
 fn text(word: OsString) -> Result<String, String> {
     word.into_string().map_err(|word| format!("{} is not UTF-8", word.to_string_lossy()))
+}
+
+fn address(word: &str, value: OsString) -> Result<SocketAddr, String> {
+    let value = text(value)?;
+    value.parse().map_err(|_| format!("{word}: {value} is no ADDRESS:PORT"))
 }
 
 /// Seconds, with a fraction if need be.
@@ -163,6 +177,7 @@ mod tests {
         assert_eq!(options.store, Where::Directory("s".into()));
         assert_eq!(options.reopen_after, Duration::from_secs(5));
         assert_eq!(options.hint_every, None);
+        assert_eq!(options.listen_messages, None);
         let line = "--state s --sessions f --reopen-after 0.5 --hint-every 7";
         let Ok(Command::Run(options)) = words(line) else { panic!() };
         assert_eq!(options.reopen_after, Duration::from_millis(500));
@@ -175,6 +190,7 @@ mod tests {
             "--sessions f --store mysql://x",
             "--state",
             "--listen x",
+            "--listen-messages x",
             "--warn-every -1",
             "--log-every nan",
             "x",

@@ -3,6 +3,7 @@
 use crate::fleet::{Fleet, Rules};
 use crate::inbox::Inbox;
 use crate::log::{say, Log, Progress};
+use crate::messages::Messages;
 use crate::note::Note;
 use crate::options::Options;
 use crate::randoms::Randoms;
@@ -13,6 +14,7 @@ use crate::socket::{Datagram, Socket};
 use crate::store::engine::Fault;
 use crate::store::{Opened, Store};
 use crate::waiting::Waiting;
+use crate::way::Way;
 use gateway::State;
 use std::fmt;
 use std::io::{self, IsTerminal};
@@ -43,6 +45,7 @@ const LONGEST_PAUSE: Duration = Duration::from_millis(1);
 struct Gateway {
     socket: Socket,
     inbox: Inbox,
+    messages: Option<Messages>,
     shore: Shore,
     log: Log,
     sessions: PathBuf,
@@ -65,6 +68,7 @@ pub fn run(options: &Options) -> Result<Ended, Failure> {
         |error: io::Error| Failure { status: 5, what: format!("{}: {error}", options.listen) };
     let socket = Socket::open(options.listen).map_err(listen)?;
     let address = socket.address().map_err(listen)?;
+    let messages = open_messages(options)?;
     let randoms = Randoms::open().map_err(failure(6))?;
     let mut log = Log::new(options.log_every);
     let attempt = || match Store::open(&options.store, &sessions, options.start) {
@@ -95,11 +99,16 @@ pub fn run(options: &Options) -> Result<Ended, Failure> {
     };
     let shore = Shore::new(Fleet::new(ships, rules), store, randoms);
     let version = env!("CARGO_PKG_VERSION");
-    say(format!("gatewayd {version} listens on {address}: {}\n", states(&shore.fleet)));
+    let also = match &messages {
+        Some(messages) => format!("; short messages on {}", messages.address().map_err(listen)?),
+        None => String::new(),
+    };
+    say(format!("gatewayd {version} listens on {address}: {}{also}\n", states(&shore.fleet)));
     let now = Instant::now();
     let mut gateway = Gateway {
         socket,
         inbox,
+        messages,
         shore,
         log,
         sessions: options.sessions.clone(),
@@ -140,6 +149,9 @@ impl Gateway {
         };
         // What was received is still taken; what was not waits in the socket.
         self.inbox.close();
+        if let Some(messages) = &mut self.messages {
+            messages.close();
+        }
         loop {
             let run = self.next()?;
             let last = run.is_empty();
@@ -153,7 +165,31 @@ impl Gateway {
     /// A commit is shared by what has arrived: where it takes long, what follows closely is waited for.
     fn next(&mut self) -> Result<Vec<Datagram>, String> {
         let pause = (self.last_run / PAUSE_PART).min(LONGEST_PAUSE);
-        self.inbox.next(RUN, pause).map_err(|error| error.to_string())
+        let told = |error: io::Error| error.to_string();
+        let mut shown = self.next_messages().map_err(told)?;
+        let run = match shown.is_empty() {
+            true => self.inbox.next(RUN, pause),
+            false => self.inbox.poll(RUN),
+        };
+        shown.extend(run.map_err(told)?);
+        Ok(shown)
+    }
+
+    /// The datagrams that short messages show. What is said of messages is logged at once.
+    fn next_messages(&mut self) -> io::Result<Vec<Datagram>> {
+        let Some(messages) = &mut self.messages else { return Ok(Vec::new()) };
+        let shown = messages.next(RUN)?;
+        let now = Instant::now();
+        for (sender, note) in shown.notes {
+            self.log.note(None, sender, note, now);
+        }
+        Ok(shown.run)
+    }
+
+    /// Sends a datagram back the way that one came: to a relay as a short message.
+    fn send(&self, way: Way, bytes: &[u8]) -> io::Result<()> {
+        let sent = self.messages.as_ref().and_then(|messages| messages.send(way, bytes));
+        sent.unwrap_or_else(|| self.socket.send(way, bytes))
     }
 
     /// A sessions file that cannot be used would be the end: better go on with the one that was.
@@ -179,7 +215,7 @@ impl Gateway {
         self.datagrams += run.len() as u64;
         for (way, bytes) in send {
             // A datagram that cannot be sent is one that the link lost.
-            if let Err(error) = self.socket.send(way, &bytes) {
+            if let Err(error) = self.send(way, &bytes) {
                 self.not_sent += 1;
                 let note = Note::NotSent { kind: error.kind(), so_far: self.not_sent };
                 notes.push((None, way.sender, note));
@@ -238,6 +274,12 @@ impl Gateway {
         say(Tallies(&self.shore.fleet).to_string());
         Ended::ForGood
     }
+}
+
+fn open_messages(options: &Options) -> Result<Option<Messages>, Failure> {
+    let Some(address) = options.listen_messages else { return Ok(None) };
+    let opened = Messages::open(address, options.gather_for);
+    opened.map(Some).map_err(|error| Failure { status: 5, what: format!("{address}: {error}") })
 }
 
 fn states(fleet: &Fleet) -> String {

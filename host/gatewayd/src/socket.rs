@@ -43,10 +43,21 @@ const COUNTED: &str = "GATEWAYD_COUNTED";
 impl Socket {
     /// The socket that was handed over to us, if there is one; else a new one.
     pub fn open(address: SocketAddr) -> io::Result<Socket> {
-        let (socket, counted) = match handed_over()? {
-            Some(socket) => (socket, std::env::var(COUNTED).ok().and_then(|text| text.parse().ok())),
-            None => (UdpSocket::bind(address)?, None),
-        };
+        match handed_over()? {
+            Some(socket) => {
+                let counted = std::env::var(COUNTED).ok().and_then(|text| text.parse().ok());
+                Socket::over(socket, counted)
+            }
+            None => Socket::bind(address),
+        }
+    }
+
+    /// A new one.
+    pub fn bind(address: SocketAddr) -> io::Result<Socket> {
+        Socket::over(UdpSocket::bind(address)?, None)
+    }
+
+    fn over(socket: UdpSocket, counted: Option<u32>) -> io::Result<Socket> {
         let version_6 = socket.local_addr()?.is_ipv6();
         let mut socket = Socket { socket, version_6, counted: Arc::default(), before: 0 };
         socket.prepare()?;

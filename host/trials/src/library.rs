@@ -2,8 +2,9 @@
 //! second implementation writes it. Beside each line stand the checks that no line can show: that a refused call touched
 //! nothing, that only the counted bytes of the output were written, and that the connection loads from what was saved.
 
-use gateway::{Answer, Connection, Refusal, Sense, Tally};
-use peer::short::{self, Gathering};
+use gateway::{
+    Answer, Connection, Gathered, Gatherer, Messaged, Ports, Received, Refusal, Refused, Sense, Tally,
+};
 
 /// What lies in the output before a call.
 const BLANK: u8 = 0xa5;
@@ -12,8 +13,7 @@ const BLANK: u8 = 0xa5;
 pub struct Library {
     connection: Option<Connection>,
     tally: Tally,
-    /// Short messages are gathered by the second implementation; what they show is received by the library.
-    gathering: Gathering,
+    gatherer: Gatherer,
     /// How many datagrams were received.
     pub datagrams: u64,
     /// What was wrong beyond the lines.
@@ -46,7 +46,7 @@ impl Library {
             Ok(connection) => {
                 self.connection = Some(connection);
                 self.tally = Tally::default();
-                self.gathering = Gathering::default();
+                self.gatherer = Gatherer::new();
                 "fresh ok".to_string()
             }
             Err(refusal) => refused("fresh", refusal),
@@ -77,7 +77,7 @@ impl Library {
                 self.message(&mut connection, &bytes(message), &bytes(random), number(room), lines)
             }
             ["drop", reference] => {
-                self.gathering.drop_reference(number(reference) as u8);
+                self.gatherer.drop_reference(number(reference) as u8);
                 lines.push("drop ok".to_string());
             }
             ["close"] => lines.push(done("close", connection.close())),
@@ -103,14 +103,27 @@ impl Library {
     ) {
         self.datagrams += 1;
         let (mut out, tally) = (vec![BLANK; room], self.tally);
-        match connection.receive(&mut self.tally, datagram, random, &mut out) {
+        let got = connection.receive(&mut self.tally, datagram, random, &mut out);
+        let written = got.as_ref().map_or(0, |received| received.to_send().len());
+        self.received(got, datagram, tally, lines);
+        self.untouched(&out, written);
+    }
+
+    /// What a datagram got; the tally is what it was before.
+    fn received(
+        &mut self,
+        got: Result<Received, Refused>,
+        datagram: &[u8],
+        tally: Tally,
+        lines: &mut Vec<String>,
+    ) {
+        match got {
             Err(refused) => {
                 let number = refused.refusal.number();
                 lines.push(match number {
                     1..=5 => format!("receive refused {number} at {}", refused.offset),
                     _ => format!("receive refused {number}"),
                 });
-                self.untouched(&out, 0);
                 if self.tally != tally {
                     self.wrong = Some("a refused datagram changed the tally".to_string());
                 }
@@ -133,16 +146,14 @@ impl Library {
                 if received.reports().count() as u32 != handed_out {
                     self.wrong = Some("the reports are not those that were counted".to_string());
                 }
-                let sent = received.to_send().to_vec();
-                if !sent.is_empty() {
-                    lines.push(format!("out {}", hex(&sent)));
+                if !received.to_send().is_empty() {
+                    lines.push(format!("out {}", hex(received.to_send())));
                 }
-                self.untouched(&out, sent.len());
             }
         }
     }
 
-    /// The message as the second implementation gathers it, and what it shows as the library receives it.
+    /// A short message: the library gathers it, by either call that does, and receives what it shows.
     fn message(
         &mut self,
         connection: &mut Connection,
@@ -151,22 +162,48 @@ impl Library {
         room: usize,
         lines: &mut Vec<String>,
     ) {
-        if random.len() != gateway::RANDOM_SIZE || room < gateway::REPLY_ROOM {
-            let refusal =
-                if random.len() != gateway::RANDOM_SIZE { Refusal::Argument } else { Refusal::Room };
-            return lines.push(refused("message", refusal));
-        }
-        let answer = self.gathering.message(message);
-        lines.push(peer::messages::words(&answer, message));
-        match answer {
-            short::Answer::Received { start, .. } => {
-                self.receive(connection, &message[start..], random, room, lines)
+        let before = (connection.clone(), self.gatherer.clone(), self.tally);
+        let (mut out, mut gatherer) = (vec![BLANK; room], self.gatherer.clone());
+        let messaged = gatherer.message(connection, &mut self.tally, message, random, &mut out);
+        let (mut alone, line) = (self.gatherer.clone(), lines.len());
+        match messaged {
+            Err(refusal) => {
+                lines.push(refused("message", refusal));
+                self.untouched(&out, 0);
+                let dropped = refusal == Refusal::PartsLong;
+                if (&before.0, before.2) != (&*connection, self.tally)
+                    || !dropped && before.1 != gatherer
+                {
+                    self.wrong = Some("a refused message changed something".to_string());
+                }
+                if (19..=22).contains(&refusal.number()) && alone.gather(message) != Err(refusal) {
+                    self.wrong = Some("gathered alone, it is not refused so".to_string());
+                }
             }
-            short::Answer::Gathered { datagram, .. } => {
-                self.receive(connection, &datagram, random, room, lines)
+            Ok(Messaged { gathered, got }) => {
+                lines.push(message_words(&gathered));
+                if alone.gather(message) != Ok(gathered) {
+                    self.wrong = Some("gathered alone, it becomes something else".to_string());
+                }
+                if let (Some(got), Some(datagram)) = (got, gathered.datagram()) {
+                    self.datagrams += 1;
+                    self.received(got, datagram, before.2, lines);
+                } else if (&before.0, before.2) != (&*connection, self.tally) {
+                    self.wrong = Some("a message that waits changed the connection".to_string());
+                }
+                let sent = if lines[line..].iter().any(|line| line.starts_with("out ")) {
+                    lines.last().map_or(0, |line| (line.len() - 4) / 2)
+                } else {
+                    0
+                };
+                self.untouched(&out, sent);
             }
-            short::Answer::Refused(_) | short::Answer::Waiting { .. } => {}
         }
+        let same = lines[line].contains("refused") || alone == gatherer;
+        if !same || Gatherer::load(gatherer.save()).as_ref() != Ok(&gatherer) {
+            self.wrong = Some("the gatherer is not what it must be".to_string());
+        }
+        self.gatherer = gatherer;
     }
 
     fn sent(
@@ -220,9 +257,35 @@ impl Library {
             tally.forged(),
             tally.too_old(),
             tally.repeated(),
-            peer::messages::parts(&self.gathering)
+            parts(&self.gatherer)
         )
     }
+}
+
+/// The first line of a message: what became of it.
+fn message_words(gathered: &Gathered) -> String {
+    let Ports { destination, originator } = gathered.ports();
+    let ports = format!("ports {destination} {originator}");
+    match gathered {
+        Gathered::Waiting { held, .. } => {
+            format!("message waiting {} {} {} {ports}", held.reference, held.have, held.total)
+        }
+        Gathered::Alone { start, datagram, .. } => {
+            format!("message received {start} {} {ports}", datagram.len())
+        }
+        Gathered::Whole { datagram: [], .. } => format!("message gathered - {ports}"),
+        Gathered::Whole { datagram, .. } => format!("message gathered {} {ports}", hex(datagram)),
+    }
+}
+
+/// `REF:HAVE/TOTAL,..` by rising reference, `-` for none.
+fn parts(gatherer: &Gatherer) -> String {
+    let held = gatherer.held();
+    let words: Vec<String> = held
+        .iter()
+        .map(|held| format!("{}:{}/{}", held.reference, held.have, held.total))
+        .collect();
+    if words.is_empty() { "-".to_string() } else { words.join(",") }
 }
 
 fn refused(call: &str, refusal: Refusal) -> String {

@@ -5,6 +5,7 @@ mod differ;
 mod laws;
 mod library;
 mod limits;
+mod messages;
 mod open;
 
 use std::process::ExitCode;
@@ -15,6 +16,8 @@ trials differ [DATAGRAMS [SEED]]   random days through the exported calls and th
                                    datagrams as said (default 100,000), valid and damaged
 trials limits                      every exported call with lengths 0, 1, at and past each limit
 trials damage                      the bytes of saved connections damaged one at a time
+trials messages                    the calls for short messages at their limits, and on the bytes
+                                   of a saved gatherer damaged one at a time
 trials laws [ROUNDS [SEED]]        the laws of the test bench over random traffic: joined
                                    stretches and swapped arrivals, as many rounds as said
                                    (default 2,000)
@@ -35,6 +38,7 @@ fn main() -> ExitCode {
         },
         ["limits"] => limits::run(),
         ["damage"] => damage::run(),
+        ["messages"] => messages::run(),
         ["laws"] => laws::run(2_000, 1),
         ["laws", count] => match count.parse() {
             Ok(count) => laws::run(count, 1),

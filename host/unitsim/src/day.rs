@@ -63,7 +63,9 @@ impl Day<'_> {
         }
         if self.options.close {
             let notice = self.ship.alert(CRITICAL, CONNECTION_CLOSE_NOTIFY, &self.last_heard);
-            self.gateway.deliver(&notice.map_err(refused)?)?;
+            for carried in self.gateway.carried(notice.map_err(refused)?) {
+                self.gateway.deliver(&carried)?;
+            }
         }
         Ok(())
     }
@@ -151,8 +153,10 @@ impl Day<'_> {
     }
 
     fn send(&mut self, datagram: Vec<u8>) -> Result<(), String> {
-        for datagram in self.out.pass(datagram) {
-            self.gateway.deliver(&datagram)?;
+        for carried in self.gateway.carried(datagram) {
+            for delivered in self.out.pass(carried) {
+                self.gateway.deliver(&delivered)?;
+            }
         }
         self.pause();
         self.gateway.hear(Duration::ZERO)

@@ -2,6 +2,7 @@
 
 mod day;
 mod link;
+mod messages;
 mod options;
 mod shore;
 

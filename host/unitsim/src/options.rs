@@ -23,6 +23,8 @@ unitsim: a ship's unit behind a bad link, for trying a gateway.
                          places late, once the gateway has our Finished  [0]
     --every MILLISECONDS pause behind each datagram  [1]
     --timer MILLISECONDS how long the ship waits for a reply before it says its hello again  [20]
+    --messages SECONDS   sends by short messages, one to a datagram, and the link has its faults for
+                         each; the gateway is one that drops parts which have waited for so long
     --mac sha80|sha      [sha80]
     --refresh N          the key refresh  [4]
     --expected FILE      writes what must be in the list: number, length, bytes in hexadecimal
@@ -51,6 +53,7 @@ pub struct Options {
     pub expected: Option<PathBuf>,
     pub capture: Option<PathBuf>,
     pub close: bool,
+    pub messages: Option<Duration>,
 }
 
 /// Per cent of the datagrams.
@@ -67,6 +70,7 @@ pub struct Rates {
 pub fn read(mut words: impl Iterator<Item = String>) -> Result<Option<Options>, String> {
     let (mut to, mut sessions, mut ship) = (None, None, None);
     let (mut expected, mut capture, mut close) = (None, None, false);
+    let mut messages = None;
     let (mut reports, mut seed, mut every, mut timer) = (300, 1, 1, 20);
     let mut rates = Rates::default();
     let (mut kind, mut refresh) = (Kind::Sha80, 4);
@@ -96,6 +100,7 @@ pub fn read(mut words: impl Iterator<Item = String>) -> Result<Option<Options>, 
             "--every" => every = number(&word, &value)?,
             "--timer" => timer = number(&word, &value)?,
             "--refresh" => refresh = number(&word, &value)?,
+            "--messages" => messages = Some(Duration::from_secs(number(&word, &value)?)),
             "--mac" if value == "sha80" => kind = Kind::Sha80,
             "--mac" if value == "sha" => kind = Kind::Sha,
             _ => return Err(format!("{word} {value} is not known")),
@@ -122,6 +127,7 @@ pub fn read(mut words: impl Iterator<Item = String>) -> Result<Option<Options>, 
         expected,
         capture,
         close,
+        messages,
     }))
 }
 

@@ -1,6 +1,7 @@
 //! The gateway as it must be: all that the link delivers goes to the real one and through the
 //! shore's rules, and the real one's replies must be the same to the byte.
 
+use crate::messages::Messages;
 use crate::options::Options;
 use peer::capture::{Capture, Way};
 use peer::shore::{Answer, Received, Shore, Tally};
@@ -18,6 +19,8 @@ pub struct Gateway {
     /// What came from the gateway and was not looked at yet.
     pub inbox: Vec<Vec<u8>>,
     capture: Option<Capture>,
+    /// The bearer, where it is short messages.
+    pub messages: Option<Messages>,
 }
 
 const REPLY_WITHIN: Duration = Duration::from_secs(5);
@@ -39,12 +42,36 @@ impl Gateway {
             handed_out: Vec::new(),
             inbox: Vec::new(),
             capture,
+            messages: options.messages.map(Messages::new),
         })
     }
 
-    pub fn deliver(&mut self, datagram: &[u8]) -> Result<(), String> {
-        self.socket.send(datagram).map_err(|error| error.to_string())?;
-        self.note(Way::ToShore, datagram)?;
+    /// What the link carries of a datagram: it, or its messages.
+    pub fn carried(&mut self, datagram: Vec<u8>) -> Vec<Vec<u8>> {
+        match &mut self.messages {
+            Some(messages) => messages.split(&datagram),
+            None => vec![datagram],
+        }
+    }
+
+    pub fn deliver(&mut self, sent: &[u8]) -> Result<(), String> {
+        if let Some(messages) = &mut self.messages {
+            messages.settle();
+        }
+        self.socket.send(sent).map_err(|error| error.to_string())?;
+        self.note(Way::ToShore, sent)?;
+        let shown = match &mut self.messages {
+            Some(messages) => messages.take(sent),
+            None => Some(sent.to_vec()),
+        };
+        match shown {
+            Some(datagram) => self.received(&datagram),
+            None => self.hear(Duration::ZERO),
+        }
+    }
+
+    /// A datagram is with the gateway.
+    fn received(&mut self, datagram: &[u8]) -> Result<(), String> {
         // The rules tell whether a reply is due; its random is the gateway's own.
         let due =
             reply(&self.rules.clone().receive(datagram, &[0; 16], ROOM, &mut Tally::default()))
@@ -120,7 +147,10 @@ impl Gateway {
         match received {
             Ok(size) => {
                 self.note(Way::ToShip, &buffer[..size])?;
-                Ok(Some(buffer[..size].to_vec()))
+                match &self.messages {
+                    Some(messages) => messages.hear(&buffer[..size]).map(Some),
+                    None => Ok(Some(buffer[..size].to_vec())),
+                }
             }
             Err(error) if error.kind() == io::ErrorKind::WouldBlock => Ok(None),
             Err(error) => Err(error.to_string()),
