@@ -23,7 +23,7 @@ use Rattle.message.specs.declared.alert.Sorted.{Sorted}
 use Rattle.message.specs.declared.alert.Sorted.the-variants as D
 use Rattle.connection.specs.Calls.{sessionOf}
 use Rattle.record.specs.Protection.{recordUnder}
-use Rattle.connection.specs.Send.{nextProtected, nextClear, nextAlert, alertBody}
+use Rattle.connection.specs.Send.{nextProtected, nextClear, nextAlert, alertBody, senderOf}
 use Rattle.connection.specs.declared.state.State.{State}
 use Rattle.connection.specs.declared.state.State.the-variants as S
 use Rattle.connection.specs.declared.refusal.Refusal.{Refusal}
@@ -37,17 +37,18 @@ use Rattle.demands.specs.Genuine.{keysOf}
 use Rattle.demands.specs.Table.{ended}
 use Rattle.demands.specs.Calls.{mayAlert, numberFor, CallRow, data-16, data-7, data-8, data-15, data-6, data-sent, alert-16, alert-7, alert-8, alert-15, alert-6, alert-sent}
 use Rattle.demands.specs.Refusals.{writtenBy}
-use Rattle.demands.specs.Events.{Event, AllSound, Happened, connectionOf, after, history}
+use Rattle.demands.specs.Events.{Event, AllSound, Happened, after, history}
 use Rattle.demands.specs.Past.{keysIn, protectedNext, nextClearNumber, barredIn}
 use Rattle.demands.specs.Runs.{freshWith}
 use Rattle.demands.specs.Kept.{KeptAs}
 use Rattle.demands.specs.Sends.{ourKey, ProtectedRecord, ClearRecord, AlertRecord, DataSentRight, AlertSentRight}
 use Rattle.demands.proofs.Genuine.{true-false}
-use Rattle.demands.proofs.Calls.{call-of}
+use Rattle.demands.proofs.Calls.{call-of, sender-alone}
 use Rattle.demands.proofs.Refusals.{outcomeIn, laid-front, refused-done}
 use Rattle.demands.proofs.Kept.{live}
 use Rattle.demands.proofs.Finished.{Progress, progress-all, progress-fresh, keys-are}
 use Rattle.demands.proofs.Wire.{clear-read, clear-fragment, size-protected, protected-read, protected-fragment}
+use Rattle.connection.specs.Connection.{alone}
 
 protected-record : (k : Keys) (content : Content) (s : ℕ) (body : List ℕ) → s ≤ 65535
     → ProtectedRecord k content s body (protectedBy (hmac (ourKey k s)) (sizeOf (k .mac)) false content s body)
@@ -107,7 +108,7 @@ module _ (session : Session) {width : ℕ} (past : List Happened) (h : Handshake
   clear-by body some n =
       subst (λ s. ClearRecord s body (nextClear h body)) (p .kept .clear-is) (clear-record (h .protection .clear) body some n)
 
-  data-by : (bytes out : List ℕ) {s : Step} → CallRow (connectionOf h) (send-data bytes out) s → outcomeIn (s .result) ≡ O.Done
+  data-by : (bytes out : List ℕ) {s : Step} → CallRow (alone h) (send-data bytes out) s → outcomeIn (s .result) ≡ O.Done
       → ProtectedRecord (keysIn session past) C.Data (protectedNext past) bytes (take (writtenBy (s .result)) (s .output))
   data-by bytes out (data-16 b) x = refused-done X.Argument x
   data-by bytes out (data-7 g e) x = refused-done X.Ended x
@@ -123,7 +124,7 @@ module _ (session : Session) {width : ℕ} (past : List Happened) (h : Handshake
   alert-bytes false l k lent e n = clear-by (alertBody l k lent) (omega arith) n
 
   alert-by : (protected : Bool) (level description : ℕ) (l : Level) (k : Description) (lent out : List ℕ) → levelOf level ≡ G.Is l → sortedOf description ≡ D.Assigned k
-      → {s : Step} → CallRow (connectionOf h) (send-alert protected level description lent out) s → outcomeIn (s .result) ≡ O.Done
+      → {s : Step} → CallRow (alone h) (send-alert protected level description lent out) s → outcomeIn (s .result) ≡ O.Done
       → AlertRecord protected (keysIn session past) past (alertBody l k lent) (take (writtenBy (s .result)) (s .output))
   alert-by protected level description l k lent out el ek (alert-16 b) x = refused-done X.Argument x
   alert-by protected level description l k lent out el ek (alert-7 g e) x = refused-done X.Ended x
@@ -133,20 +134,23 @@ module _ (session : Session) {width : ℕ} (past : List Happened) (h : Handshake
   alert-by protected level description l k lent out el ek (alert-sent {l = v} {k = m} g e n q) x =
       let ev : v ≡ l = one-level l v (levelOf level) el (g .level-is) in
       let em : m ≡ k = one-description k m (sortedOf description) ek (g .description-is) in
-      let bytes : List ℕ = nextAlert protected h (alertBody v m lent) in
+      let sender : senderOf protected (alone h) ≡ h = sender-alone h protected e in
+      let bytes : List ℕ = nextAlert protected (senderOf protected (alone h)) (alertBody v m lent) in
       subst (AlertRecord protected (keysIn session past) past (alertBody l k lent)) (sym (laid-front out bytes))
-      (subst (λ b. AlertRecord protected (keysIn session past) past (alertBody l k lent) b) (sym (ap₂ (λ y z. nextAlert protected h (alertBody y z lent)) ev em)) (alert-bytes protected l k lent e n))
+      (subst (λ b. AlertRecord protected (keysIn session past) past (alertBody l k lent) b)
+      (sym (ap (λ x. nextAlert protected x (alertBody v m lent)) sender ∙ ap₂ (λ y z. nextAlert protected h (alertBody y z lent)) ev em))
+      (alert-bytes protected l k lent (sym (ap (λ x. mayAlert protected (x .state)) sender) ∙ e) (subst (λ x. numberFor protected x ≤ 65535) sender n)))
 
 pub data-sent-right : DataSentRight
 unfolding DataSentRight stepOf
 data-sent-right id secret width held es sound bytes out x =
     let h₀ : Handshake = freshWith id secret width in
     data-by (sessionOf id secret) (history h₀ es []) (after h₀ es) (progress-all (sessionOf id secret) es [] h₀ sound (progress-fresh id secret width held)) bytes out
-    (call-of (connectionOf (after h₀ es)) (send-data bytes out)) x
+    (call-of (alone (after h₀ es)) (send-data bytes out)) x
 
 pub alert-sent-right : AlertSentRight
 unfolding AlertSentRight stepOf
 alert-sent-right id secret width held es sound protected level description l k lent out el ek x =
     let h₀ : Handshake = freshWith id secret width in
     alert-by (sessionOf id secret) (history h₀ es []) (after h₀ es) (progress-all (sessionOf id secret) es [] h₀ sound (progress-fresh id secret width held)) protected level description l k lent out el ek
-    (call-of (connectionOf (after h₀ es)) (send-alert protected level description lent out)) x
+    (call-of (alone (after h₀ es)) (send-alert protected level description lent out)) x

@@ -24,10 +24,11 @@ use Rattle.message.specs.declared.alert.Graded.the-variants as G
 use Rattle.message.specs.declared.alert.Sorted.the-variants as D
 use Rattle.connection.specs.declared.calls.Outcome.the-variants as O
 use Rattle.record.specs.declared.keys.Keys.{Keys}
-use Rattle.demands.specs.Events.{Event, AllSound, Happened, connectionOf, after, history}
+use Rattle.demands.specs.Events.{Event, AllSound, Happened, after, history}
 use Rattle.demands.specs.Past.{keysIn, protectedNext, nextClearNumber}
 use Rattle.record.specs.Window.{Held}
 use Rattle.demands.specs.Runs.{freshWith}
+use Rattle.connection.specs.Connection.{alone}
 
 -- our MAC secret for number s
 abbrev pub ourKey : Keys → ℕ → List ℕ
@@ -61,7 +62,7 @@ pub record ClearRecord (s : ℕ) (body bytes : List ℕ) : Type 0 where
 unfoldable pub DataSentRight : Type 0
 DataSentRight =
     (id secret : List ℕ) (width : ℕ) → Held width → (es : List Event) → AllSound es → (bytes out : List ℕ)
-    → let c = connectionOf (after (freshWith id secret width) es) in
+    → let c = alone (after (freshWith id secret width) es) in
     let past = history (freshWith id secret width) es [] in
     dataSent c bytes (length out) .outcome ≡ O.Done
     → ProtectedRecord (keysIn (sessionOf id secret) past) C.Data (protectedNext past) bytes
@@ -77,7 +78,7 @@ AlertSentRight =
     (id secret : List ℕ) (width : ℕ) → Held width → (es : List Event) → AllSound es
     → (protected : Bool) (level description : ℕ) (l : Level) (k : Description) (answered out : List ℕ)
     → levelOf level ≡ G.Is l → sortedOf description ≡ D.Assigned k
-    → let c = connectionOf (after (freshWith id secret width) es) in
+    → let c = alone (after (freshWith id secret width) es) in
     let past = history (freshWith id secret width) es [] in
     alertSent c protected level description answered (length out) .outcome ≡ O.Done
     → AlertRecord protected (keysIn (sessionOf id secret) past) past (alertBody l k answered)
