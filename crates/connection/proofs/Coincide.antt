@@ -35,7 +35,6 @@ use Rattle.connection.proofs.tally.Tally.with_answer as tally-tally-wit
 use Rattle.connection.proofs.tally.Tally.with_answers as tally-tally-with-answers
 use Rattle.connection.proofs.handshake.Handshake.with_state as handshake-handshake-with-state
 use Rattle.connection.proofs.handshake.Handshake.with_protection as handshake-handshake-with-protection
-use Rattle.connection.proofs.handshake.Handshake.with_sent as handshake-handshake-with-sent
 use Rattle.connection.proofs.handshake.Handshake.reopened as handshake-handshake-reopened
 use Rattle.connection.proofs.sent.SentRecords.fresh as sent-sentrecords-fresh
 use Rattle.connection.proofs.sent.SentRecords.with_record as sent-sentrecords-with-record
@@ -44,6 +43,10 @@ use Rattle.connection.proofs.sent.SentRecords.matches as sent-sentrecor
 use Rattle.connection.proofs.handshake.Handshake.barred as handshake-handshake-barred
 use Rattle.connection.proofs.handshake.blank as handshake-blank
 use Rattle.connection.proofs.handshake.made as handshake-made
+use Rattle.connection.proofs.asked.under_way as asked-under-way
+use Rattle.connection.proofs.connection.alone as connection-alone
+use Rattle.connection.proofs.handshake.newcomer as handshake-newcomer
+use Rattle.connection.proofs.handshake.none_started as handshake-none-started
 
 pub calls-fresh-one : OneOutcome calls-fresh.ended calls-fresh.Reads.Learnt
 calls-fresh-one κs a x y s u e f = (e ∙ sym f, refl)
@@ -115,9 +118,6 @@ handshake-handshake-with-state-one κs a x y s u e f = (e ∙ sym f, refl)
 pub handshake-handshake-with-protection-one : OneOutcome handshake-handshake-with-protection.ended handshake-handshake-with-protection.Reads.Learnt
 handshake-handshake-with-protection-one κs a x y s u e f = (e ∙ sym f, refl)
 
-pub handshake-handshake-with-sent-one : OneOutcome handshake-handshake-with-sent.ended handshake-handshake-with-sent.Reads.Learnt
-handshake-handshake-with-sent-one κs a x y s u e f = (e ∙ sym f, refl)
-
 pub handshake-handshake-reopened-one : OneOutcome handshake-handshake-reopened.ended handshake-handshake-reopened.Reads.Learnt
 handshake-handshake-reopened-one κs a x y s u e f = (e ∙ sym f, refl)
 
@@ -156,3 +156,15 @@ sent-sentrecords-with-reply-one κs a x y s u e f = (e ∙ sym f, refl)
 
 pub sent-sentrecords-matches-one : OneOutcome sent-sentrecords-matches.ended sent-sentrecords-matches.Reads.Learnt
 sent-sentrecords-matches-one κs a x y s u e f = (e ∙ sym f, refl)
+
+pub handshake-none-started-one : OneOutcome handshake-none-started.ended handshake-none-started.Reads.Learnt
+handshake-none-started-one κs a x y s u e f = (e ∙ sym f, refl)
+
+pub handshake-newcomer-one : OneOutcome handshake-newcomer.ended handshake-newcomer.Reads.Learnt
+handshake-newcomer-one κs a x y s u e f = (e ∙ sym f, refl)
+
+pub connection-alone-one : OneOutcome connection-alone.ended connection-alone.Reads.Learnt
+connection-alone-one κs a x y s u e f = (e ∙ sym f, refl)
+
+pub asked-under-way-one : OneOutcome asked-under-way.ended asked-under-way.Reads.Learnt
+asked-under-way-one κs a x y s u e f = (e ∙ sym f, refl)

@@ -24,6 +24,7 @@ use Rattle.connection.specs.Judge.{judgedRecord, ruledBy, fragmentOf, ki
 use Rattle.connection.specs.declared.state.Kind.{Kind}
 use Rattle.connection.specs.declared.state.Rule.{Rule}
 use Rattle.connection.specs.declared.answer.Judged.{Judged}
+use Rattle.connection.specs.declared.sent.SentRecords.{SentRecords}
 use Rattle.connection.specs.declared.handshake.Handshake.{Handshake}
 
 pub filled : (n : ℕ) (s d : List ℕ) → length s ≤ n → d ≡ laidWithin (replicate n 0) 0 s → d ≡ padTo n s
@@ -48,14 +49,14 @@ hello-whole random id plan d lr li e =
     e ∙ ap (λ x. over (replicate 35 0) (fitting 35 x)) is ∙ rw fits (ap (λ n. p ++ drop n (replicate 35 0)) size ∙ append-nil p)
 
 -- the rule of a record, from what its fragment is
-pub ruled-as : (h : Handshake) (random d : List ℕ) (r : Record) (f : List ℕ) (kind : Kind) (rule : Rule) (j : Judged)
+pub ruled-as : (h : Handshake) (sent : SentRecords) (random d : List ℕ) (r : Record) (f : List ℕ) (kind : Kind) (rule : Rule) (j : Judged)
     → f ≡ fragmentOf d r → kind ≡ kindOf (r .content) (r .protected) (getD f 0 0) → rule ≡ ruleOf (h .state) kind
-    → j ≡ ruledBy h random rule kind (r .byte) (r .number) (r .start) (r .start + r .head) f → j ≡ judgedRecord h random d r
+    → j ≡ ruledBy h sent random rule kind r f → j ≡ judgedRecord h sent random d r
 unfolding judgedRecord
-ruled-as h random d r f kind rule j ef ek er ej =
+ruled-as h sent random d r f kind rule j ef ek er ej =
     let kind-is : kind ≡ kindIn d r = ek ∙ ap (λ x. kindOf (r .content) (r .protected) (getD x 0 0)) ef in
     let rule-is : rule ≡ ruleOf (h .state) (kindIn d r) = er ∙ ap (ruleOf (h .state)) kind-is in
-    ej ∙ (λ i. ruledBy h random (rule-is i) (kind-is i) (r .byte) (r .number) (r .start) (r .start + r .head) (ef i))
+    ej ∙ (λ i. ruledBy h sent random (rule-is i) (kind-is i) r (ef i))
 
 -- a record written into a room of zeros
 pub written-front : (n : ℕ) (bytes d : List ℕ) → length bytes ≤ n → d ≡ writtenOf (replicate n 0) bytes → d ≡ padTo n bytes

@@ -1,6 +1,7 @@
 -- Laws that belong to no one function.
 pub mod Recorded
 pub mod OpeningRecords
+pub mod Asking
 pub mod Running
 pub mod Filling
 pub mod Sending

@@ -13,33 +13,33 @@ use Rattle.record.specs.declared.reader.Fault.{Fault}
 use Rattle.record.specs.declared.datagram.Outcome.the-variants as O
 use Rattle.record.specs.declared.datagram.Walk.{Walk}
 use Rattle.record.specs.declared.reader.Record.{Record}
-use Rattle.connection.specs.Judge.{judgedRecord}
+use Rattle.connection.specs.Told.{toldRecord}
 use Rattle.connection.specs.Receive.{endOf, answersOf, slot, slotsOf, sentBy, firstReply, runOf}
 use Rattle.connection.specs.declared.answer.Answer.{Answer}
 use Rattle.connection.specs.declared.answer.Answer.the-variants.{Nothing}
 use Rattle.connection.specs.declared.answer.Slot.{Slot}
-use Rattle.connection.specs.declared.answer.Judged.{Judged}
 use Rattle.connection.specs.declared.receive.Taken.the-variants.{Records}
 use Rattle.connection.specs.declared.receive.Received.{Received}
-use Rattle.connection.specs.declared.handshake.Handshake.{Handshake}
+use Rattle.connection.specs.declared.connection.Connection.{Connection}
+use Rattle.connection.specs.declared.told.Told.{Told}
 
-pub end-snoc : (h : Handshake) (random d : List ℕ) (rs : List Record) (r : Record)
-    → endOf h random d (rs ++ (r ∷ [])) ≡ judgedRecord (endOf h random d rs) random d r .handshake
+pub end-snoc : (c : Connection) (random d : List ℕ) (rs : List Record) (r : Record)
+    → endOf c random d (rs ++ (r ∷ [])) ≡ toldRecord (endOf c random d rs) random d r .connection
 unfolding endOf
-end-snoc h random d [] r = refl
-end-snoc h random d (q ∷ rs) r = end-snoc (judgedRecord h random d q .handshake) random d rs r
+end-snoc c random d [] r = refl
+end-snoc c random d (q ∷ rs) r = end-snoc (toldRecord c random d q .connection) random d rs r
 
-pub answers-snoc : (h : Handshake) (random d : List ℕ) (rs : List Record) (r : Record)
-    → answersOf h random d (rs ++ (r ∷ [])) ≡ answersOf h random d rs ++ (judgedRecord (endOf h random d rs) random d r .answer ∷ [])
+pub answers-snoc : (c : Connection) (random d : List ℕ) (rs : List Record) (r : Record)
+    → answersOf c random d (rs ++ (r ∷ [])) ≡ answersOf c random d rs ++ (toldRecord (endOf c random d rs) random d r .answer ∷ [])
 unfolding endOf answersOf
-answers-snoc h random d [] r = refl
-answers-snoc h random d (q ∷ rs) r =
-    ap (λ l. judgedRecord h random d q .answer ∷ l) (answers-snoc (judgedRecord h random d q .handshake) random d rs r)
+answers-snoc c random d [] r = refl
+answers-snoc c random d (q ∷ rs) r =
+    ap (λ l. toldRecord c random d q .answer ∷ l) (answers-snoc (toldRecord c random d q .connection) random d rs r)
 
-pub length-answers : (h : Handshake) (random d : List ℕ) (rs : List Record) → length (answersOf h random d rs) ≡ length rs
+pub length-answers : (c : Connection) (random d : List ℕ) (rs : List Record) → length (answersOf c random d rs) ≡ length rs
 unfolding answersOf
-length-answers h random d [] = refl
-length-answers h random d (r ∷ rs) = ap suc (length-answers (judgedRecord h random d r .handshake) random d rs)
+length-answers c random d [] = refl
+length-answers c random d (r ∷ rs) = ap suc (length-answers (toldRecord c random d r .connection) random d rs)
 
 -- one answer more in its place
 map-snoc : (l : List Answer) (a : Answer) → map slot (l ++ (a ∷ [])) ≡ map slot l ++ (slot a ∷ [])
@@ -85,31 +85,31 @@ inside : (most rest i count : ℕ) → i + 1 < count → most ≡ count → rest
 inside most rest i count h e f = omega arith
 
 -- the state of a run behind its first i + 1 records
-pub record Ran (d ours : List ℕ) (records : List Record) (count : ℕ) (first : Handshake) (answer : Answer) (answers : List Slot) (left : Handshake) (i : ℕ) : Type 0 where
+pub record Ran (d ours : List ℕ) (records : List Record) (count : ℕ) (first : Connection) (answer : Answer) (answers : List Slot) (left : Connection) (i : ℕ) : Type 0 where
   pub left-is : left ≡ endOf first ours d (take i (later records count))
   pub answers-are : answers ≡ slotsOf (answer ∷ answersOf first ours d (take i (later records count)))
 
-pub ran-none : (d ours : List ℕ) (records : List Record) (count : ℕ) (first : Handshake) (answer : Answer) (answers : List Slot)
+pub ran-none : (d ours : List ℕ) (records : List Record) (count : ℕ) (first : Connection) (answer : Answer) (answers : List Slot)
     → answers ≡ slotsOf (answer ∷ []) → Ran d ours records count first answer answers first 0
 unfolding endOf answersOf
 ran-none d ours records count first answer answers e = record { left-is = refl; answers-are = e }
 
-pub ran-more : (d ours : List ℕ) (records : List Record) (count : ℕ) (first : Handshake) (answer : Answer) (answers : List Slot) (left : Handshake) (i : ℕ)
-    → i + 1 < count → count ≤ 8 → count ≤ length records → (j : Judged) → j ≡ judgedRecord left ours d (getD records (i + 1) blank)
+pub ran-more : (d ours : List ℕ) (records : List Record) (count : ℕ) (first : Connection) (answer : Answer) (answers : List Slot) (left : Connection) (i : ℕ)
+    → i + 1 < count → count ≤ 8 → count ≤ length records → (j : Told) → j ≡ toldRecord left ours d (getD records (i + 1) blank)
     → Ran d ours records count first answer answers left i
-    → Ran d ours records count first answer (set answers (i + 1) (slot (j .answer))) (j .handshake) (i + 1)
+    → Ran d ours records count first answer (set answers (i + 1) (slot (j .answer))) (j .connection) (i + 1)
 ran-more d ours records count first answer answers left i h few l j e ran =
     let r = getD records (i + 1) blank in
     let before = take i (later records count) in
     let more : take (i + 1) (later records count) ≡ before ++ (r ∷ []) = later-more records count i h l in
-    let j-is : j ≡ judgedRecord (endOf first ours d before) ours d r = e ∙ ap (λ x. judgedRecord x ours d r) (ran .left-is) in
+    let j-is : j ≡ toldRecord (endOf first ours d before) ours d r = e ∙ ap (λ x. toldRecord x ours d r) (ran .left-is) in
     let size : length (answersOf first ours d before) ≡ i
     = length-answers first ours d before ∙ length-take-le i (later records count) (inside (length (take count records)) (length (later records count)) i count h (length-take-le count records l) (length-later records count)) in
     record {
-      left-is = ap (λ x. x .handshake) j-is ∙ sym (end-snoc first ours d before r) ∙ sym (ap (endOf first ours d) more);
+      left-is = ap (λ x. x .connection) j-is ∙ sym (end-snoc first ours d before r) ∙ sym (ap (endOf first ours d) more);
       answers-are =
           ap₂ (λ x y. set x (i + 1) (slot y)) (ran .answers-are) (ap (λ x. x .answer) j-is)
-          ∙ slots-more (answer ∷ answersOf first ours d before) (judgedRecord (endOf first ours d before) ours d r .answer) (i + 1) (ap suc size ∙ sym (add-one i)) (omega arith)
+          ∙ slots-more (answer ∷ answersOf first ours d before) (toldRecord (endOf first ours d before) ours d r .answer) (i + 1) (ap suc size ∙ sym (add-one i)) (omega arith)
           ∙ ap (λ x. slotsOf (answer ∷ x)) (sym (answers-snoc first ours d before r) ∙ sym (ap (answersOf first ours d) more));
     }
 
@@ -121,29 +121,29 @@ first-and-later records count some l =
     ∙ ap (λ r. r ∷ drop 1 (take count records)) (getD-take count records 0 blank some)
 
 -- a run as its first record and the later ones
-pub run-by : (h : Handshake) (ours d : List ℕ) (records : List Record) (count i : ℕ) (answers : List Slot) (left : Handshake) (j : Judged) (written : ℕ)
-    → 0 < count → count ≤ length records → count ≤ i + 1 → j ≡ judgedRecord h ours d (getD records 0 blank)
-    → Ran d ours records count (j .handshake) (j .answer) answers left i → written ≡ length (sentBy j)
-    → _≡_ {A = Received} (record { taken = Records count; answers = answers; written = written; connection = record { handshake = left } }) (runOf h ours d (take count records))
+pub run-by : (c : Connection) (ours d : List ℕ) (records : List Record) (count i : ℕ) (answers : List Slot) (left : Connection) (j : Told) (written : ℕ)
+    → 0 < count → count ≤ length records → count ≤ i + 1 → j ≡ toldRecord c ours d (getD records 0 blank)
+    → Ran d ours records count (j .connection) (j .answer) answers left i → written ≡ length (sentBy j)
+    → _≡_ {A = Received} (record { taken = Records count; answers = answers; written = written; connection = left }) (runOf c ours d (take count records))
 unfolding runOf endOf answersOf firstReply
-run-by h ours d records count i answers left j written some l done ej ran ew =
+run-by c ours d records count i answers left j written some l done ej ran ew =
     let rs-is = first-and-later records count some l in
     let all = later-all records count i done l in
     let size : count ≡ length (take count records) = sym (length-take-le count records l) in
-    let left-is = ran .left-is ∙ ap (endOf (j .handshake) ours d) all in
-    let answers-are = ran .answers-are ∙ ap (λ x. slotsOf (j .answer ∷ answersOf (j .handshake) ours d x)) all in
-    let made : _≡_ {A = Received} (record { taken = Records count; answers = answers; written = written; connection = record { handshake = left } })
-    (record { taken = Records (length (take count records)); answers = slotsOf (j .answer ∷ answersOf (j .handshake) ours d (later records count)); written = length (sentBy j); connection = record { handshake = endOf (j .handshake) ours d (later records count) } })
-    = λ k. record { taken = Records (size k); answers = answers-are k; written = ew k; connection = record { handshake = left-is k } } in
+    let left-is = ran .left-is ∙ ap (endOf (j .connection) ours d) all in
+    let answers-are = ran .answers-are ∙ ap (λ x. slotsOf (j .answer ∷ answersOf (j .connection) ours d x)) all in
+    let made : _≡_ {A = Received} (record { taken = Records count; answers = answers; written = written; connection = left })
+    (record { taken = Records (length (take count records)); answers = slotsOf (j .answer ∷ answersOf (j .connection) ours d (later records count)); written = length (sentBy j); connection = endOf (j .connection) ours d (later records count) })
+    = λ k. record { taken = Records (size k); answers = answers-are k; written = ew k; connection = left-is k } in
     made
-    ∙ (λ k. record { taken = Records (length (rs-is k)); answers = slotsOf (ej k .answer ∷ answersOf (ej k .handshake) ours d (later records count)); written = length (sentBy (ej k)); connection = record { handshake = endOf (ej k .handshake) ours d (later records count) } })
-    ∙ ap (runOf h ours d) (sym rs-is)
+    ∙ (λ k. record { taken = Records (length (rs-is k)); answers = slotsOf (ej k .answer ∷ answersOf (ej k .connection) ours d (later records count)); written = length (sentBy (ej k)); connection = endOf (ej k .connection) ours d (later records count) })
+    ∙ ap (runOf c ours d) (sym rs-is)
 
-pub first-reply : (h : Handshake) (ours d : List ℕ) (records : List Record) (count : ℕ) (j : Judged) → 0 < count → count ≤ length records
-    → j ≡ judgedRecord h ours d (getD records 0 blank) → sentBy j ≡ firstReply h ours d (take count records)
+pub first-reply : (c : Connection) (ours d : List ℕ) (records : List Record) (count : ℕ) (j : Told) → 0 < count → count ≤ length records
+    → j ≡ toldRecord c ours d (getD records 0 blank) → sentBy j ≡ firstReply c ours d (take count records)
 unfolding firstReply
-first-reply h ours d records count j some l e =
-    ap sentBy e ∙ sym (ap (firstReply h ours d) (first-and-later records count some l))
+first-reply c ours d records count j some l e =
+    ap sentBy e ∙ sym (ap (firstReply c ours d) (first-and-later records count some l))
 
 found-front : (rs : List Record) → take (foundAll rs .count) (foundAll rs .records) ≡ rs
 unfolding foundAll

@@ -29,10 +29,13 @@ use Rattle.record.specs.declared.keys.Sense.the-variants.{FromShore}
 use Rattle.record.specs.declared.protection.Writing.{Writing}
 use Rattle.record.specs.declared.protection.Wrote.the-variants as W
 use Rattle.record.proofs.Protecting.{record-under-length, wrote-when, output-when}
-use Rattle.connection.specs.Send.{andThen, mayData, numberedBy, dataRefused, alertRefused, unsent, sentTo, outputTo, nextProtected, nextClear, alertSentAs, alertOutputAs}
+use Rattle.connection.specs.Send.{andThen, mayData, numberedBy, dataRefused, alertRefused, unsent, sentTo, outputTo, nextProtected, nextClear, alertSentAs, alertOutputAs, afterProtected, afterClear, afterSend, senderOf, clearBack, done, doneWith}
+use Rattle.connection.specs.Sent.{sumOf, withRecord}
+use Rattle.connection.specs.Connection.{connectionOf}
 use Rattle.connection.specs.declared.state.State.{State}
 use Rattle.connection.specs.declared.refusal.Refusal.{Refusal}
 use Rattle.connection.specs.declared.refusal.Refusal.the-variants.{Room, Spent, Argument}
+use Rattle.connection.specs.declared.sent.SentRecords.{SentRecords}
 use Rattle.connection.specs.declared.handshake.Handshake.{Handshake}
 use Rattle.connection.specs.declared.connection.Connection.{Connection}
 use Rattle.connection.specs.declared.calls.Outcome.{Outcome}
@@ -144,3 +147,21 @@ no-level c protected answered room D.Unassigned = refl
 pub no-level-output : (c : Connection) (protected : Bool) (answered out : List ℕ) (s : Sorted) → out ≡ alertOutputAs c protected answered out G.Unassigned s
 no-level-output c protected answered out (D.Assigned d) = refl
 no-level-output c protected answered out D.Unassigned = refl
+
+-- the connection after a record was sent, from its parts
+pub protected-sent : (c : Connection) (next : List ℕ) (g : Handshake) (s : SentRecords) (size sum : ℕ) (r : Sent)
+    → size ≡ length next → sum ≡ sumOf next → g ≡ afterProtected (c .handshake) → s ≡ withRecord (c .sent) sum
+    → r ≡ doneWith size (connectionOf g (c .started) s) → r ≡ done next (afterSend true c next)
+protected-sent c next g s size sum r en em eg es er =
+    let list = es ∙ ap (withRecord (c .sent)) em in
+    er ∙ (λ i. doneWith (en i) (connectionOf (eg i) (c .started) (list i)))
+
+pub clear-sent : (c : Connection) (body : List ℕ) (h g : Handshake) (s : SentRecords) (k : Connection) (size sum : ℕ) (r : Sent)
+    → h ≡ senderOf false c → size ≡ length (nextClear h body) → sum ≡ sumOf (nextClear h body) → g ≡ afterClear h
+    → s ≡ withRecord (c .sent) sum → k ≡ clearBack c g s (c .handshake .state) → r ≡ doneWith size k
+    → r ≡ done (nextClear (senderOf false c) body) (afterSend false c (nextClear (senderOf false c) body))
+clear-sent c body h g s k size sum r eh en em eg es ek er =
+    let count = en ∙ ap (λ x. length (nextClear x body)) eh in
+    let sender = eg ∙ ap afterClear eh in
+    let list = es ∙ ap (withRecord (c .sent)) (em ∙ ap (λ x. sumOf (nextClear x body)) eh) in
+    er ∙ ap (doneWith size) ek ∙ (λ i. doneWith (count i) (clearBack c (sender i) (list i) (c .handshake .state)))

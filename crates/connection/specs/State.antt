@@ -10,7 +10,7 @@ use Rattle.connection.specs.declared.state.State.the-variants.{Idle, Rep
 use Rattle.connection.specs.declared.state.Kind.{Kind}
 use Rattle.connection.specs.declared.state.Kind.the-variants.{ClearHello, ClearChange, ClearAlert, OtherClear, ProtectedChange, ProtectedAlert, ProtectedHandshake, ProtectedData}
 use Rattle.connection.specs.declared.state.Rule.{Rule}
-use Rattle.connection.specs.declared.state.Rule.the-variants.{Ended, NotAllowed, HelloWhileOpen, Greet, GreetAgain, Change, Hear, OpenRecord}
+use Rattle.connection.specs.declared.state.Rule.the-variants.{Ended, NotAllowed, Resend, Greet, GreetAgain, Change, Hear, OpenRecord}
 
 -- What a record is, by its content, whether it is protected, and the first byte of its fragment. "A clear handshake
 -- record that begins with byte 1 counts as a ClientHello."
@@ -24,8 +24,10 @@ kindOf C.Handshake true first = ProtectedHandshake
 kindOf C.Data false first = OtherClear
 kindOf C.Data true first = ProtectedData
 
--- The table: what is done with a record in a state. "Everything else is refused. In Open any clear ClientHello is
--- refused 18 (house rule); other clear records 8." "In Spec the allowed kinds are handshake and alert; in Open all four."
+-- The table: what a handshake does with a record in a state. "Everything else is refused." "In Spec the allowed kinds are
+-- handshake and alert; in Open all four." An open handshake knows one ClientHello, "the hello that made the open connection",
+-- which "gets its reply bytes again" (02, "A unit that rebooted"); other clear records 8. Which handshake of a connection is
+-- asked is told in Asked.antt.
 abbrev pub ruleOf : State → Kind → Rule
 ruleOf Idle ClearHello = Greet
 ruleOf Idle ClearChange = NotAllowed
@@ -51,7 +53,7 @@ ruleOf Spec ProtectedChange = NotAllowed
 ruleOf Spec ProtectedAlert = OpenRecord
 ruleOf Spec ProtectedHandshake = OpenRecord
 ruleOf Spec ProtectedData = NotAllowed
-ruleOf Open ClearHello = HelloWhileOpen
+ruleOf Open ClearHello = Resend
 ruleOf Open ClearChange = NotAllowed
 ruleOf Open ClearAlert = NotAllowed
 ruleOf Open OtherClear = NotAllowed

@@ -2,7 +2,7 @@
 ghost use Prim.Native.Nat.{ℕ};
 ghost use mathlib.Core.Path.{_≡_};
 ghost use lib.ListN.{length};
-ghost use Rattle.connection.specs.Clear.{greetedBy, greetedAgain, isKept, keptSize, changedBy, heardAlert};
+ghost use Rattle.connection.specs.Clear.{greetedBy, greetedAgain, resentBy, isKept, keptSize, changedBy, heardAlert};
 use crate::answer::Answer;
 use crate::answer::Judged;
 use crate::answer::refuse;
@@ -10,6 +10,7 @@ use crate::handshake::Handshake;
 use crate::handshake::Kept;
 use crate::refusal::Refusal;
 use crate::reply::answered;
+use crate::sent::SentRecords;
 use crate::state::State;
 use message::acceptance::Heard;
 use message::acceptance::hear;
@@ -52,8 +53,22 @@ pub(crate) fn greet_again(h: Handshake, random: [u8; 16], m: &[u8]) -> Judged
     greet(h, random, m)
 }
 
+// In Open: the hello that made the connection gets its reply again.
+pub(crate) fn resend(h: Handshake, m: &[u8]) -> Judged
+    ensures { λ r. ⌜ r ≡ resentBy h (now (m .entry)) ⌝ }
+{
+    let kept = h.kept;
+    if same_hello(kept, m) {
+        return Judged {
+            answer: Answer::Resent(kept_size(kept)),
+            handshake: h,
+        };
+    }
+    refuse(h, Refusal::NotAllowed)
+}
+
 // Whether m is the kept hello.
-fn same_hello(kept: Kept, m: &[u8]) -> bool
+pub(crate) fn same_hello(kept: Kept, m: &[u8]) -> bool
     ensures { λ r. ⌜ r ≡ isKept kept (now (m .entry)) ⌝ }
 {
     let hello = kept.hello;
@@ -92,13 +107,12 @@ pub(crate) fn change(h: Handshake, fragment: &[u8]) -> Judged
 }
 
 // A clear alert: it must match one of the records that we sent. Its level decides.
-pub(crate) fn hear_alert(h: Handshake, fragment: &[u8]) -> Judged
-    ensures { λ r. ⌜ r ≡ heardAlert h (now (fragment .entry)) ⌝ }
+pub(crate) fn hear_alert(h: Handshake, sent: SentRecords, fragment: &[u8]) -> Judged
+    ensures { λ r. ⌜ r ≡ heardAlert h sent (now (fragment .entry)) ⌝ }
 {
     match alert::read(fragment) {
         alert::Reading::Malformed => refuse(h, Refusal::Malformed),
         alert::Reading::WellFormed(a) => {
-            let sent = h.sent;
             if !sent.matches(a.checksum) {
                 return refuse(h, Refusal::Checksum);
             }

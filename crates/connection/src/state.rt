@@ -30,8 +30,8 @@ pub enum Rule {
     Ended,
     // 8
     NotAllowed,
-    // 18
-    HelloWhileOpen,
+    // the same reply to the same hello; 8 to another
+    Resend,
     // a reply
     Greet,
     // the same reply to the same hello, a new one to another
@@ -104,7 +104,7 @@ pub fn rule_of(state: State, kind: Kind) -> Rule
             Kind::ProtectedData => Rule::NotAllowed,
         },
         State::Open => match kind {
-            Kind::ClearHello => Rule::HelloWhileOpen,
+            Kind::ClearHello => Rule::Resend,
             Kind::ClearChange => Rule::NotAllowed,
             Kind::ClearAlert => Rule::NotAllowed,
             Kind::OtherClear => Rule::NotAllowed,

@@ -1,4 +1,4 @@
--- `greet::hear_alert`: the alert, its checksum, its level.
+-- `clear::hear_alert`: the alert, its checksum, its level.
 use borrow.Author.Needs.{needs}
 use borrow.Author.Tests.{not-true, not-false}
 use mathlib.Core.Bool.{true, false}
@@ -6,7 +6,8 @@ use mathlib.Core.Path.{_≡_, refl, sym, _∙_}
 use Rattle.digest.proofs.Picks.{picks}
 use Rattle.connection.specs.Clear.{heardAlert}
 use Rattle.connection.specs.Answer.{judged}
-use Rattle.connection.specs.Handshake.{withState, wasSent}
+use Rattle.connection.specs.Handshake.{withState}
+use Rattle.connection.specs.Sent.{matchesOf}
 use Rattle.connection.specs.declared.state.State.the-variants as S
 use Rattle.connection.specs.declared.answer.Answer.the-variants.{Critical, Fatal}
 use Rattle.connection.specs.declared.answer.Judged.{Judged}
@@ -34,8 +35,8 @@ refuse-requires-2 c κs = search needs
 returns : tie.Need-returns
 unfolding heardAlert
 returns c =
-    let known : wasSent (c .before .before .before .before .before .before .before .before .before .args .h) (c .before .before .before .before .before .a .given .0 .0 .checksum) ≡ false = sym (c .before .before .matches .ensures) ∙ not-true (c .before .before .matches .result) (c .before .if1 .taken) in
-    rw (sym (c .before .before .before .before .before .before .before .read .ensures) ∙ c .before .before .before .before .before .a .given .1) (search picks depth 2)
+    let known : matchesOf (c .before .before .before .before .before .before .before .before .args .sent) (c .before .before .before .before .a .given .0 .0 .checksum) ≡ false = sym (c .before .before .matches .ensures) ∙ not-true (c .before .before .matches .result) (c .before .if1 .taken) in
+    rw (sym (c .before .before .before .before .before .before .read .ensures) ∙ c .before .before .before .before .a .given .1) (search picks depth 2)
 
 enum-told-2 : tie.Need-enum-told-2
 enum-told-2 c = search needs
@@ -59,24 +60,24 @@ returns-2 c = rw (sym (c .before .before .before .read .ensures) ∙ c .before .
 returns-3 : tie.Need-returns-3
 unfolding heardAlert
 returns-3 c =
-    let known : wasSent (c .before .before .before .before .before .before .before .before .before .before .args .h) (c .before .before .before .before .before .before .a .given .0 .0 .checksum) ≡ true = sym (c .before .before .before .matches .ensures) ∙ not-false (c .before .before .before .matches .result) (c .before .before .if1 .left) in
-    rw (sym (c .before .before .before .before .before .before .before .before .read .ensures) ∙ c .before .before .before .before .before .before .a .given .1) (rw (c .enum-told2 .given .1) (search picks depth 2))
+    let known : matchesOf (c .before .before .before .before .before .before .before .before .before .args .sent) (c .before .before .before .before .before .a .given .0 .0 .checksum) ≡ true = sym (c .before .before .before .matches .ensures) ∙ not-false (c .before .before .before .matches .result) (c .before .before .if1 .left) in
+    rw (sym (c .before .before .before .before .before .before .before .read .ensures) ∙ c .before .before .before .before .before .a .given .1) (rw (c .enum-told2 .given .1) (search picks depth 2))
 
 returns-4 : tie.Need-returns-4
 unfolding heardAlert
 returns-4 c =
-    let known : wasSent (c .before .before .before .before .before .before .before .before .before .before .before .args .h) (c .before .before .before .before .before .before .before .a .given .0 .0 .checksum) ≡ true = sym (c .before .before .before .before .matches .ensures) ∙ not-false (c .before .before .before .before .matches .result) (c .before .before .before .if1 .left) in
-    let d = c .before .before .before .before .before .before .before .a .given .0 .0 .description in
-    let e : _≡_ {A = Judged} (record { answer = Critical d; handshake = c .with-state .result }) (judged (Critical d) (withState (c .before .before .before .before .before .before .before .before .before .before .before .args .h) S.Closed)) = λ i. record { answer = Critical d; handshake = c .with-state .ensures i } in
-    rw (sym (c .before .before .before .before .before .before .before .before .before .read .ensures) ∙ c .before .before .before .before .before .before .before .a .given .1) (rw (c .before .enum-told3 .given .1) (search picks depth 2))
+    let known : matchesOf (c .before .before .before .before .before .before .before .before .before .before .args .sent) (c .before .before .before .before .before .before .a .given .0 .0 .checksum) ≡ true = sym (c .before .before .before .before .matches .ensures) ∙ not-false (c .before .before .before .before .matches .result) (c .before .before .before .if1 .left) in
+    let d = c .before .before .before .before .before .before .a .given .0 .0 .description in
+    let e : _≡_ {A = Judged} (record { answer = Critical d; handshake = c .with-state .result }) (judged (Critical d) (withState (c .before .before .before .before .before .before .before .before .before .before .args .h) S.Closed)) = λ i. record { answer = Critical d; handshake = c .with-state .ensures i } in
+    rw (sym (c .before .before .before .before .before .before .before .before .read .ensures) ∙ c .before .before .before .before .before .before .a .given .1) (rw (c .before .enum-told3 .given .1) (search picks depth 2))
 
 returns-5 : tie.Need-returns-5
 unfolding heardAlert
 returns-5 c =
-    let known : wasSent (c .before .before .before .before .before .before .before .before .before .before .before .args .h) (c .before .before .before .before .before .before .before .a .given .0 .0 .checksum) ≡ true = sym (c .before .before .before .before .matches .ensures) ∙ not-false (c .before .before .before .before .matches .result) (c .before .before .before .if1 .left) in
-    let d = c .before .before .before .before .before .before .before .a .given .0 .0 .description in
-    let e : _≡_ {A = Judged} (record { answer = Fatal d; handshake = c .with-state2 .result }) (judged (Fatal d) (withState (c .before .before .before .before .before .before .before .before .before .before .before .args .h) S.Closed)) = λ i. record { answer = Fatal d; handshake = c .with-state2 .ensures i } in
-    rw (sym (c .before .before .before .before .before .before .before .before .before .read .ensures) ∙ c .before .before .before .before .before .before .before .a .given .1) (rw (c .before .enum-told4 .given .1) (search picks depth 2))
+    let known : matchesOf (c .before .before .before .before .before .before .before .before .before .before .args .sent) (c .before .before .before .before .before .before .a .given .0 .0 .checksum) ≡ true = sym (c .before .before .before .before .matches .ensures) ∙ not-false (c .before .before .before .before .matches .result) (c .before .before .before .if1 .left) in
+    let d = c .before .before .before .before .before .before .a .given .0 .0 .description in
+    let e : _≡_ {A = Judged} (record { answer = Fatal d; handshake = c .with-state2 .result }) (judged (Fatal d) (withState (c .before .before .before .before .before .before .before .before .before .before .args .h) S.Closed)) = λ i. record { answer = Fatal d; handshake = c .with-state2 .ensures i } in
+    rw (sym (c .before .before .before .before .before .before .before .before .read .ensures) ∙ c .before .before .before .before .before .before .a .given .1) (rw (c .before .enum-told4 .given .1) (search picks depth 2))
 
 pub hear-alert-spec : {M : Type 1} → statement M
 hear-alert-spec =

@@ -42,7 +42,7 @@ unfolding judgedRecord
 returns c = let args = c .before .before .before .before .before .before .before .before .args in
     let at = args .r .start + args .r .head in
     let back : at + args .r .size - at ≡ args .r .size = omega arith in
-    ruled-as (args .h) (args .random) (args .d .now) (args .r) _ (c .before .before .kind-of .result) (c .before .rule-of .result) (c .ruled .result)
+    ruled-as (args .h) (args .sent) (args .random) (args .d .now) (args .r) _ (c .before .before .kind-of .result) (c .before .rule-of .result) (c .ruled .result)
     (ap (λ n. take n (drop at (args .d .now))) back) (c .before .before .kind-of .ensures) (c .before .rule-of .ensures) (c .ruled .ensures)
 
 pub judge-spec : {M : Type 1} → statement M

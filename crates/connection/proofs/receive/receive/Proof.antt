@@ -75,7 +75,7 @@ unfolding receivedOf outputOf
 returns-4 c = let args = c .before .before .before .before .before .before .before .before .before .before .before .before .before .before .before .args in
     let random = args .random .now in
     let out = args .out .now in
-    let h = args .c .handshake in
+    let h = args .c in
     let d = args .datagram .now in
     let w = c .before .before .before .before .before .before .walked .result in
     let rs = take (w .count) (w .records) in

@@ -17,7 +17,7 @@ server-hello-requires : tie.Need-server-hello-requires
 server-hello-requires c κs = search needs
 
 slice-aggregate-server-verify : tie.Need-slice-aggregate-server-verify
-slice-aggregate-server-verify c = search (needs, c .before .before .before .before .before .before .before .before .good .0 .1 .1 .1 .1 .1 .1 .1 .0)
+slice-aggregate-server-verify c = search (needs, c .before .before .before .before .before .before .before .before .good .0 .1 .1 .1 .1 .1 .1 .0)
 
 slice-aggregate-server-verify-2 : tie.Need-slice-aggregate-server-verify-2
 slice-aggregate-server-verify-2 c = search needs
@@ -29,7 +29,7 @@ message-requires : tie.Need-message-requires
 message-requires c κs = search needs
 
 slice-aggregate-client-verify : tie.Need-slice-aggregate-client-verify
-slice-aggregate-client-verify c = search (needs, c .before .before .before .before .before .before .before .before .before .before .before .before .good .0 .1 .1 .1 .1 .1 .1 .1 .0)
+slice-aggregate-client-verify c = search (needs, c .before .before .before .before .before .before .before .before .before .before .before .before .good .0 .1 .1 .1 .1 .1 .1 .0)
 
 slice-aggregate-client-verify-2 : tie.Need-slice-aggregate-client-verify-2
 slice-aggregate-client-verify-2 c = search needs
@@ -44,25 +44,21 @@ flown-requires : tie.Need-flown-requires
 flown-requires c κs = search needs
 
 kept-hello-requires : tie.Need-kept-hello-requires
-kept-hello-requires c κs = c .before .before .before .before .before .before .before .before .before .before .before .before .before .before .before .before .before .before .before .pre .1 .1
+kept-hello-requires c κs = c .before .before .before .before .before .before .before .before .before .before .before .before .before .before .before .before .before .pre .1 .1
 
 size-requires : tie.Need-size-requires
 size-requires c κs = search needs
 
-add-t36 : tie.Need-add-t36
-add-t36 c = omega (arith, c .size .ensures, size-most (c .before .before .before .before .before .before .before .before .before .before .before .before .before .before .before .before .before .before .before .before .before .args .plan .mac))
-
-with-reply-requires : tie.Need-with-reply-requires
-with-reply-requires c κs = search needs
+add-t34 : tie.Need-add-t34
+add-t34 c = omega (arith, c .size .ensures, size-most (c .before .before .before .before .before .before .before .before .before .before .before .before .before .before .before .before .before .before .before .args .plan .mac))
 
 returns : tie.Need-returns
-returns c = let args = c .before .before .before .before .before .before .before .before .before .before .before .before .before .before .before .before .before .before .before .before .before .before .args in
-    let id-size : length (args .h .id) ≡ 8 = search (needs, c .before .before .before .before .before .before .before .before .before .before .before .before .before .before .before .before .before .before .before .before .before .before .good .0) in
-    answered-by (args .h) (args .random) (args .m .now) (args .plan) _ _ _ _ _ _ _ _ _
-    (c .before .before .before .before .before .before .before .before .before .before .before .before .before .before .before .before .client-random .ensures) (c .before .before .before .before .before .before .before .before .before .before .before .before .before .before .before .server-hello .ensures) (c .before .before .before .before .before .before .before .before .before .before .before .before .server-verify .ensures) (c .before .before .before .before .before .before .before .before .before .before .before .message .ensures) (c .before .before .before .before .before .before .before .client-verify .ensures)
-    (c .before .before .before .before .before .before .flown .ensures) (c .before .before .kept-hello .ensures)
-    (ap (λ n. 64 + n) (c .before .size .ensures) ∙ sym (reply-size (planted (args .h)) (args .random) (args .m .now) (args .plan) (c .before .before .before .before .before .before .before .before .before .before .before .before .before .before .before .before .before .before .before .before .before .before .pre .0) id-size))
-    (c .with-reply .ensures)
+returns c = let args = c .before .before .before .before .before .before .before .before .before .before .before .before .before .before .before .before .before .before .before .args in
+    let id-size : length (args .h .id) ≡ 8 = search (needs, c .before .before .before .before .before .before .before .before .before .before .before .before .before .before .before .before .before .before .before .good .0) in
+    answered-by (args .h) (args .random) (args .m .now) (args .plan) _ _ _ _ _ _ _ _
+    (c .before .before .before .before .before .before .before .before .before .before .before .before .before .client-random .ensures) (c .before .before .before .before .before .before .before .before .before .before .before .before .server-hello .ensures) (c .before .before .before .before .before .before .before .before .before .server-verify .ensures) (c .before .before .before .before .before .before .before .before .message .ensures) (c .before .before .before .before .client-verify .ensures)
+    (c .before .before .before .flown .ensures) (c .before .kept-hello .ensures)
+    (ap (λ n. 64 + n) (c .size .ensures) ∙ sym (reply-size (planted (args .h)) (args .random) (args .m .now) (args .plan) (c .before .before .before .before .before .before .before .before .before .before .before .before .before .before .before .before .before .before .before .pre .0) id-size))
 
 pub answered-spec : {M : Type 1} → statement M
 answered-spec =
@@ -81,6 +77,5 @@ answered-spec =
     flown-requires
     kept-hello-requires
     size-requires
-    add-t36
-    with-reply-requires
+    add-t34
     returns)

@@ -52,12 +52,12 @@ write-protected-requires c κs = search needs
 
 joined-requires : tie.Need-joined-requires
 joined-requires c κs = let args = c .before .before .before .before .before .before .before .before .before .before .before .before .before .before .before .before .before .before .args in
-    let f = flown-by (args .t1) (args .t2) (args .t3) (args .mac) (args .t5) (args .t6) _ _ _ _ _ _ (c .before .before .before .before .before .before .before .before .before .before .before .before .before .before .before .before .before .before .pre .0) (c .before .before .before .before .before .before .before .before .before .before .before .before .before .before .before .before .before .before .pre .1) (c .before .before .before .before .before .before .before .before .before .before .before .before .change .ensures) (c .before .before .before .before .before .before .before .before .before .before .before .before .before .derived .ensures) (c .before .before .before .before .before .before .before .before .before .write-clear .ensures .1) (c .before .before .before .before .before .write-clear2 .ensures .1) (c .before .write-protected .ensures .1) (c .before .write-protected .ensures .0) in
-    (f .first-size, (f .second-size, (f .third-size, f .size-fits)))
+    let f = flown-by (args .t1) (args .t2) (args .t3) (args .mac) (args .t5) (args .t6) _ _ _ _ _ (c .before .before .before .before .before .before .before .before .before .before .before .before .before .before .before .before .before .before .pre .0) (c .before .before .before .before .before .before .before .before .before .before .before .before .before .before .before .before .before .before .pre .1) (c .before .before .before .before .before .before .before .before .before .before .before .before .change .ensures) (c .before .before .before .before .before .before .before .before .before .before .before .before .before .derived .ensures) (c .before .before .before .before .before .before .before .before .before .write-clear .ensures .1) (c .before .before .before .before .before .write-clear2 .ensures .1) (c .before .write-protected .ensures .1) in
+    (f .first-size, (f .second-size, f .third-size))
 
 returns : tie.Need-returns
 returns c = let args = c .before .before .before .before .before .before .before .before .before .before .before .before .before .before .before .before .before .before .before .args in
-    let f = flown-by (args .t1) (args .t2) (args .t3) (args .mac) (args .t5) (args .t6) _ _ _ _ _ _ (c .before .before .before .before .before .before .before .before .before .before .before .before .before .before .before .before .before .before .before .pre .0) (c .before .before .before .before .before .before .before .before .before .before .before .before .before .before .before .before .before .before .before .pre .1) (c .before .before .before .before .before .before .before .before .before .before .before .before .before .change .ensures) (c .before .before .before .before .before .before .before .before .before .before .before .before .before .before .derived .ensures) (c .before .before .before .before .before .before .before .before .before .before .write-clear .ensures .1) (c .before .before .before .before .before .before .write-clear2 .ensures .1) (c .before .before .write-protected .ensures .1) (c .before .before .write-protected .ensures .0) in
+    let f = flown-by (args .t1) (args .t2) (args .t3) (args .mac) (args .t5) (args .t6) _ _ _ _ _ (c .before .before .before .before .before .before .before .before .before .before .before .before .before .before .before .before .before .before .before .pre .0) (c .before .before .before .before .before .before .before .before .before .before .before .before .before .before .before .before .before .before .before .pre .1) (c .before .before .before .before .before .before .before .before .before .before .before .before .before .change .ensures) (c .before .before .before .before .before .before .before .before .before .before .before .before .before .before .derived .ensures) (c .before .before .before .before .before .before .before .before .before .before .write-clear .ensures .1) (c .before .before .before .before .before .before .write-clear2 .ensures .1) (c .before .before .write-protected .ensures .1) in
     c .joined .ensures ∙ f .joined-is
 
 pub flown-spec : {M : Type 1} → statement M

@@ -3,6 +3,7 @@ use Rattle.message.specs.Alert.{sortedOf}
 use borrow.Author.Needs.{needs}
 use native.Mathlib.Omega.{arith}
 use mathlib.Core.Path.{ap₂}
+use mathlib.Core.Bool.{true, false}
 use Rattle.digest.specs.Bytes.{laidOver}
 use Rattle.digest.specs.Mac.{sizeOf}
 use Rattle.message.specs.Alert.{alertBytes}
@@ -11,7 +12,7 @@ use mathlib.Core.Path.{_≡_, refl, sym, _∙_, ap}
 use lib.ListN.{length}
 use Rattle.record.proofs.ProtectedBytes.{size-most}
 use Rattle.record.specs.declared.header.Content.the-variants as C
-use Rattle.connection.specs.Send.{alertSent, alertOutput, alertSentAs, alertOutputAs, alertRefused, alertOutcome, alertBody, nextAlert, nextProtected, nextClear, afterProtected, afterClear, done, mayProtect, mayClear}
+use Rattle.connection.specs.Send.{alertSent, alertOutput, alertSentAs, alertOutputAs, alertRefused, alertOutcome, alertBody, nextAlert, nextProtected, nextClear, afterSend, senderOf, done, mayProtect, mayClear}
 use Rattle.connection.proofs.Sending.{alert-done, next-size, clear-size, refused-send, done-send, no-level, no-level-output}
 use Rattle.connection.proofs.send.send_alert.Statement.{statement}
 use Rattle.connection.proofs.send.send_alert.Tie as tie
@@ -89,8 +90,8 @@ returns-3 c = let cn = c .before .before .before .before .before .before .before
     let out = c .before .before .before .before .before .before .before .before .before .before .before .before .before .before .before .before .before .before .before .before .before .args .out .now in
     let next = nextProtected h C.Alert (alertBody (c .before .before .before .before .before .before .before .before .before .before .before .before .before .before .before .before .graded .given .0 .0) (c .before .before .before .before .before .before .before .before .before .before .before .before .sorted .given .0 .0) lent) in
     let told = sym (ap₂ (λ o z. alertRefused o (length lent) (h .protection .protected) z (length out)) (c .before .before .before .before .before .before .may-protect .ensures) (c .before .before .before .before .before .size .ensures)) ∙ sym (c .before .before .before .before .alert-refusal .ensures) ∙ c .before .before .refusal .given .1 in
-    let both = refused-send cn (done next (afterProtected h next)) out next (alertRefused (mayProtect (h .state)) (length lent) (h .protection .protected) (sizeOf (h .protection .keys .mac)) (length out)) _ told in
-    rw (sym (c .before .before .before .before .before .before .before .before .before .before .before .before .before .before .before .before .before .before .grade .ensures) ∙ c .before .before .before .before .before .before .before .before .before .before .before .before .before .before .before .before .graded .given .1) (rw (sym (c .before .before .before .before .before .before .before .before .before .before .before .before .before .before .sort .ensures) ∙ c .before .before .before .before .before .before .before .before .before .before .before .before .sorted .given .1) (rw (c .before .before .before .before .before .before .before .if1 .taken) (c .refused3 .ensures ∙ both .0, both .1)))
+    let both = refused-send cn (done next (afterSend true cn next)) out next (alertRefused (mayProtect (h .state)) (length lent) (h .protection .protected) (sizeOf (h .protection .keys .mac)) (length out)) _ told in
+    rw (sym (c .before .before .before .before .before .before .before .before .before .before .before .before .before .before .before .before .before .before .grade .ensures) ∙ c .before .before .before .before .before .before .before .before .before .before .before .before .before .before .before .before .graded .given .1) (rw (sym (c .before .before .before .before .before .before .before .before .before .before .before .before .before .before .sort .ensures) ∙ c .before .before .before .before .before .before .before .before .before .before .before .before .sorted .given .1) (rw (c .before .before .before .before .before .before .before .before .before .before .if1 .taken) (c .refused3 .ensures ∙ both .0, both .1)))
 
 same-length : tie.Need-same-length
 same-length c = search needs
@@ -104,9 +105,12 @@ returns-4 c = let cn = c .before .before .before .before .before .before .before
     let body-is = c .before .before .before .before .before .write .ensures ∙ ap (alertBytes (c .before .before .before .before .before .before .before .before .before .before .before .before .before .before .before .before .before .before .before .before .before .graded .given .0 .0) (c .before .before .before .before .before .before .before .before .before .before .before .before .before .before .before .before .before .sorted .given .0 .0)) (c .before .before .before .before .before .before .checksum .ensures) in
     let next = nextProtected h C.Alert (alertBody (c .before .before .before .before .before .before .before .before .before .before .before .before .before .before .before .before .before .before .before .before .before .graded .given .0 .0) (c .before .before .before .before .before .before .before .before .before .before .before .before .before .before .before .before .before .sorted .given .0 .0) lent) in
     let told = sym (ap₂ (λ o z. alertRefused o (length lent) (h .protection .protected) z (length out)) (c .before .before .before .before .before .before .before .before .before .before .before .may-protect .ensures) (c .before .before .before .before .before .before .before .before .before .before .size .ensures)) ∙ sym (c .before .before .before .before .before .before .before .before .before .alert-refusal .ensures) ∙ c .before .before .before .before .before .before .before .enum-told3 .given .1 in
-    let both = done-send cn (done next (afterProtected h next)) out next (alertRefused (mayProtect (h .state)) (length lent) (h .protection .protected) (sizeOf (h .protection .keys .mac)) (length out)) told in
-    rw (sym (c .before .before .before .before .before .before .before .before .before .before .before .before .before .before .before .before .before .before .before .before .before .before .before .grade .ensures) ∙ c .before .before .before .before .before .before .before .before .before .before .before .before .before .before .before .before .before .before .before .before .before .graded .given .1) (rw (sym (c .before .before .before .before .before .before .before .before .before .before .before .before .before .before .before .before .before .before .before .sort .ensures) ∙ c .before .before .before .before .before .before .before .before .before .before .before .before .before .before .before .before .before .sorted .given .1) (rw (c .before .before .before .before .before .before .before .before .before .before .before .before .if1 .taken)
-    (c .before .before .next-protected .ensures .0 ∙ ap (λ b. done (nextProtected h C.Alert b) (afterProtected h (nextProtected h C.Alert b))) body-is ∙ both .0, c .before .before .next-protected .ensures .1 ∙ ap (λ b. laidOver out 0 (nextProtected h C.Alert b)) body-is ∙ both .1)))
+    let both = done-send cn (done next (afterSend true cn next)) out next (alertRefused (mayProtect (h .state)) (length lent) (h .protection .protected) (sizeOf (h .protection .keys .mac)) (length out)) told in
+    rw (sym (c .before .before .before .before .before .before .before .before .before .before .before .before .before .before .before .before .before .before .before .before .before .before .before .grade .ensures) ∙ c .before .before .before .before .before .before .before .before .before .before .before .before .before .before .before .before .before .before .before .before .before .graded .given .1) (rw (sym (c .before .before .before .before .before .before .before .before .before .before .before .before .before .before .before .before .before .before .before .sort .ensures) ∙ c .before .before .before .before .before .before .before .before .before .before .before .before .before .before .before .before .before .sorted .given .1) (rw (c .before .before .before .before .before .before .before .before .before .before .before .before .before .before .before .if1 .taken)
+    (c .before .before .next-protected .ensures .0 ∙ ap (λ b. done (nextProtected h C.Alert b) (afterSend true cn (nextProtected h C.Alert b))) body-is ∙ both .0, c .before .before .next-protected .ensures .1 ∙ ap (λ b. laidOver out 0 (nextProtected h C.Alert b)) body-is ∙ both .1)))
+
+clear-sender-requires : tie.Need-clear-sender-requires
+clear-sender-requires c κs = search needs
 
 may-clear-requires : tie.Need-may-clear-requires
 may-clear-requires c κs = search needs
@@ -133,36 +137,39 @@ slice-aggregate-next-clear : tie.Need-slice-aggregate-next-clear
 slice-aggregate-next-clear c = search needs
 
 next-clear-requires : tie.Need-next-clear-requires
-next-clear-requires c κs = let h = c .before .before .before .before .before .before .before .before .before .before .before .before .before .before .before .before .before .before .before .before .before .before .args .c .handshake in
-    let room = alert-done (c .before .before .before .before .before .before .before .may-clear .result) (length (c .before .before .before .before .before .before .before .before .before .before .before .before .before .before .before .before .before .before .before .before .before .before .args .answered .now)) (h .protection .clear) 0 (length (c .before .before .before .before .before .before .before .before .before .before .before .before .before .before .before .before .before .before .before .before .before .before .args .out .now)) (sym (c .before .before .before .before .before .before .alert-refusal2 .ensures) ∙ c .before .before .before .before .enum-told4 .given .1) in
-    (room .0, omega (arith, room .1, clear-size h (c .before .before .write2 .result), ap length (c .before .before .write2 .ensures)))
+next-clear-requires c κs = let h = c .before .before .before .before .before .before .before .before .before .clear-sender .result in
+    let e = c .before .before .before .before .before .before .before .before .before .clear-sender .ensures in
+    let room = alert-done (c .before .before .before .before .before .before .before .may-clear .result) (length (c .before .before .before .before .before .before .before .before .before .before .before .before .before .before .before .before .before .before .before .before .before .args .answered .now)) (h .protection .clear) 0 (length (c .before .before .before .before .before .before .before .before .before .before .before .before .before .before .before .before .before .before .before .before .before .args .out .now)) (sym (c .before .before .before .before .before .before .alert-refusal2 .ensures) ∙ c .before .before .before .before .enum-told4 .given .1) in
+    (omega (arith, room .0, ap (λ x. x .protection .clear) e), omega (arith, room .1, clear-size (senderOf false (c .before .before .before .before .before .before .before .before .before .before .before .before .before .before .before .before .before .before .before .before .before .args .c)) (c .before .before .write2 .result), ap length (c .before .before .write2 .ensures)))
 
 returns-5 : tie.Need-returns-5
 unfolding alertSent alertOutput
-returns-5 c = let cn = c .before .before .before .before .before .before .before .before .before .before .before .before .before .before .before .before .before .before .before .before .args .c in
-    let h = cn .handshake in
-    let lent = c .before .before .before .before .before .before .before .before .before .before .before .before .before .before .before .before .before .before .before .before .args .answered .now in
-    let out = c .before .before .before .before .before .before .before .before .before .before .before .before .before .before .before .before .before .before .before .before .args .out .now in
-    let next = nextClear h (alertBody (c .before .before .before .before .before .before .before .before .before .before .before .before .before .before .before .graded .given .0 .0) (c .before .before .before .before .before .before .before .before .before .before .before .sorted .given .0 .0) lent) in
-    let told = sym (ap (λ o. alertRefused o (length lent) (h .protection .clear) 0 (length out)) (c .before .before .before .before .before .may-clear .ensures)) ∙ sym (c .before .before .before .before .alert-refusal2 .ensures) ∙ c .before .before .refusal2 .given .1 in
-    let both = refused-send cn (done next (afterClear h next)) out next (alertRefused (mayClear (h .state)) (length lent) (h .protection .clear) 0 (length out)) _ told in
-    rw (sym (c .before .before .before .before .before .before .before .before .before .before .before .before .before .before .before .before .before .grade .ensures) ∙ c .before .before .before .before .before .before .before .before .before .before .before .before .before .before .before .graded .given .1) (rw (sym (c .before .before .before .before .before .before .before .before .before .before .before .before .before .sort .ensures) ∙ c .before .before .before .before .before .before .before .before .before .before .before .sorted .given .1) (rw (c .before .before .before .before .before .before .if1 .left) (c .refused4 .ensures ∙ both .0, both .1)))
+returns-5 c = let cn = c .before .before .before .before .before .before .before .before .before .before .before .before .before .before .before .before .before .before .before .args .c in
+    let h = senderOf false cn in
+    let asked = sym (ap (λ x. alertRefused (mayClear (x .state)) (length (c .before .before .before .before .before .before .before .before .before .before .before .before .before .before .before .before .before .before .before .args .answered .now)) (x .protection .clear) 0 (length (c .before .before .before .before .before .before .before .before .before .before .before .before .before .before .before .before .before .before .before .args .out .now))) (c .before .before .before .before .before .before .before .clear-sender .ensures)) in
+    let lent = c .before .before .before .before .before .before .before .before .before .before .before .before .before .before .before .before .before .before .before .args .answered .now in
+    let out = c .before .before .before .before .before .before .before .before .before .before .before .before .before .before .before .before .before .before .before .args .out .now in
+    let next = nextClear h (alertBody (c .before .before .before .before .before .before .before .before .before .before .before .before .before .before .graded .given .0 .0) (c .before .before .before .before .before .before .before .before .before .before .sorted .given .0 .0) lent) in
+    let told = asked ∙ sym (ap (λ o. alertRefused o (length lent) (c .before .before .before .before .before .before .before .clear-sender .result .protection .clear) 0 (length out)) (c .before .before .before .before .before .may-clear .ensures)) ∙ sym (c .before .before .before .before .alert-refusal2 .ensures) ∙ c .before .before .refusal2 .given .1 in
+    let both = refused-send cn (done next (afterSend false cn next)) out next (alertRefused (mayClear (h .state)) (length lent) (h .protection .clear) 0 (length out)) _ told in
+    rw (sym (c .before .before .before .before .before .before .before .before .before .before .before .before .before .before .before .before .grade .ensures) ∙ c .before .before .before .before .before .before .before .before .before .before .before .before .before .before .graded .given .1) (rw (sym (c .before .before .before .before .before .before .before .before .before .before .before .before .sort .ensures) ∙ c .before .before .before .before .before .before .before .before .before .before .sorted .given .1) (rw (c .before .before .before .before .before .before .before .before .if1 .left) (c .refused4 .ensures ∙ both .0, both .1)))
 
 same-length-2 : tie.Need-same-length-2
 same-length-2 c = search needs
 
 returns-6 : tie.Need-returns-6
 unfolding alertSent alertOutput
-returns-6 c = let cn = c .before .before .before .before .before .before .before .before .before .before .before .before .before .before .before .before .before .before .before .before .before .before .before .before .before .args .c in
-    let h = cn .handshake in
-    let lent = c .before .before .before .before .before .before .before .before .before .before .before .before .before .before .before .before .before .before .before .before .before .before .before .before .before .args .answered .now in
-    let out = c .before .before .before .before .before .before .before .before .before .before .before .before .before .before .before .before .before .before .before .before .before .before .before .before .before .args .out .now in
-    let body-is = c .before .before .before .before .before .write2 .ensures ∙ ap (alertBytes (c .before .before .before .before .before .before .before .before .before .before .before .before .before .before .before .before .before .before .before .before .graded .given .0 .0) (c .before .before .before .before .before .before .before .before .before .before .before .before .before .before .before .before .sorted .given .0 .0)) (c .before .before .before .before .before .before .checksum2 .ensures) in
-    let next = nextClear h (alertBody (c .before .before .before .before .before .before .before .before .before .before .before .before .before .before .before .before .before .before .before .before .graded .given .0 .0) (c .before .before .before .before .before .before .before .before .before .before .before .before .before .before .before .before .sorted .given .0 .0) lent) in
-    let told = sym (ap (λ o. alertRefused o (length lent) (h .protection .clear) 0 (length out)) (c .before .before .before .before .before .before .before .before .before .before .may-clear .ensures)) ∙ sym (c .before .before .before .before .before .before .before .before .before .alert-refusal2 .ensures) ∙ c .before .before .before .before .before .before .before .enum-told4 .given .1 in
-    let both = done-send cn (done next (afterClear h next)) out next (alertRefused (mayClear (h .state)) (length lent) (h .protection .clear) 0 (length out)) told in
-    rw (sym (c .before .before .before .before .before .before .before .before .before .before .before .before .before .before .before .before .before .before .before .before .before .before .grade .ensures) ∙ c .before .before .before .before .before .before .before .before .before .before .before .before .before .before .before .before .before .before .before .before .graded .given .1) (rw (sym (c .before .before .before .before .before .before .before .before .before .before .before .before .before .before .before .before .before .before .sort .ensures) ∙ c .before .before .before .before .before .before .before .before .before .before .before .before .before .before .before .before .sorted .given .1) (rw (c .before .before .before .before .before .before .before .before .before .before .before .if1 .left)
-    (c .before .before .next-clear .ensures .0 ∙ ap (λ b. done (nextClear h b) (afterClear h (nextClear h b))) body-is ∙ both .0, c .before .before .next-clear .ensures .1 ∙ ap (λ b. laidOver out 0 (nextClear h b)) body-is ∙ both .1)))
+returns-6 c = let cn = c .before .before .before .before .before .before .before .before .before .before .before .before .before .before .before .before .before .before .before .before .before .before .before .before .args .c in
+    let h = senderOf false cn in
+    let asked = sym (ap (λ x. alertRefused (mayClear (x .state)) (length (c .before .before .before .before .before .before .before .before .before .before .before .before .before .before .before .before .before .before .before .before .before .before .before .before .args .answered .now)) (x .protection .clear) 0 (length (c .before .before .before .before .before .before .before .before .before .before .before .before .before .before .before .before .before .before .before .before .before .before .before .before .args .out .now))) (c .before .before .before .before .before .before .before .before .before .before .before .before .clear-sender .ensures)) in
+    let lent = c .before .before .before .before .before .before .before .before .before .before .before .before .before .before .before .before .before .before .before .before .before .before .before .before .args .answered .now in
+    let out = c .before .before .before .before .before .before .before .before .before .before .before .before .before .before .before .before .before .before .before .before .before .before .before .before .args .out .now in
+    let body-is = c .before .before .before .before .before .write2 .ensures ∙ ap (alertBytes (c .before .before .before .before .before .before .before .before .before .before .before .before .before .before .before .before .before .before .before .graded .given .0 .0) (c .before .before .before .before .before .before .before .before .before .before .before .before .before .before .before .sorted .given .0 .0)) (c .before .before .before .before .before .before .checksum2 .ensures) in
+    let next = nextClear h (alertBody (c .before .before .before .before .before .before .before .before .before .before .before .before .before .before .before .before .before .before .before .graded .given .0 .0) (c .before .before .before .before .before .before .before .before .before .before .before .before .before .before .before .sorted .given .0 .0) lent) in
+    let told = asked ∙ sym (ap (λ o. alertRefused o (length lent) (c .before .before .before .before .before .before .before .before .before .before .before .before .clear-sender .result .protection .clear) 0 (length out)) (c .before .before .before .before .before .before .before .before .before .before .may-clear .ensures)) ∙ sym (c .before .before .before .before .before .before .before .before .before .alert-refusal2 .ensures) ∙ c .before .before .before .before .before .before .before .enum-told4 .given .1 in
+    let both = done-send cn (done next (afterSend false cn next)) out next (alertRefused (mayClear (h .state)) (length lent) (h .protection .clear) 0 (length out)) told in
+    rw (sym (c .before .before .before .before .before .before .before .before .before .before .before .before .before .before .before .before .before .before .before .before .before .grade .ensures) ∙ c .before .before .before .before .before .before .before .before .before .before .before .before .before .before .before .before .before .before .before .graded .given .1) (rw (sym (c .before .before .before .before .before .before .before .before .before .before .before .before .before .before .before .before .before .sort .ensures) ∙ c .before .before .before .before .before .before .before .before .before .before .before .before .before .before .before .sorted .given .1) (rw (c .before .before .before .before .before .before .before .before .before .before .before .before .before .if1 .left)
+    (c .before .before .next-clear .ensures .0 ∙ ap (λ b. done (nextClear h b) (afterSend false cn (nextClear h b))) body-is ∙ both .0, c .before .before .next-clear .ensures .1 ∙ ap (λ b. laidOver out 0 (nextClear h b)) body-is ∙ both .1)))
 
 pub send-alert-spec : {M : Type 1} → statement M
 send-alert-spec =
@@ -191,6 +198,7 @@ send-alert-spec =
     returns-3
     same-length
     returns-4
+    clear-sender-requires
     may-clear-requires
     alert-refusal-requires-2
     enum-known-refusal-2

@@ -1,10 +1,11 @@
 -- `send::send_data`: refused in the order of the tests, or the next protected record.
 use Prim.Native.Nat.{_+_}
 use mathlib.Core.Path.{_≡_, sym, _∙_, ap}
+use mathlib.Core.Bool.{true}
 use lib.ListN.{length}
 use Rattle.record.proofs.ProtectedBytes.{size-most}
 use Rattle.record.specs.declared.header.Content.the-variants as C
-use Rattle.connection.specs.Send.{dataSent, dataOutput, dataRefused, dataOutcome, nextProtected, afterProtected, done}
+use Rattle.connection.specs.Send.{dataSent, dataOutput, dataRefused, dataOutcome, nextProtected, afterSend, done}
 use Rattle.connection.proofs.Sending.{data-done, next-size, refused-send, done-send}
 use borrow.Author.Needs.{needs}
 use native.Mathlib.Omega.{arith}
@@ -40,7 +41,7 @@ returns c = let cn = c .before .before .before .before .before .before .before .
     let out = c .before .before .before .before .before .before .before .before .before .before .before .args .out .now in
     let next = nextProtected h C.Data bytes in
     let told : dataOutcome h (length bytes) (length out) ≡ _ = sym (ap (λ z. dataRefused (h .state) (length bytes) (h .protection .protected) z (length out)) (c .before .before .before .before .before .size .ensures)) ∙ sym (c .before .before .before .before .data-refusal .ensures) ∙ c .before .before .refusal .given .1 in
-    let both = refused-send cn (done next (afterProtected h next)) out next (dataOutcome h (length bytes) (length out)) _ told in
+    let both = refused-send cn (done next (afterSend true cn next)) out next (dataOutcome h (length bytes) (length out)) _ told in
     (c .refused .ensures ∙ both .0, both .1)
 
 same-length : tie.Need-same-length
@@ -54,7 +55,7 @@ returns-2 c = let cn = c .before .before .before .before .before .before .before
     let out = c .before .before .before .before .before .before .before .before .before .before .before .before .before .args .out .now in
     let next = nextProtected h C.Data bytes in
     let told = sym (ap (λ z. dataRefused (h .state) (length bytes) (h .protection .protected) z (length out)) (c .before .before .before .before .before .before .before .size .ensures)) ∙ sym (c .before .before .before .before .before .before .data-refusal .ensures) ∙ c .before .before .before .before .enum-told .given .1 in
-    let both = done-send cn (done next (afterProtected h next)) out next (dataOutcome h (length bytes) (length out)) told in
+    let both = done-send cn (done next (afterSend true cn next)) out next (dataOutcome h (length bytes) (length out)) told in
     (c .before .before .next-protected .ensures .0 ∙ both .0, c .before .before .next-protected .ensures .1 ∙ both .1)
 
 pub send-data-spec : {M : Type 1} → statement M

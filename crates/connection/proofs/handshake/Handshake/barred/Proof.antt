@@ -13,8 +13,7 @@ unkeyed-requires : tie.Need-unkeyed-requires
 unkeyed-requires c κs = search needs
 
 returns : tie.Need-returns
-returns c = let h = c .before .before .before .before .args .self in
-    λ i. record { state = Barred; id = replicate 8 0; expected = nothingExpected; kept = c .before .nothing-kept .ensures i; sent = h .sent; protection = c .unkeyed .ensures i }
+returns c = λ i. record { state = Barred; id = replicate 8 0; expected = nothingExpected; kept = c .before .nothing-kept .ensures i; protection = c .unkeyed .ensures i }
 
 pub barred-spec : {M : Type 1} → statement M
 barred-spec =

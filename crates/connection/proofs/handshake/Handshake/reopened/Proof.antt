@@ -9,9 +9,6 @@ use Rattle.connection.proofs.handshake.Handshake.reopened.Tie as tie
 nothing-kept-requires : tie.Need-nothing-kept-requires
 nothing-kept-requires c κs = search needs
 
-fresh-requires : tie.Need-fresh-requires
-fresh-requires c κs = search needs
-
 emptied-requires : tie.Need-emptied-requires
 emptied-requires c κs = search needs
 
@@ -19,16 +16,15 @@ with-window-requires : tie.Need-with-window-requires
 with-window-requires c κs = search needs
 
 returns : tie.Need-returns
-returns c = let h = c .before .before .before .before .before .before .before .before .args .self in
+returns c = let h = c .before .before .before .before .before .before .before .args .self in
     let left = c .with-window .ensures ∙ ap (P.withWindow (h .protection)) (c .before .emptied .ensures) in
-    λ i. record { state = Idle; id = h .id; expected = h .expected; kept = c .before .before .before .nothing-kept .ensures i; sent = c .before .before .fresh .ensures i; protection = left i }
+    λ i. record { state = Idle; id = h .id; expected = h .expected; kept = c .before .before .nothing-kept .ensures i; protection = left i }
 
 pub reopened-spec : {M : Type 1} → statement M
 reopened-spec =
     tie.close
     (tie.spec
     nothing-kept-requires
-    fresh-requires
     emptied-requires
     with-window-requires
     returns)

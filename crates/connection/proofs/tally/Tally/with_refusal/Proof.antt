@@ -51,9 +51,6 @@ enum-told-12 c = search needs
 enum-told-13 : tie.Need-enum-told-13
 enum-told-13 c = search needs
 
-enum-told-14 : tie.Need-enum-told-14
-enum-told-14 c = search needs
-
 returns : tie.Need-returns
 returns c = rw (c .before .enum-told .given .1) (let t = c .before .before .before .args .self in λ i. record { handed = t .handed; forged = c .more .ensures i; old = t .old; repeated = t .repeated })
 
@@ -93,9 +90,6 @@ returns-12 c = search needs
 returns-13 : tie.Need-returns-13
 returns-13 c = search needs
 
-returns-14 : tie.Need-returns-14
-returns-14 c = search needs
-
 pub with-refusal-spec : {M : Type 1} → statement M
 with-refusal-spec =
     tie.close
@@ -116,7 +110,6 @@ with-refusal-spec =
     enum-told-11
     enum-told-12
     enum-told-13
-    enum-told-14
     returns
     returns-2
     returns-3
@@ -129,5 +122,4 @@ with-refusal-spec =
     returns-10
     returns-11
     returns-12
-    returns-13
-    returns-14)
+    returns-13)
