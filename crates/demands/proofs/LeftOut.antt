@@ -463,9 +463,10 @@ module _ (k : Keys) (c e : Connection) (same : SameOpen c e) (random d : List �
       by-protection true p =
           let a = told-open c random d r o p n in
           let b = told-open e random d r o′ p m in
-          let j = one-judgement o p in
-          (ap (λ t. t .connection .handshake) a ∙ ap (λ y. y .handshake) j ∙ sym (ap (λ t. t .connection .handshake) b),
-          inl (ap (λ t. t .answer) a ∙ ap (λ y. y .answer) j ∙ sym (ap (λ t. t .answer) b)))
+          let j = one-judgement o p in (
+            ap (λ t. t .connection .handshake) a ∙ ap (λ y. y .handshake) j ∙ sym (ap (λ t. t .connection .handshake) b),
+            inl (ap (λ t. t .answer) a ∙ ap (λ y. y .answer) j ∙ sym (ap (λ t. t .answer) b)),
+          )
 
 -- ---- record by record
 

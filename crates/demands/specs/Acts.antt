@@ -17,7 +17,8 @@ use Rattle.connection.specs.Calls.{closedOf, startedOf}
 use Rattle.connection.specs.declared.connection.Connection.{Connection}
 use Rattle.demands.specs.Runs.{Call, receive, send-data, send-alert, close, start}
 use Rattle.demands.specs.Genuine.{RecordOf}
-use Rattle.demands.specs.Events.{Event, took, sending, alerting, closing, starting, Happened, answered, closed, started, ifDone, wrote-by}
+use Rattle.demands.specs.Events.{Event, took, sending, alerting, closing, starting}
+use Rattle.demands.specs.Events.{Happened, answered, closed, started, ifDone, wrote-by}
 
 pub data Act : Type 0 where
   -- the record r of the datagram d comes, with the random that the caller lent

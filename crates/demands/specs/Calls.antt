@@ -58,8 +58,8 @@ pub data Chain (random d : List ℕ) : Connection → List Record → List Answe
       → Tells c random d r t
       → Chain random d (t .connection) rs answers left → Chain random d c (r ∷ rs) (t .answer ∷ answers) left
 
--- What a record sends, by the answer of the handshake h that is asked: a new reply is that of the session to this hello with our random; "the same reply
--- bytes" are those that are kept; nothing else sends.
+-- What a record sends, by the answer of the handshake h that is asked: a new reply is that of the session to this hello with our
+-- random; "the same reply bytes" are those that are kept; nothing else sends.
 abbrev pub SendsBy : Handshake → List ℕ → List ℕ → Answer → List ℕ → Type 0
 SendsBy h random m W.Nothing bytes = bytes ≡ []
 SendsBy h random m (W.Reply size) bytes =

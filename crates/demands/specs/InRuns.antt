@@ -52,7 +52,8 @@ pub record ProtectedExactly (session : Session) (width : ℕ) (past : List Happe
 
 unfoldable pub ProtectedInRuns : Type 0
 ProtectedInRuns =
-    (id secret : List ℕ) (width : ℕ) → Held width → (es : List Event) → AllSound es → (sent : SentRecords) (random d : List ℕ) (r : Record) → RecordOf d r
+    (id secret : List ℕ) (width : ℕ) → Held width → (es : List Event) → AllSound es
+    → (sent : SentRecords) (random d : List ℕ) (r : Record) → RecordOf d r
     → Guarded (after (freshWith id secret width) es) r
     → ProtectedExactly (sessionOf id secret) width (history (freshWith id secret width) es []) d r
     (judgedRecord (after (freshWith id secret width) es) sent random d r .answer)
@@ -60,7 +61,8 @@ ProtectedInRuns =
 -- 17: a genuine Finished that is answered so has other contents than the PRF over the messages of this run
 unfoldable pub WrongFinishedInRuns : Type 0
 WrongFinishedInRuns =
-    (id secret : List ℕ) (width : ℕ) → Held width → (es : List Event) → AllSound es → (sent : SentRecords) (random d : List ℕ) (r : Record) → RecordOf d r
+    (id secret : List ℕ) (width : ℕ) → Held width → (es : List Event) → AllSound es
+    → (sent : SentRecords) (random d : List ℕ) (r : Record) → RecordOf d r
     → judgedRecord (after (freshWith id secret width) es) sent random d r .answer ≡ Refused X.WrongFinished
     → (c : List ℕ) × Genuine (keysIn (sessionOf id secret) (history (freshWith id secret width) es [])) d r c
     × (r .content ≡ C.Handshake)

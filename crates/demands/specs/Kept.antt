@@ -1,6 +1,6 @@
--- What is kept is what happened: after any life from fresh, each field of a handshake is what the history of its life says;
--- with `Lives`, of both handshakes of a connection. (The records that we sent are the connection's: `Lives.SentIsWhatHappened`.) So that "the key", "the expected Finished", "the same reply" and "the window" elsewhere are no mere
--- fields.
+-- What is kept is what happened: after any life from fresh, each field of a handshake is what the history of its life says; with
+-- `Lives`, of both handshakes of a connection. (The records that we sent are the connection's: `Lives.SentIsWhatHappened`.) So that
+-- "the key", "the expected Finished", "the same reply" and "the window" elsewhere are no mere fields.
 use mathlib.Core.Path.{_≡_}
 use mathlib.Core.Bool.{Bool, true, false}
 use mathlib.Core.List.{List, []}

@@ -1,6 +1,6 @@
 -- 02, P6: a connection holds an open handshake and at most one started one. Each act of a run is handed to one of them. So each has a
 -- life of its own, the events that it was given, and is what that life leaves of a fresh handshake; what is said of every life
--- (`Kept`, `Finished`, `InRuns`, `Fatal`, `Sends`, `Replies`) is said of both.
+-- (`Kept`, `Finished`, `InRuns`, `Fatal`) is said of both.
 use mathlib.Core.Path.{_≡_}
 use mathlib.Core.Logic.{_↔_, _≢_}
 use mathlib.Core.Bool.{Bool, true, false}
@@ -131,6 +131,19 @@ lifeOf l A.Only = l .own
 lifeOf l A.Open = l .own
 lifeOf l A.Started = l .beside
 lifeOf l A.Newcomer = []
+
+-- the life of whoever sends a protected record, or a clear one, by the state of the open handshake
+abbrev pub clearSenderLife : Lives → State → List Event
+clearSenderLife l S.Idle = l .own
+clearSenderLife l S.Replied = l .own
+clearSenderLife l S.Spec = l .own
+clearSenderLife l S.Open = l .beside
+clearSenderLife l S.Closed = l .own
+clearSenderLife l S.Barred = l .own
+
+abbrev pub senderLife : Lives → Bool → State → List Event
+senderLife l true s = l .own
+senderLife l false s = clearSenderLife l s
 
 -- Every answer in every run is one that a life from fresh gives, of the handshake that is asked.
 unfoldable pub AnswersByLives : Type 0

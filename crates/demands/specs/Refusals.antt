@@ -92,7 +92,8 @@ RefusedCallChangesNothing g =
 -- for each record
 unfoldable pub RefusedRecordChangesNothing : Type 0
 RefusedRecordChangesNothing =
-    (h : Handshake) (records : SentRecords) (random d : List ℕ) (r : Record) (x : Refusal) → judgedRecord h records random d r .answer ≡ W.Refused x
+    (h : Handshake) (records : SentRecords) (random d : List ℕ) (r : Record) (x : Refusal)
+    → judgedRecord h records random d r .answer ≡ W.Refused x
     → judgedRecord h records random d r .handshake ≡ refusedLeaves h (r .protected) (r .number) x
 
 -- a datagram whose first record gets no reply writes nothing: "a success writes the counted bytes at the front and no

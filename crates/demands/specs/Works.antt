@@ -85,7 +85,8 @@ Works g =
 -- A unit that rebooted (02, P6): on every open connection of a session, another acceptable hello gets its reply, and then change cipher
 -- spec, Finished and data under the new keys are answered spec, open, data. Until the Finished the open handshake is what it was;
 -- then it is the one that was started, and none is started.
-pub record Rebooted (g : Gateway) (secret : List ℕ) (c : Connection) (session : Session) (m random out bytes : List ℕ) (plan : Plan) : Type 0 where
+pub record Rebooted (g : Gateway) (secret : List ℕ) (c : Connection) (session : Session) (m random out bytes : List ℕ)
+    (plan : Plan) : Type 0 where
   pub c₁ : Connection
   pub c₂ : Connection
   pub c₃ : Connection

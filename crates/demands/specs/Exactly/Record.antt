@@ -1,5 +1,6 @@
 -- 01, "Refusal numbers", of a record and the handshake that it is for: "Per record: 7; then place and state (8); then code and
--- window; then content 12, then 13, 14 or 17." (02, P6: "18 is not given any more".) Said over the bytes of the datagram, the state, and the numbers accepted before.
+-- window; then content 12, then 13, 14 or 17." (02, P6: "18 is not given any more".) Said over the bytes of the datagram, the state,
+-- the numbers accepted before and the records sent.
 use mathlib.Core.Path.{_≡_}
 use mathlib.Core.Logic.{_↔_, _⊎_, _≢_}
 use mathlib.Core.Bool.{Bool, true, false}

@@ -120,10 +120,12 @@ AlertGoes protected state level description lent number code room =
 pub record ExactlyAlert (g : Gateway) : Type 0 where
   pub refused : (c : Connection) (protected : Bool) (level description : ℕ) (answered out : List ℕ) (x : Refusal)
       → (g c (send-alert protected level description answered out) .result ≡ sent (Refused x) 0)
-      ↔ WhyAlert protected (senderOf protected c .state) level description (length answered) (alertNumberOf protected (senderOf protected c))
+      ↔ WhyAlert protected (senderOf protected c .state) level description (length answered)
+      (alertNumberOf protected (senderOf protected c))
       (alertCodeOf protected (senderOf protected c)) (length out) x
   pub goes : (c : Connection) (protected : Bool) (level description : ℕ) (answered out : List ℕ)
       → (g c (send-alert protected level description answered out) .result ≡ sent Done
       (9 + alertCodeOf protected (senderOf protected c)))
-      ↔ AlertGoes protected (senderOf protected c .state) level description (length answered) (alertNumberOf protected (senderOf protected c))
+      ↔ AlertGoes protected (senderOf protected c .state) level description (length answered)
+      (alertNumberOf protected (senderOf protected c))
       (alertCodeOf protected (senderOf protected c)) (length out)
