@@ -33,16 +33,20 @@ use Rattle.connection.specs.declared.handshake.Handshake.{Handshake}
 use Rattle.demands.specs.Runs.{Call, receive, send-data, send-alert, close, start, received, Step, stepOf, finalOf}
 use Rattle.demands.specs.Genuine.{RecordOf, keysOf}
 use Rattle.demands.specs.Table.{Row, ended, New}
-use Rattle.demands.specs.Table.{row-ended, row-hello-while-open, row-not-allowed, row-not-first, row-reply, row-hello-malformed, row-unacceptable, row-resent, row-change, row-change-malformed, row-clear-malformed, row-checksum, row-clear-warning, row-clear-critical, row-clear-fatal, row-forged, row-old, row-repeated, row-malformed, row-data, row-warning, row-critical, row-barred, row-open, row-again, row-wrong-finished}
+use Rattle.demands.specs.Table.{row-ended, row-returned, row-not-allowed, row-not-first, row-reply, row-hello-malformed, row-unacceptable, row-resent, row-change, row-change-malformed, row-clear-malformed, row-checksum, row-clear-warning, row-clear-critical, row-clear-fatal, row-forged, row-old, row-repeated, row-malformed, row-data, row-warning, row-critical, row-barred, row-open, row-again, row-wrong-finished}
 use Rattle.demands.specs.Calls.{Chain, chain-end, chain-more, taken, CallRow, receive-16, receive-6, receive-framing, receive-records, data-16, data-7, data-8, data-15, data-6, data-sent, alert-16, alert-7, alert-8, alert-15, alert-6, alert-sent, close-7, close-done, start-7, start-8, start-done, mayAlert}
 use Rattle.demands.specs.Refusals.{lentBy}
-use Rattle.demands.specs.Events.{Event, took, sending, alerting, closing, starting, Sound, connectionOf, next}
+use Rattle.demands.specs.Events.{Event, took, sending, alerting, closing, starting, Sound, next}
 use Rattle.demands.specs.Barred.{FatalUnderCode, BarredOnlyByFatal, refusedAll, AnswersSeven, BarredForGood}
 use Rattle.demands.proofs.Genuine.{true-false}
-use Rattle.demands.proofs.Table.{row-of, row-is}
+use Rattle.demands.proofs.Table.{row-of}
+use Rattle.demands.proofs.Asked.{tells-is, tells-seven}
 use Rattle.demands.proofs.First.{first-is}
-use Rattle.demands.proofs.Calls.{by-chain, call-of, call-is, chain-is}
+use Rattle.demands.proofs.Calls.{by-chain, call-of, call-is, chain-is, sent-alone}
 use Rattle.demands.proofs.Refusals.{laid-nothing, no-reply}
+use Rattle.connection.specs.declared.sent.SentRecords.{SentRecords}
+use Rattle.connection.specs.Connection.{alone}
+use Rattle.connection.specs.Send.{senderOf, clearSender}
 
 -- ---- Barred by a fatal alert only
 
@@ -56,15 +60,15 @@ pub record FatalRow (h : Handshake) (d : List ℕ) (r : Record) : Type 0 where
   pub well-formed : alertOf c ≡ R.WellFormed a
   pub fatal : a .level ≡ L.Fatal
 
-module _ (h : Handshake) (random d : List ℕ) (r : Record) (nb : h .state ≢ S.Barred) where
+module _ (h : Handshake) (sent : SentRecords) (random d : List ℕ) (r : Record) (nb : h .state ≢ S.Barred) where
   replied-not : {P : Type 0} (plan : Plan) → answeredWith h random (fragmentOf d r) plan .state ≡ S.Barred → P
   unfolding answeredWith
   replied-not plan z = let v : _≡_ {A = ℕ} 0 1 = cc in absurd (omega arith)
 
-  pub by-fatal : {j : Judged} → Row h random d r j → j .handshake .state ≡ S.Barred → FatalRow h d r
+  pub by-fatal : {j : Judged} → Row h sent random d r j → j .handshake .state ≡ S.Barred → FatalRow h d r
   by-fatal (row-ended e) z = absurd (nb z)
-  by-fatal (row-hello-while-open e) z = absurd (nb z)
-  by-fatal (row-not-allowed e o b) z = absurd (nb z)
+  by-fatal (row-returned q) z = absurd (nb z)
+  by-fatal (row-not-allowed e b n) z = absurd (nb z)
   by-fatal (row-not-first b i y) z = absurd (nb z)
   by-fatal (row-reply plan g e) z = replied-not plan z
   by-fatal (row-hello-malformed fault g e) z = absurd (nb z)
@@ -90,7 +94,7 @@ module _ (h : Handshake) (random d : List ℕ) (r : Record) (nb : h .state ≢ S
   by-fatal (row-wrong-finished c w n e m) z = let v : _≡_ {A = ℕ} 0 1 = cc in absurd (omega arith)
 
 module _ (h : Handshake) (nb : h .state ≢ S.Barred) where
-  by-data : {P : Type 0} (bytes out : List ℕ) {s : Step} → CallRow (connectionOf h) (send-data bytes out) s → s .connection .handshake .state ≡ S.Barred → P
+  by-data : {P : Type 0} (bytes out : List ℕ) {s : Step} → CallRow (alone h) (send-data bytes out) s → s .connection .handshake .state ≡ S.Barred → P
   by-data bytes out (data-16 b) z = absurd (nb z)
   by-data bytes out (data-7 g e) z = absurd (nb z)
   by-data bytes out (data-8 g e n) z = absurd (nb z)
@@ -98,31 +102,33 @@ module _ (h : Handshake) (nb : h .state ≢ S.Barred) where
   by-data bytes out (data-6 g e n l) z = absurd (nb z)
   by-data bytes out (data-sent g e n l) z = absurd (nb z)
 
-  alert-state : {P : Type 0} (protected : Bool) (bytes : List ℕ) → afterAlert protected h bytes .state ≡ S.Barred → P
-  alert-state true bytes z = absurd (nb z)
-  alert-state false bytes z = absurd (nb z)
+  alert-state : {P : Type 0} (protected : Bool) → afterAlert protected h .state ≡ S.Barred → P
+  alert-state true z = absurd (nb z)
+  alert-state false z = absurd (nb z)
 
-  by-alert : {P : Type 0} (protected : Bool) (level description : ℕ) (lent out : List ℕ) {s : Step} → CallRow (connectionOf h) (send-alert protected level description lent out) s
+  by-alert : {P : Type 0} (protected : Bool) (level description : ℕ) (lent out : List ℕ) {s : Step} → CallRow (alone h) (send-alert protected level description lent out) s
       → s .connection .handshake .state ≡ S.Barred → P
   by-alert protected level description lent out (alert-16 b) z = absurd (nb z)
   by-alert protected level description lent out (alert-7 g e) z = absurd (nb z)
   by-alert protected level description lent out (alert-8 g e f) z = absurd (nb z)
   by-alert protected level description lent out (alert-15 g e n) z = absurd (nb z)
   by-alert protected level description lent out (alert-6 g e n l) z = absurd (nb z)
-  by-alert protected level description lent out (alert-sent {l = v} {k = m} g e n l) z = alert-state protected (nextAlert protected h (alertBody v m lent)) z
+  by-alert protected level description lent out (alert-sent {l = v} {k = m} g e n l) z =
+      alert-state protected (sym (ap (λ x. x .state) (sent-alone h protected e (nextAlert protected (senderOf protected (alone h)) (alertBody v m lent)))) ∙ z)
 
-  by-close : {P : Type 0} {s : Step} → CallRow (connectionOf h) close s → s .connection .handshake .state ≡ S.Barred → P
+  by-close : {P : Type 0} {s : Step} → CallRow (alone h) close s → s .connection .handshake .state ≡ S.Barred → P
   by-close (close-7 e) z = absurd (nb z)
   by-close (close-done n) z = let v : _≡_ {A = ℕ} 0 1 = cc in absurd (omega arith)
 
-  by-start : {P : Type 0} {s : Step} → CallRow (connectionOf h) start s → s .connection .handshake .state ≡ S.Barred → P
+  by-start : {P : Type 0} {s : Step} → CallRow (alone h) start s → s .connection .handshake .state ≡ S.Barred → P
   by-start (start-7 e) z = absurd (nb z)
   by-start (start-8 n m) z = absurd (nb z)
   by-start (start-done e) z = let v : _≡_ {A = ℕ} 0 1 = cc in absurd (omega arith)
 
-under-code : (h : Handshake) (random d : List ℕ) (r : Record) → RecordOf d r → FatalRow h d r → FatalUnderCode h (took random d r)
-under-code h random d r at f =
+under-code : (h : Handshake) (sent : SentRecords) (random d : List ℕ) (r : Record) → RecordOf d r → FatalRow h d r → FatalUnderCode h (took sent random d r)
+under-code h sent random d r at f =
     record {
+      records = sent;
       random = random;
       d = d;
       r = r;
@@ -141,24 +147,24 @@ under-code h random d r at f =
 
 pub barred-only-by-fatal : BarredOnlyByFatal
 unfolding BarredOnlyByFatal stepOf
-barred-only-by-fatal h (took random d r) sound nb z = under-code h random d r (sound .1) (by-fatal h random d r nb (row-of h random d r) z)
-barred-only-by-fatal h (sending bytes out) sound nb z = by-data h nb bytes out (call-of (connectionOf h) (send-data bytes out)) z
+barred-only-by-fatal h (took sent random d r) sound nb z = under-code h sent random d r (sound .1) (by-fatal h sent random d r nb (row-of h sent random d r) z)
+barred-only-by-fatal h (sending bytes out) sound nb z = by-data h nb bytes out (call-of (alone h) (send-data bytes out)) z
 barred-only-by-fatal h (alerting protected level description lent out) sound nb z =
-    by-alert h nb protected level description lent out (call-of (connectionOf h) (send-alert protected level description lent out)) z
-barred-only-by-fatal h closing sound nb z = by-close h nb (call-of (connectionOf h) close) z
-barred-only-by-fatal h starting sound nb z = by-start h nb (call-of (connectionOf h) start) z
+    by-alert h nb protected level description lent out (call-of (alone h) (send-alert protected level description lent out)) z
+barred-only-by-fatal h closing sound nb z = by-close h nb (call-of (alone h) close) z
+barred-only-by-fatal h starting sound nb z = by-start h nb (call-of (alone h) start) z
 
 -- ---- an ended connection
 
-pub chain-seven : (random d : List ℕ) (h : Handshake) → ended (h .state) ≡ true → (rs : List Record) → Chain random d h rs (refusedAll rs) h
-chain-seven random d h e [] = chain-end
-chain-seven random d h e (r ∷ rs) = chain-more (row-ended e) (chain-seven random d h e rs)
+pub chain-seven : (random d : List ℕ) (c : Connection) → ended (c .handshake .state) ≡ true → (rs : List Record) → Chain random d c rs (refusedAll rs) c
+chain-seven random d c e [] = chain-end
+chain-seven random d c e (r ∷ rs) = chain-more (tells-seven c random d r e) (chain-seven random d c e rs)
 
-no-reply-ended : (c : Connection) (random d : List ℕ) → ended (c .handshake .state) ≡ true → (rs : List Record) → firstReply (c .handshake) random d rs ≡ []
+no-reply-ended : (c : Connection) (random d : List ℕ) → ended (c .handshake .state) ≡ true → (rs : List Record) → firstReply c random d rs ≡ []
 unfolding firstReply
 no-reply-ended c random d e [] = refl
 no-reply-ended c random d e (r ∷ rs) =
-    no-reply c random d r rs (ap (λ j. replySize (j .answer)) (row-is (c .handshake) random d r (row-ended e)))
+    no-reply c random d r rs (ap (λ t. replySize (t .answer)) (tells-is c random d r (tells-seven c random d r e)))
 
 module _ (c : Connection) (b : c .handshake .state ≡ S.Barred) where
   is-over : ended (c .handshake .state) ≡ true
@@ -167,16 +173,20 @@ module _ (c : Connection) (b : c .handshake .state ≡ S.Barred) where
   no-state : {P : Type 0} (s : State) → c .handshake .state ≡ s → (S.Barred ≡ s → ⊥) → P
   no-state s e n = absurd (n (sym b ∙ e))
 
-  not-may : {P : Type 0} (protected : Bool) → mayAlert protected (c .handshake .state) ≡ true → P
-  not-may protected m = true-false false (sym (ap (mayAlert protected) b) ∙ m) refl
+  sender-is : (protected : Bool) → senderOf protected c ≡ c .handshake
+  sender-is true = refl
+  sender-is false = ap (clearSender c) b
+
+  not-may : {P : Type 0} (protected : Bool) → mayAlert protected (senderOf protected c .state) ≡ true → P
+  not-may protected m = true-false false (sym (ap (λ x. mayAlert protected (x .state)) (sender-is protected) ∙ ap (mayAlert protected) b) ∙ m) refl
 
   stays : {call : Call} {s : Step} → CallRow c call s → (s .connection ≡ c) × (s .output ≡ lentBy call)
   stays (receive-16 n) = (refl, refl)
   stays (receive-6 e l) = (refl, refl)
   stays (receive-framing e l f) = (refl, refl)
   stays (receive-records {d = d} {random = random} {out = out} {rs = rs} {answers = answers} {left = last} reply e l f more sends) =
-      let same : c .handshake ≡ last = sym (chain-is random d (chain-seven random d (c .handshake) is-over rs) .1) ∙ chain-is random d more .1 in
-      ((λ i. record { handshake = sym same i }), ap (laidOver out 0) (sym (first-is random d more reply sends) ∙ no-reply-ended c random d is-over rs) ∙ laid-nothing out)
+      let same : c ≡ last = sym (chain-is random d (chain-seven random d c is-over rs) .1) ∙ chain-is random d more .1 in
+      (sym same, ap (laidOver out 0) (sym (first-is random d more reply sends) ∙ no-reply-ended c random d is-over rs) ∙ laid-nothing out)
   stays (data-16 x) = (refl, refl)
   stays (data-7 g e) = (refl, refl)
   stays (data-8 g e n) = (refl, refl)
@@ -203,7 +213,7 @@ module _ (c : Connection) (b : c .handshake .state ≡ S.Barred) where
   received-seven : (d random out : List ℕ) (rs : List Record) → length random ≡ 16 → 128 ≤ length out → framingOf d ≡ framed rs
       → stepOf c (receive d random out) .result ≡ received (T.Records (length rs)) (slotsOf (refusedAll rs)) 0
   received-seven d random out rs e l f =
-      ap (λ s. s .result) (call-is c (by-chain c {out = out} e l f (chain-seven random d (c .handshake) is-over rs)))
+      ap (λ s. s .result) (call-is c (by-chain c {out = out} e l f (chain-seven random d c is-over rs)))
       ∙ ap (λ reply. received (T.Records (length rs)) (slotsOf (refusedAll rs)) (length reply)) (no-reply-ended c random d is-over rs)
 
   answers-seven : AnswersSeven stepOf c
@@ -212,7 +222,7 @@ module _ (c : Connection) (b : c .handshake .state ≡ S.Barred) where
     received-seven,
     λ bytes out some most. ap (λ s. s .result) (call-is c (data-7 {out = out} (record { some = some; most = most }) is-over)),
     λ protected level description l k answered out el ek m.
-        ap (λ s. s .result) (call-is c (alert-7 {protected = protected} {out = out} (record { level-is = el; description-is = ek; lent-most = m }) is-over)),
+        ap (λ s. s .result) (call-is c (alert-7 {protected = protected} {out = out} (record { level-is = el; description-is = ek; lent-most = m }) (ap (λ x. ended (x .state)) (sender-is protected) ∙ is-over))),
     ap (λ s. s .result) (call-is c (close-7 b)),
     ap (λ s. s .result) (call-is c (start-7 b)),
   )

@@ -23,55 +23,56 @@ use Rattle.message.specs.declared.alert.Graded.{Graded}
 use Rattle.message.specs.declared.alert.Graded.the-variants as G
 use Rattle.message.specs.declared.alert.Sorted.{Sorted}
 use Rattle.message.specs.declared.alert.Sorted.the-variants as D
-use Rattle.connection.specs.Handshake.{withState, reopened}
-use Rattle.connection.specs.Judge.{judgedRecord}
+use Rattle.connection.specs.Connection as I
+use Rattle.connection.specs.Told.{toldRecord}
 use Rattle.connection.specs.Receive.{slotsOf, firstReply, endOf, answersOf, receivedOf, outputOf, wholeOf, runOf, framedTo, sentOf}
-use Rattle.connection.specs.Send.{nextProtected, nextAlert, afterProtected, afterAlert, alertBody, mayData, mayProtect, mayClear, andThen, numberedBy, dataRefused, alertRefused, alertOutcome, sentTo, outputTo, done, dataSent, dataOutput, dataOutcome, alertSent, alertOutput, alertSentAs, alertOutputAs}
+use Rattle.connection.specs.Sent.{withRecord, sumOf}
+use Rattle.connection.specs.declared.sent.SentRecords.{SentRecords}
+use Rattle.connection.specs.Send.{nextProtected, nextAlert, senderOf, clearSender, clearBack, afterAlert, afterSend, alertBody, mayData, mayProtect, mayClear, andThen, numberedBy, dataRefused, alertRefused, alertOutcome, sentTo, outputTo, done, dataSent, dataOutput, dataOutcome, alertSent, alertOutput, alertSentAs, alertOutputAs}
 use Rattle.connection.specs.Calls.{closedOf, closedIn, startedOf, startedIn, freshOf, outOfRange, leaving}
 use Rattle.connection.specs.declared.state.State.{State}
 use Rattle.connection.specs.declared.state.State.the-variants as S
 use Rattle.connection.specs.declared.refusal.Refusal.{Refusal}
 use Rattle.connection.specs.declared.refusal.Refusal.the-variants as X
 use Rattle.connection.specs.declared.answer.Answer.{Answer}
-use Rattle.connection.specs.declared.answer.Judged.{Judged}
 use Rattle.connection.specs.declared.connection.Connection.{Connection}
 use Rattle.connection.specs.declared.calls.Called.{Called}
 use Rattle.connection.specs.declared.calls.Outcome.{Outcome}
 use Rattle.connection.specs.declared.calls.Outcome.the-variants as O
 use Rattle.connection.specs.declared.receive.Taken.the-variants as T
 use Rattle.connection.specs.declared.handshake.Handshake.{Handshake}
-use Rattle.demands.specs.Runs.{Call, receive, send-data, send-alert, close, start, received, sent, called, receivedAs, sentAs, calledAs, Step, stepOf, freshWith}
-use Rattle.demands.specs.Table.{Row, ended}
-use Rattle.demands.specs.Calls.{Chain, chain-end, chain-more, ofHandshake, notTaken, notSent, notCalled, taken, wasSent, wasCalled, mayAlert, numberFor, codeFor, BadData, BadAlert, GoodData, GoodAlert, CallRow, CallsHold, FreshRow, fresh-16, fresh-done, FreshHolds}
+use Rattle.demands.specs.Runs.{Call, receive, send-data, send-alert, close, start, received, sent, called, receivedAs, sentAs, calledAs, Step, stepOf, freshOne}
+use Rattle.demands.specs.Table.{ended}
+use Rattle.demands.specs.Calls.{Chain, chain-end, chain-more, notTaken, notSent, notCalled, taken, wasSent, wasCalled, mayAlert, numberFor, codeFor, BadData, BadAlert, GoodData, GoodAlert, CallRow, CallsHold, FreshRow, fresh-16, fresh-done, FreshHolds}
 use Rattle.demands.specs.Calls.{receive-16, receive-6, receive-framing, receive-records, data-16, data-7, data-8, data-15, data-6, data-sent, alert-16, alert-7, alert-8, alert-15, alert-6, alert-sent, close-7, close-done, start-7, start-8, start-done}
 use Rattle.demands.proofs.Genuine.{true-false}
-use Rattle.demands.proofs.Table.{row-of, row-is}
+use Rattle.demands.proofs.Asked.{tells-of, tells-is}
 use Rattle.demands.proofs.First.{first-sends, first-is}
 
 -- ---- records one after the other
 
 module _ (random d : List ℕ) where
-  pub chain-of : (h : Handshake) (rs : List Record) → Chain random d h rs (answersOf h random d rs) (endOf h random d rs)
+  pub chain-of : (c : Connection) (rs : List Record) → Chain random d c rs (answersOf c random d rs) (endOf c random d rs)
   unfolding answersOf endOf
-  chain-of h [] = chain-end
-  chain-of h (r ∷ rs) = chain-more (row-of h random d r) (chain-of (judgedRecord h random d r .handshake) rs)
+  chain-of c [] = chain-end
+  chain-of c (r ∷ rs) = chain-more (tells-of c random d r) (chain-of (toldRecord c random d r .connection) rs)
 
-  pub chain-is : {h : Handshake} {rs : List Record} {answers : List Answer} {left : Handshake} → Chain random d h rs answers left
-      → (answersOf h random d rs ≡ answers) × (endOf h random d rs ≡ left)
+  pub chain-is : {c : Connection} {rs : List Record} {answers : List Answer} {left : Connection} → Chain random d c rs answers left
+      → (answersOf c random d rs ≡ answers) × (endOf c random d rs ≡ left)
   unfolding answersOf endOf
   chain-is chain-end = (refl, refl)
-  chain-is (chain-more {h = h} {r = r} {rs = rs} {j = j} row more) =
-      let e = row-is h random d r row in
+  chain-is (chain-more {c = c} {r = r} {rs = rs} row more) =
+      let e = tells-is c random d r row in
       let q = chain-is more in
-      (ap₂ (λ (x : Answer) (y : List Answer). x ∷ y) (ap (λ x. x .answer) e) (ap (λ x. answersOf (x .handshake) random d rs) e ∙ q .0), ap (λ x. endOf (x .handshake) random d rs) e ∙ q .1)
+      (ap₂ (λ (x : Answer) (y : List Answer). x ∷ y) (ap (λ x. x .answer) e) (ap (λ x. answersOf (x .connection) random d rs) e ∙ q .0), ap (λ x. endOf (x .connection) random d rs) e ∙ q .1)
 
 -- ---- receive
 
 -- the row of a datagram by its chain alone: what it sends is what the judge keeps for it
-pub by-chain : (c : Connection) {d random out : List ℕ} {rs : List Record} {answers : List Answer} {left : Handshake} → length random ≡ 16
-    → 128 ≤ length out → framingOf d ≡ framed rs → Chain random d (c .handshake) rs answers left
-    → CallRow c (receive d random out) (taken out rs answers (firstReply (c .handshake) random d rs) left)
-by-chain c {d = d} {random = random} {rs = rs} e l f more = receive-records (firstReply (c .handshake) random d rs) e l f more (first-sends random d more)
+pub by-chain : (c : Connection) {d random out : List ℕ} {rs : List Record} {answers : List Answer} {left : Connection} → length random ≡ 16
+    → 128 ≤ length out → framingOf d ≡ framed rs → Chain random d c rs answers left
+    → CallRow c (receive d random out) (taken out rs answers (firstReply c random d rs) left)
+by-chain c {d = d} {random = random} {rs = rs} e l f more = receive-records (firstReply c random d rs) e l f more (first-sends random d more)
 
 module _ (c : Connection) (d random out : List ℕ) where
   laid-none : laidOver out 0 [] ≡ out
@@ -79,12 +80,12 @@ module _ (c : Connection) (d random out : List ℕ) where
   laid-none = refl
 
   -- the step, by the outcomes of the tests
-  abbrev receiveBy : Bool → Bool → Framing → Step
+  abbrev pub receiveBy : Bool → Bool → Framing → Step
   receiveBy sixteen short f =
       receivedAs (pick sixteen (pick short (wholeOf c (T.Refused X.Room)) (framedTo c random d f)) (wholeOf c (T.Refused X.Argument)))
       (pick sixteen (pick short out (laidOver out 0 (sentOf c random d f))) out)
 
-  step-receive : stepOf c (receive d random out) ≡ receiveBy (eqb (length random) 16) (ltb (length out) 128) (framingOf d)
+  pub step-receive : stepOf c (receive d random out) ≡ receiveBy (eqb (length random) 16) (ltb (length out) 128) (framingOf d)
   unfolding stepOf receivedOf outputOf
   step-receive = refl
 
@@ -98,7 +99,7 @@ module _ (c : Connection) (d random out : List ℕ) where
   receive-by false eb s es f ef = receive-16 (eqb-false (length random) 16 eb)
   receive-by true eb true es f ef = receive-6 (eqb-true (length random) 16 eb) (ltb-true (length out) 128 es)
   receive-by true eb false es (framed rs) ef =
-      by-chain c (eqb-true (length random) 16 eb) (ltb-false (length out) 128 es) ef (chain-of random d (c .handshake) rs)
+      by-chain c (eqb-true (length random) 16 eb) (ltb-false (length out) 128 es) ef (chain-of random d c rs)
   receive-by true eb false es (faulty fault at) ef =
       subst (CallRow c (receive d random out)) (sym (misframed-is fault at))
       (receive-framing (eqb-true (length random) 16 eb) (ltb-false (length out) 128 es) ef)
@@ -108,7 +109,7 @@ module _ (c : Connection) (d random out : List ℕ) where
   tests-are b s f eb es ef = step-receive ∙ λ i. receiveBy (eb i) (es i) (ef i)
 
   taken-is : (rs : List Record) → receiveBy true false (framed rs)
-      ≡ taken out rs (answersOf (c .handshake) random d rs) (firstReply (c .handshake) random d rs) (endOf (c .handshake) random d rs)
+      ≡ taken out rs (answersOf c random d rs) (firstReply c random d rs) (endOf c random d rs)
   unfolding runOf
   taken-is rs = refl
 
@@ -131,7 +132,7 @@ module _ (c : Connection) (bytes out : List ℕ) where
 
   -- the step, by the outcome
   abbrev dataStep : Outcome → Step
-  dataStep o = sentAs (sentTo c (done dataNext (afterProtected h dataNext)) o) (outputTo out dataNext o)
+  dataStep o = sentAs (sentTo c (done dataNext (afterSend true c dataNext)) o) (outputTo out dataNext o)
 
   step-data : stepOf c (send-data bytes out) ≡ dataStep (dataOutcome h (length bytes) (length out))
   unfolding stepOf dataSent dataOutput
@@ -282,60 +283,60 @@ module _ (c : Connection) (protected : Bool) (level description : ℕ) (answered
 
   module _ (l : Level) (k : Description) where
     abbrev alertNext : List ℕ
-    alertNext = nextAlert protected (c .handshake) (alertBody l k answered)
+    alertNext = nextAlert protected (senderOf protected c) (alertBody l k answered)
 
     abbrev alertStep : Outcome → Step
-    alertStep o = sentAs (sentTo c (done alertNext (afterAlert protected (c .handshake) alertNext)) o) (outputTo out alertNext o)
+    alertStep o = sentAs (sentTo c (done alertNext (afterSend protected c alertNext)) o) (outputTo out alertNext o)
 
     abbrev alertNumbered : Outcome
-    alertNumbered = numberedBy (numberFor protected (c .handshake)) (9 + codeFor protected (c .handshake)) (length out)
+    alertNumbered = numberedBy (numberFor protected (senderOf protected c)) (9 + codeFor protected (senderOf protected c)) (length out)
 
-    alert-by-room : GoodAlert level description answered l k → mayAlert protected (c .handshake .state) ≡ true → numberFor protected (c .handshake) ≤ 65535
-        → (b : Bool) → ltb (length out) (9 + codeFor protected (c .handshake)) ≡ b
+    alert-by-room : GoodAlert level description answered l k → mayAlert protected (senderOf protected c .state) ≡ true → numberFor protected (senderOf protected c) ≤ 65535
+        → (b : Bool) → ltb (length out) (9 + codeFor protected (senderOf protected c)) ≡ b
         → CallRow c (send-alert protected level description answered out) (alertStep (pick b (O.Refused X.Room) O.Done))
-    alert-by-room g s n true e = alert-6 g s n (ltb-true (length out) (9 + codeFor protected (c .handshake)) e)
-    alert-by-room g s n false e = alert-sent g s n (ltb-false (length out) (9 + codeFor protected (c .handshake)) e)
+    alert-by-room g s n true e = alert-6 g s n (ltb-true (length out) (9 + codeFor protected (senderOf protected c)) e)
+    alert-by-room g s n false e = alert-sent g s n (ltb-false (length out) (9 + codeFor protected (senderOf protected c)) e)
 
-    alert-by-number : GoodAlert level description answered l k → mayAlert protected (c .handshake .state) ≡ true → (b : Bool) → ltb 65535 (numberFor protected (c .handshake)) ≡ b
+    alert-by-number : GoodAlert level description answered l k → mayAlert protected (senderOf protected c .state) ≡ true → (b : Bool) → ltb 65535 (numberFor protected (senderOf protected c)) ≡ b
         → CallRow c (send-alert protected level description answered out)
-        (alertStep (pick b (O.Refused X.Spent) (pick (ltb (length out) (9 + codeFor protected (c .handshake))) (O.Refused X.Room) O.Done)))
-    alert-by-number g s true e = alert-15 g s (ltb-true 65535 (numberFor protected (c .handshake)) e)
+        (alertStep (pick b (O.Refused X.Spent) (pick (ltb (length out) (9 + codeFor protected (senderOf protected c))) (O.Refused X.Room) O.Done)))
+    alert-by-number g s true e = alert-15 g s (ltb-true 65535 (numberFor protected (senderOf protected c)) e)
     alert-by-number g s false e =
-        alert-by-room g s (ltb-false 65535 (numberFor protected (c .handshake)) e) (ltb (length out) (9 + codeFor protected (c .handshake))) refl
+        alert-by-room g s (ltb-false 65535 (numberFor protected (senderOf protected c)) e) (ltb (length out) (9 + codeFor protected (senderOf protected c))) refl
 
-    alert-by-state : GoodAlert level description answered l k → (e m : Bool) → ended (c .handshake .state) ≡ e → mayAlert protected (c .handshake .state) ≡ m
-        → CallRow c (send-alert protected level description answered out) (alertStep (andThen (mayOf protected (c .handshake .state)) alertNumbered))
+    alert-by-state : GoodAlert level description answered l k → (e m : Bool) → ended (senderOf protected c .state) ≡ e → mayAlert protected (senderOf protected c .state) ≡ m
+        → CallRow c (send-alert protected level description answered out) (alertStep (andThen (mayOf protected (senderOf protected c .state)) alertNumbered))
     unfolding numberedBy
     alert-by-state g true m e f =
-        subst (λ o. CallRow c (send-alert protected level description answered out) (alertStep (andThen o alertNumbered))) (sym (ended-alert protected (c .handshake .state) e)) (alert-7 g e)
+        subst (λ o. CallRow c (send-alert protected level description answered out) (alertStep (andThen o alertNumbered))) (sym (ended-alert protected (senderOf protected c .state) e)) (alert-7 g e)
     alert-by-state g false false e f =
-        subst (λ o. CallRow c (send-alert protected level description answered out) (alertStep (andThen o alertNumbered))) (sym (other-alert protected (c .handshake .state) e f)) (alert-8 g e f)
+        subst (λ o. CallRow c (send-alert protected level description answered out) (alertStep (andThen o alertNumbered))) (sym (other-alert protected (senderOf protected c .state) e f)) (alert-8 g e f)
     alert-by-state g false true e f =
-        subst (λ o. CallRow c (send-alert protected level description answered out) (alertStep (andThen o alertNumbered))) (sym (may-alert protected (c .handshake .state) f))
-        (alert-by-number g f (ltb 65535 (numberFor protected (c .handshake))) refl)
+        subst (λ o. CallRow c (send-alert protected level description answered out) (alertStep (andThen o alertNumbered))) (sym (may-alert protected (senderOf protected c .state) f))
+        (alert-by-number g f (ltb 65535 (numberFor protected (senderOf protected c))) refl)
 
     alert-by-lent : levelOf level ≡ G.Is l → sortedOf description ≡ D.Assigned k → (b : Bool) → ltb 1400 (length answered) ≡ b
         → CallRow c (send-alert protected level description answered out)
-        (alertStep (pick b (O.Refused X.Argument) (andThen (mayOf protected (c .handshake .state)) alertNumbered)))
+        (alertStep (pick b (O.Refused X.Argument) (andThen (mayOf protected (senderOf protected c .state)) alertNumbered)))
     alert-by-lent el ek true e = alert-16 (inr (inr (ltb-true 1400 (length answered) e)))
     alert-by-lent el ek false e =
-        alert-by-state (record { level-is = el; description-is = ek; lent-most = ltb-false 1400 (length answered) e }) (ended (c .handshake .state)) (mayAlert protected (c .handshake .state)) refl refl
+        alert-by-state (record { level-is = el; description-is = ek; lent-most = ltb-false 1400 (length answered) e }) (ended (senderOf protected c .state)) (mayAlert protected (senderOf protected c .state)) refl refl
 
     alert-assigned : levelOf level ≡ G.Is l → sortedOf description ≡ D.Assigned k
-        → CallRow c (send-alert protected level description answered out) (alertStep (alertOutcome protected (c .handshake) (length answered) (length out)))
+        → CallRow c (send-alert protected level description answered out) (alertStep (alertOutcome protected (senderOf protected c) (length answered) (length out)))
     unfolding alertRefused
     alert-assigned el ek =
-        subst (λ o. CallRow c (send-alert protected level description answered out) (alertStep o)) (sym (alert-outcome protected (c .handshake) (length answered) (length out)))
+        subst (λ o. CallRow c (send-alert protected level description answered out) (alertStep o)) (sym (alert-outcome protected (senderOf protected c) (length answered) (length out)))
         (alert-by-lent el ek (ltb 1400 (length answered)) refl)
 
     -- the other way round
-    alert-good : GoodAlert level description answered l k → (o : Outcome) → andThen (mayOf protected (c .handshake .state)) alertNumbered ≡ o
+    alert-good : GoodAlert level description answered l k → (o : Outcome) → andThen (mayOf protected (senderOf protected c .state)) alertNumbered ≡ o
         → stepOf c (send-alert protected level description answered out) ≡ alertStep o
     unfolding alertRefused
     alert-good g o e =
         step-alert ∙ ap₂ alertBy (g .level-is) (g .description-is)
-        ∙ ap alertStep (alert-outcome protected (c .handshake) (length answered) (length out))
-        ∙ ap (λ b. alertStep (pick b (O.Refused X.Argument) (andThen (mayOf protected (c .handshake .state)) alertNumbered))) (le-ltb 1400 (length answered) (g .lent-most))
+        ∙ ap alertStep (alert-outcome protected (senderOf protected c) (length answered) (length out))
+        ∙ ap (λ b. alertStep (pick b (O.Refused X.Argument) (andThen (mayOf protected (senderOf protected c .state)) alertNumbered))) (le-ltb 1400 (length answered) (g .lent-most))
         ∙ ap alertStep e
 
     alert-long : levelOf level ≡ G.Is l → sortedOf description ≡ D.Assigned k → 1400 < length answered
@@ -343,8 +344,8 @@ module _ (c : Connection) (protected : Bool) (level description : ℕ) (answered
     unfolding alertRefused
     alert-long el ek z =
         step-alert ∙ ap₂ alertBy el ek
-        ∙ ap alertStep (alert-outcome protected (c .handshake) (length answered) (length out))
-        ∙ ap (λ b. alertStep (pick b (O.Refused X.Argument) (andThen (mayOf protected (c .handshake .state)) alertNumbered))) (lt-ltb 1400 (length answered) z)
+        ∙ ap alertStep (alert-outcome protected (senderOf protected c) (length answered) (length out))
+        ∙ ap (λ b. alertStep (pick b (O.Refused X.Argument) (andThen (mayOf protected (senderOf protected c .state)) alertNumbered))) (lt-ltb 1400 (length answered) z)
 
   alert-by : (g : Graded) (s : Sorted) → levelOf level ≡ g → sortedOf description ≡ s
       → CallRow c (send-alert protected level description answered out) (alertBy g s)
@@ -383,7 +384,7 @@ module _ (c : Connection) where
   apart : (s t : State) → c .handshake .state ≡ s → (s ≡ t → ⊥) → c .handshake .state ≢ t
   apart s t e n z = n (sym e ∙ z)
 
-  close-by : (s : State) → c .handshake .state ≡ s → CallRow c close (calledAs (closedIn (c .handshake) s))
+  close-by : (s : State) → c .handshake .state ≡ s → CallRow c close (calledAs (closedIn c s))
   close-by S.Idle e = close-done (apart S.Idle S.Barred e (λ z. let w : _≡_ {A = ℕ} 0 1 = cc in omega arith))
   close-by S.Replied e = close-done (apart S.Replied S.Barred e (λ z. let w : _≡_ {A = ℕ} 0 1 = cc in omega arith))
   close-by S.Spec e = close-done (apart S.Spec S.Barred e (λ z. let w : _≡_ {A = ℕ} 0 1 = cc in omega arith))
@@ -391,7 +392,7 @@ module _ (c : Connection) where
   close-by S.Closed e = close-done (apart S.Closed S.Barred e (λ z. let w : _≡_ {A = ℕ} 0 1 = cc in omega arith))
   close-by S.Barred e = close-7 e
 
-  start-by : (s : State) → c .handshake .state ≡ s → CallRow c start (calledAs (startedIn (c .handshake) s))
+  start-by : (s : State) → c .handshake .state ≡ s → CallRow c start (calledAs (startedIn c s))
   start-by S.Idle e =
       start-8 (apart S.Idle S.Barred e (λ z. let w : _≡_ {A = ℕ} 0 1 = cc in omega arith)) (apart S.Idle S.Closed e (λ z. let w : _≡_ {A = ℕ} 0 1 = cc in omega arith))
   start-by S.Replied e =
@@ -403,7 +404,7 @@ module _ (c : Connection) where
   start-by S.Closed e = start-done e
   start-by S.Barred e = start-7 e
 
-  not-barred : (s : State) → (s ≡ S.Barred → ⊥) → calledAs (closedIn (c .handshake) s) ≡ wasCalled (withState (c .handshake) S.Closed)
+  not-barred : (s : State) → (s ≡ S.Barred → ⊥) → calledAs (closedIn c s) ≡ wasCalled (I.ended c)
   not-barred S.Idle n = refl
   not-barred S.Replied n = refl
   not-barred S.Spec n = refl
@@ -411,13 +412,36 @@ module _ (c : Connection) where
   not-barred S.Closed n = refl
   not-barred S.Barred n = absurd (n refl)
 
-  neither : (s : State) → (s ≡ S.Barred → ⊥) → (s ≡ S.Closed → ⊥) → calledAs (startedIn (c .handshake) s) ≡ notCalled c X.NotAllowed
+  neither : (s : State) → (s ≡ S.Barred → ⊥) → (s ≡ S.Closed → ⊥) → calledAs (startedIn c s) ≡ notCalled c X.NotAllowed
   neither S.Idle n m = refl
   neither S.Replied n m = refl
   neither S.Spec n m = refl
   neither S.Open n m = refl
   neither S.Closed n m = absurd (m refl)
   neither S.Barred n m = absurd (n refl)
+
+-- ---- of one handshake alone: it sends, and it is the handshake of what is left
+
+module _ (h : Handshake) where
+  clear-alone : (s : State) → h .state ≡ s → mayAlert false (clearSender (I.alone h) s .state) ≡ true
+      → (clearSender (I.alone h) s ≡ h) × ((x : Handshake) (list : SentRecords) → clearBack (I.alone h) x list s .handshake ≡ x)
+  clear-alone S.Idle e m = (refl, λ x list. refl)
+  clear-alone S.Replied e m = (refl, λ x list. refl)
+  clear-alone S.Spec e m = (refl, λ x list. refl)
+  clear-alone S.Open e m = true-false false m refl
+  clear-alone S.Closed e m = (refl, λ x list. refl)
+  clear-alone S.Barred e m = (refl, λ x list. refl)
+
+  pub sent-alone : (protected : Bool) → mayAlert protected (senderOf protected (I.alone h) .state) ≡ true → (bytes : List ℕ)
+      → afterSend protected (I.alone h) bytes .handshake ≡ afterAlert protected h
+  sent-alone true m bytes = refl
+  sent-alone false m bytes =
+      let q = clear-alone (h .state) refl m in
+      q .1 (afterAlert false (senderOf false (I.alone h))) (withRecord (I.alone h .sent) (sumOf bytes)) ∙ ap (afterAlert false) (q .0)
+
+  pub sender-alone : (protected : Bool) → mayAlert protected (senderOf protected (I.alone h) .state) ≡ true → senderOf protected (I.alone h) ≡ h
+  sender-alone true m = refl
+  sender-alone false m = clear-alone (h .state) refl m .0
 
 -- ---- all calls
 
@@ -467,29 +491,29 @@ call-is c (alert-16 {protected = protected} {level = level} {description = descr
     alert-bad c protected level description answered out b
 call-is c (alert-7 {protected = protected} {level = level} {description = description} {answered = answered} {out = out} {l = l} {k = k} g e) =
     alert-good c protected level description answered out l k g (O.Refused X.Ended)
-    (ap (λ o. andThen o (numberedBy (numberFor protected (c .handshake)) (9 + codeFor protected (c .handshake)) (length out))) (ended-alert protected (c .handshake .state) e))
+    (ap (λ o. andThen o (numberedBy (numberFor protected (senderOf protected c)) (9 + codeFor protected (senderOf protected c)) (length out))) (ended-alert protected (senderOf protected c .state) e))
 call-is c (alert-8 {protected = protected} {level = level} {description = description} {answered = answered} {out = out} {l = l} {k = k} g e f) =
     alert-good c protected level description answered out l k g (O.Refused X.NotAllowed)
-    (ap (λ o. andThen o (numberedBy (numberFor protected (c .handshake)) (9 + codeFor protected (c .handshake)) (length out))) (other-alert protected (c .handshake .state) e f))
+    (ap (λ o. andThen o (numberedBy (numberFor protected (senderOf protected c)) (9 + codeFor protected (senderOf protected c)) (length out))) (other-alert protected (senderOf protected c .state) e f))
 call-is c (alert-15 {protected = protected} {level = level} {description = description} {answered = answered} {out = out} {l = l} {k = k} g e n) =
     alert-good c protected level description answered out l k g (O.Refused X.Spent)
-    (ap (λ o. andThen o (numberedBy (numberFor protected (c .handshake)) (9 + codeFor protected (c .handshake)) (length out))) (may-alert protected (c .handshake .state) e)
-    ∙ spent-is (numberFor protected (c .handshake)) (9 + codeFor protected (c .handshake)) (length out) n)
+    (ap (λ o. andThen o (numberedBy (numberFor protected (senderOf protected c)) (9 + codeFor protected (senderOf protected c)) (length out))) (may-alert protected (senderOf protected c .state) e)
+    ∙ spent-is (numberFor protected (senderOf protected c)) (9 + codeFor protected (senderOf protected c)) (length out) n)
 call-is c (alert-6 {protected = protected} {level = level} {description = description} {answered = answered} {out = out} {l = l} {k = k} g e n s) =
     alert-good c protected level description answered out l k g (O.Refused X.Room)
-    (ap (λ o. andThen o (numberedBy (numberFor protected (c .handshake)) (9 + codeFor protected (c .handshake)) (length out))) (may-alert protected (c .handshake .state) e)
-    ∙ numbered-is (numberFor protected (c .handshake)) (9 + codeFor protected (c .handshake)) (length out) n (O.Refused X.Room)
-    (ap (λ b. pick b (O.Refused X.Room) O.Done) (lt-ltb (length out) (9 + codeFor protected (c .handshake)) s)))
+    (ap (λ o. andThen o (numberedBy (numberFor protected (senderOf protected c)) (9 + codeFor protected (senderOf protected c)) (length out))) (may-alert protected (senderOf protected c .state) e)
+    ∙ numbered-is (numberFor protected (senderOf protected c)) (9 + codeFor protected (senderOf protected c)) (length out) n (O.Refused X.Room)
+    (ap (λ b. pick b (O.Refused X.Room) O.Done) (lt-ltb (length out) (9 + codeFor protected (senderOf protected c)) s)))
 call-is c (alert-sent {protected = protected} {level = level} {description = description} {answered = answered} {out = out} {l = l} {k = k} g e n s) =
     alert-good c protected level description answered out l k g O.Done
-    (ap (λ o. andThen o (numberedBy (numberFor protected (c .handshake)) (9 + codeFor protected (c .handshake)) (length out))) (may-alert protected (c .handshake .state) e)
-    ∙ numbered-is (numberFor protected (c .handshake)) (9 + codeFor protected (c .handshake)) (length out) n O.Done
-    (ap (λ b. pick b (O.Refused X.Room) O.Done) (le-ltb (length out) (9 + codeFor protected (c .handshake)) s)))
-call-is c (close-7 e) = ap (λ s. calledAs (closedIn (c .handshake) s)) e
+    (ap (λ o. andThen o (numberedBy (numberFor protected (senderOf protected c)) (9 + codeFor protected (senderOf protected c)) (length out))) (may-alert protected (senderOf protected c .state) e)
+    ∙ numbered-is (numberFor protected (senderOf protected c)) (9 + codeFor protected (senderOf protected c)) (length out) n O.Done
+    (ap (λ b. pick b (O.Refused X.Room) O.Done) (le-ltb (length out) (9 + codeFor protected (senderOf protected c)) s)))
+call-is c (close-7 e) = ap (λ s. calledAs (closedIn c s)) e
 call-is c (close-done n) = not-barred c (c .handshake .state) n
-call-is c (start-7 e) = ap (λ s. calledAs (startedIn (c .handshake) s)) e
+call-is c (start-7 e) = ap (λ s. calledAs (startedIn c s)) e
 call-is c (start-8 n m) = neither c (c .handshake .state) n m
-call-is c (start-done e) = ap (λ s. calledAs (startedIn (c .handshake) s)) e
+call-is c (start-done e) = ap (λ s. calledAs (startedIn c s)) e
 
 pub calls-hold : CallsHold
 unfolding CallsHold
@@ -500,7 +524,7 @@ calls-hold c call s = (λ e. subst (CallRow c call) e (call-of c call), call-is 
 module _ (id secret : List ℕ) (width : ℕ) where
   abbrev freshBy : Bool → Bool → Bool → Bool → Called
   freshBy eight twenty narrow wide =
-      pick eight (pick twenty (pick narrow outOfRange (pick wide outOfRange (leaving O.Done (freshWith id secret width)))) outOfRange) outOfRange
+      pick eight (pick twenty (pick narrow outOfRange (pick wide outOfRange (leaving O.Done (freshOne id secret width)))) outOfRange) outOfRange
 
   fresh-is : freshOf id secret width ≡ freshBy (eqb (length id) 8) (eqb (length secret) 20) (ltb width 32) (ltb 64 width)
   unfolding freshOf

@@ -34,7 +34,7 @@ use Rattle.message.proofs.AlertLaws.{level-back, description-back}
 use Rattle.connection.specs.Answer.{judged, refusing}
 use Rattle.connection.specs.Handshake.{withWindow}
 use Rattle.connection.specs.Judge.{judgedRecord, fragmentOf}
-use Rattle.connection.specs.Send.{alertSent}
+use Rattle.connection.specs.Send.{alertSent, senderOf, clearSender}
 use Rattle.connection.specs.declared.answer.Answer.{Answer}
 use Rattle.connection.specs.declared.answer.Answer.the-variants as W
 use Rattle.connection.specs.declared.answer.Judged.{Judged}
@@ -46,7 +46,7 @@ use Rattle.demands.specs.Runs.{send-alert, stepOf}
 use Rattle.demands.specs.Genuine.{Protected, RecordOf, keysOf, unitKey}
 use Rattle.demands.specs.Table.{Row, New, Guarded, protectedAllowed, row-forged, row-old, row-repeated, row-data}
 use Rattle.demands.specs.Calls.{mayAlert, alert-sent}
-use Rattle.demands.specs.Events.{Event, took, Sound, AllSound, connectionOf, after}
+use Rattle.demands.specs.Events.{Event, took, Sound, AllSound, after}
 use Rattle.demands.specs.Past.{isData}
 use Rattle.demands.specs.Traps.{lastProtected}
 use Rattle.demands.specs.Example.{exampleId, exampleSecret, exampleWidth, exampleRandom, exampleOut, exampleData}
@@ -55,11 +55,13 @@ use Rattle.demands.specs.Cases.{OpenWith, Answered, Crossed, SentClear, 
 use Rattle.demands.proofs.Table.{row-is}
 use Rattle.demands.proofs.Calls.{call-is}
 use Rattle.demands.proofs.Refusals.{outcomeIn}
-use Rattle.demands.proofs.Places.{after-more, sound-more}
+use Rattle.demands.proofs.Lives.{after-more, sound-more}
 use Rattle.demands.proofs.Wire.{lone}
 use Rattle.demands.proofs.Works.{Walk}
 use Rattle.demands.proofs.Example.{example-walk, sha-walk, example-mac, sha-mac, example-refresh, example-clear, opening, opening-sound, opening-leaves, opening-open}
-use Rattle.demands.proofs.Traps.{w₀, w₇, alone, alone-framed, alone-protected}
+use Rattle.demands.proofs.Traps.{w₀, w₇, single, single-framed, single-protected}
+use Rattle.connection.specs.Connection.{alone}
+use Rattle.connection.specs.Sent.{noRecords}
 
 -- ---- both MAC kinds
 
@@ -76,7 +78,7 @@ open-with w mac e =
       d = w .d₄;
       r = w .r₄;
       here = (refl, record { before = []; behind = []; framing = w .framed₄ });
-      handed = ap (λ x. isData (judgedRecord x exampleRandom (w .d₄) (w .r₄) .answer)) leaves ∙ ap (λ j. isData (j .answer)) (row-is (w .h₃) exampleRandom (w .d₄) (w .r₄) (w .row₄));
+      handed = ap (λ x. isData (judgedRecord x noRecords exampleRandom (w .d₄) (w .r₄) .answer)) leaves ∙ ap (λ j. isData (j .answer)) (row-is (w .h₃) noRecords exampleRandom (w .d₄) (w .r₄) (w .row₄ noRecords));
     }
 
 -- ---- the worked run, and what it leaves
@@ -104,7 +106,7 @@ run-leaves = opening-leaves exampleId exampleSecret exampleRandom exampleData re
 -- a record of one datagram, behind a run that leaves x
 module _ (es : List Event) (x : Handshake) (sound : AllSound es) (leaves : after exampleFresh es ≡ x) (is-open : x .state ≡ S.Open) (same : x .protection .keys .mac ≡ h .protection .keys .mac) where
   at-open : (d : List ℕ) (r : Record) (j : Judged) → framingOf d ≡ framed (r ∷ []) → r .protected ≡ true → sizeOf (k .mac) ≤ r .size
-      → Row x exampleRandom d r j → Answered (j .answer)
+      → Row x noRecords exampleRandom d r j → Answered (j .answer)
   at-open d r j f p l row =
       record {
         es = es;
@@ -116,7 +118,7 @@ module _ (es : List Event) (x : Handshake) (sound : AllSound es) (leaves : after
         here = (refl, record { before = []; behind = []; framing = f });
         protected = p;
         whole = subst (λ m. sizeOf m ≤ r .size) (sym (ap (λ y. y .protection .keys .mac) leaves ∙ same)) l;
-        answered = ap (λ y. judgedRecord y exampleRandom d r .answer) leaves ∙ ap (λ z. z .answer) (row-is x exampleRandom d r row);
+        answered = ap (λ y. judgedRecord y noRecords exampleRandom d r .answer) leaves ∙ ap (λ z. z .answer) (row-is x noRecords exampleRandom d r row);
       }
 
 -- ---- data of the unit, under a number
@@ -126,54 +128,54 @@ module _ (s : ℕ) (inside : s ≤ 65535) where
   data-with = lastProtected k C.Data s exampleData
 
   abbrev data-record : Record
-  data-record = alone k C.Data s inside exampleData
+  data-record = single k C.Data s inside exampleData
 
   data-framed : framingOf data-with ≡ framed (data-record ∷ [])
-  data-framed = alone-framed k C.Data s inside exampleData (lit≤ tt)
+  data-framed = single-framed k C.Data s inside exampleData (lit≤ tt)
 
   data-whole : sizeOf (k .mac) ≤ data-record .size
-  unfolding alone
+  unfolding single
   data-whole = omega arith
 
   data-protected : data-record .protected ≡ true
-  unfolding alone
+  unfolding single
   data-protected = refl
 
   -- in the window x
   module _ (x : Window) where
     guarded : Guarded (withWindow h x) data-record
-    unfolding alone
+    unfolding single
     guarded = record { protection = refl; kind = ap (λ t. protectedAllowed t C.Data) (w .open-is) }
 
     handed-row : (y : Window) (n : ℕ) → acceptOf x s ≡ A.New y n
-        → Row (withWindow h x) exampleRandom data-with data-record (judged (W.Data s 3 6) (withWindow (withWindow h x) y))
-    unfolding alone
+        → Row (withWindow h x) noRecords exampleRandom data-with data-record (judged (W.Data s 3 6) (withWindow (withWindow h x) y))
+    unfolding single
     handed-row y n e =
-        row-data exampleData y (record { guarded = guarded; coded = alone-protected k C.Data s inside exampleData; arrived = n; accepted = e }) refl (lit≤ tt)
+        row-data exampleData y (record { guarded = guarded; coded = single-protected k C.Data s inside exampleData; arrived = n; accepted = e }) refl (lit≤ tt)
 
-    old-row : acceptOf x s ≡ A.TooOld → Row (withWindow h x) exampleRandom data-with data-record (refusing X.TooOld (withWindow h x))
-    unfolding alone
-    old-row e = row-old exampleData guarded (alone-protected k C.Data s inside exampleData) e
+    old-row : acceptOf x s ≡ A.TooOld → Row (withWindow h x) noRecords exampleRandom data-with data-record (refusing X.TooOld (withWindow h x))
+    unfolding single
+    old-row e = row-old exampleData guarded (single-protected k C.Data s inside exampleData) e
 
-    repeated-row : acceptOf x s ≡ A.Repeated → Row (withWindow h x) exampleRandom data-with data-record (refusing X.Repeated (withWindow h x))
-    unfolding alone
-    repeated-row e = row-repeated exampleData guarded (alone-protected k C.Data s inside exampleData) e
+    repeated-row : acceptOf x s ≡ A.Repeated → Row (withWindow h x) noRecords exampleRandom data-with data-record (refusing X.Repeated (withWindow h x))
+    unfolding single
+    repeated-row e = row-repeated exampleData guarded (single-protected k C.Data s inside exampleData) e
 
   -- the run with this data behind it
   run-with : List Event
-  run-with = run ++ (took exampleRandom data-with data-record ∷ [])
+  run-with = run ++ (took noRecords exampleRandom data-with data-record ∷ [])
 
   with-sound : AllSound run-with
   unfolding run-with
   with-sound =
-      sound-more run (took exampleRandom data-with data-record ∷ []) run-sound ((refl, record { before = []; behind = []; framing = data-framed }), tt)
+      sound-more run (took noRecords exampleRandom data-with data-record) run-sound (refl, record { before = []; behind = []; framing = data-framed })
 
   with-leaves : (y : Window) (n : ℕ) → acceptOf (w₀ exampleWidth) s ≡ A.New y n → after exampleFresh run-with ≡ withWindow h y
   unfolding run-with after w₀
   with-leaves y n e =
-      after-more exampleFresh run (took exampleRandom data-with data-record ∷ [])
-      ∙ ap (λ z. judgedRecord z exampleRandom data-with data-record .handshake) (run-leaves ∙ begun)
-      ∙ ap (λ j. j .handshake) (row-is (withWindow h (w₀ exampleWidth)) exampleRandom data-with data-record (handed-row (w₀ exampleWidth) y n e))
+      after-more exampleFresh run (took noRecords exampleRandom data-with data-record)
+      ∙ ap (λ z. judgedRecord z noRecords exampleRandom data-with data-record .handshake) (run-leaves ∙ begun)
+      ∙ ap (λ j. j .handshake) (row-is (withWindow h (w₀ exampleWidth)) noRecords exampleRandom data-with data-record (handed-row (w₀ exampleWidth) y n e))
     where
       begun : h ≡ withWindow h (w₀ exampleWidth)
       begun = λ i. withWindow h (w .window-is i)
@@ -235,7 +237,7 @@ repeated =
     (data-framed 7 seven) (data-protected 7 seven) (data-whole 7 seven) (repeated-row 7 seven (w₇ exampleWidth) again-7)
 
 crossed : Crossed
-unfolding at-open alone w₉ keyNumber
+unfolding at-open single w₉ keyNumber
 crossed =
     let left : after exampleFresh (run-with 9 nine) ≡ withWindow h w₉ = with-leaves 9 nine w₉ 2 takes-9 in
     record {
@@ -335,22 +337,24 @@ forged =
 
 -- ---- an alert that is sent clear
 
-clear-is-done : (x : Handshake) → x .state ≡ S.Replied → x .protection .clear ≡ 2 → alertSent (connectionOf x) false 1 0 [] (length exampleOut) .outcome ≡ O.Done
+clear-is-done : (x : Handshake) → x .state ≡ S.Replied → x .protection .clear ≡ 2 → alertSent (alone x) false 1 0 [] (length exampleOut) .outcome ≡ O.Done
 unfolding stepOf
 clear-is-done x s n =
+    let sender : senderOf false (alone x) ≡ x = ap (clearSender (alone x)) s in
     ap (λ z. outcomeIn (z .result))
-    (call-is (connectionOf x) (alert-sent {protected = false} {out = exampleOut} {l = L.Warning} {k = D.ConnectionCloseNotify} (record { level-is = level-back L.Warning; description-is = description-back D.ConnectionCloseNotify; lent-most = lit≤ tt }) (ap (mayAlert false) s) (omega arith) (lit≤ tt)))
+    (call-is (alone x) (alert-sent {protected = false} {out = exampleOut} {l = L.Warning} {k = D.ConnectionCloseNotify} (record { level-is = level-back L.Warning; description-is = description-back D.ConnectionCloseNotify; lent-most = lit≤ tt })
+    (ap (λ y. mayAlert false (y .state)) sender ∙ ap (mayAlert false) s) (omega (arith, ap (λ y. y .protection .clear) sender ∙ n)) (lit≤ tt)))
 
 sent-clear : SentClear
 unfolding after
 sent-clear =
-    let left : judgedRecord exampleFresh exampleRandom (w .d₁) (w .r₁) .handshake ≡ w .h₁ = ap (λ j. j .handshake) (row-is exampleFresh exampleRandom (w .d₁) (w .r₁) (w .row₁)) in
+    let left : judgedRecord exampleFresh noRecords exampleRandom (w .d₁) (w .r₁) .handshake ≡ w .h₁ = ap (λ j. j .handshake) (row-is exampleFresh noRecords exampleRandom (w .d₁) (w .r₁) (w .row₁ noRecords)) in
     record {
-      es = took exampleRandom (w .d₁) (w .r₁) ∷ [];
+      es = took noRecords exampleRandom (w .d₁) (w .r₁) ∷ [];
       sound = ((refl, record { before = []; behind = []; framing = w .framed₁ }), tt);
       is-replied = ap (λ x. x .state) left ∙ w .replied-is;
       out = exampleOut;
-      done = ap (λ x. alertSent (connectionOf x) false 1 0 [] (length exampleOut) .outcome) left ∙ clear-is-done (w .h₁) (w .replied-is) example-clear;
+      done = ap (λ x. alertSent (alone x) false 1 0 [] (length exampleOut) .outcome) left ∙ clear-is-done (w .h₁) (w .replied-is) example-clear;
     }
 
 pub cases : Cases

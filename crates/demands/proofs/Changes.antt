@@ -14,6 +14,8 @@ use native.Mathlib.Omega.{arith}
 use Rattle.connection.specs.Reply.{answeredWith}
 use Rattle.message.specs.declared.acceptance.Plan.{Plan}
 use Rattle.connection.specs.Handshake.{withState, withWindow, barred, reopened, planted}
+use Rattle.connection.specs.Connection.{ended, restarted}
+use Rattle.connection.specs.declared.connection.Connection.{Connection}
 use Rattle.connection.specs.Judge.{judgedRecord, fragmentOf}
 use Rattle.connection.specs.Calls.{closedOf, startedOf, closedIn, startedIn}
 use Rattle.connection.specs.declared.state.State.{State}
@@ -23,18 +25,18 @@ use Rattle.connection.specs.declared.refusal.Refusal.the-variants as X
 use Rattle.connection.specs.declared.answer.Answer.{Answer}
 use Rattle.connection.specs.declared.answer.Answer.the-variants as W
 use Rattle.connection.specs.declared.answer.Judged.{Judged}
-use Rattle.connection.specs.declared.connection.Connection.{Connection}
 use Rattle.connection.specs.declared.calls.Outcome.{Outcome}
 use Rattle.connection.specs.declared.calls.Outcome.the-variants as O
 use Rattle.connection.specs.declared.handshake.Handshake.{Handshake}
 use Rattle.demands.specs.Table.{Row, isHello, helloFor, beginsHello, New, Guarded, Greets}
-use Rattle.demands.specs.Table.{row-ended, row-hello-while-open, row-not-allowed, row-not-first, row-reply, row-hello-malformed, row-unacceptable, row-resent, row-change, row-change-malformed, row-clear-malformed, row-checksum, row-clear-warning, row-clear-critical, row-clear-fatal, row-forged, row-old, row-repeated, row-malformed, row-data, row-warning, row-critical, row-barred, row-open, row-again, row-wrong-finished}
+use Rattle.demands.specs.Table.{row-ended, row-returned, row-not-allowed, row-not-first, row-reply, row-hello-malformed, row-unacceptable, row-resent, row-change, row-change-malformed, row-clear-malformed, row-checksum, row-clear-warning, row-clear-critical, row-clear-fatal, row-forged, row-old, row-repeated, row-malformed, row-data, row-warning, row-critical, row-barred, row-open, row-again, row-wrong-finished}
 use Rattle.demands.specs.Refusals.{marked, markedAs, refusedLeaves, RefusedRecordChangesNothing}
 use Rattle.demands.specs.Changes.{Leaves, RecordChangesOnly, CloseChangesOnly, StartChangesOnly}
 use Rattle.demands.proofs.Genuine.{true-false}
 use Rattle.demands.proofs.Table.{row-of, hello-parts}
+use Rattle.connection.specs.declared.sent.SentRecords.{SentRecords}
 
-module _ (h : Handshake) (random d : List ℕ) (r : Record) where
+module _ (h : Handshake) (sent : SentRecords) (random d : List ℕ) (r : Record) where
   -- the mark of a new number
   pub marked-is : (c : List ℕ) (w : Window) → New h d r c w → withWindow h w ≡ marked h (r .number)
   marked-is c w n = sym (ap (markedAs h) (n .accepted))
@@ -66,10 +68,10 @@ module _ (h : Handshake) (random d : List ℕ) (r : Record) where
   unfolding answeredWith
   same-session plan = refl
 
-  pub leaves : {j : Judged} → Row h random d r j → Leaves h random (fragmentOf d r) (r .protected) (r .number) (j .handshake) (j .answer)
+  pub leaves : {j : Judged} → Row h sent random d r j → Leaves h random (fragmentOf d r) (r .protected) (r .number) (j .handshake) (j .answer)
   leaves (row-ended e) = refl
-  leaves (row-hello-while-open e) = refl
-  leaves (row-not-allowed e o a) = refl
+  leaves (row-returned q) = refl
+  leaves (row-not-allowed e a n) = refl
   leaves (row-not-first a i z) = refl
   leaves (row-reply plan g e) = (plan, e, refl, replied plan, unmoved plan, same-session plan)
   leaves (row-hello-malformed fault g e) = malformed-clear (hello-clear (g .hello))
@@ -97,39 +99,39 @@ module _ (h : Handshake) (random d : List ℕ) (r : Record) where
 
 pub record-changes-only : RecordChangesOnly
 unfolding RecordChangesOnly
-record-changes-only h random d r = leaves h random d r (row-of h random d r)
+record-changes-only h sent random d r = leaves h sent random d r (row-of h sent random d r)
 
 pub refused-record : RefusedRecordChangesNothing
 unfolding RefusedRecordChangesNothing
-refused-record h random d r x e =
-    subst (λ a. Leaves h random (fragmentOf d r) (r .protected) (r .number) (judgedRecord h random d r .handshake) a) e
-    (leaves h random d r (row-of h random d r))
+refused-record h sent random d r x e =
+    subst (λ a. Leaves h random (fragmentOf d r) (r .protected) (r .number) (judgedRecord h sent random d r .handshake) a) e
+    (leaves h sent random d r (row-of h sent random d r))
 
 -- close, and start again
 
 refused-done : {P : Type 0} (x : Refusal) → O.Refused x ≡ O.Done → P
 refused-done x e = let z : _≡_ {A = ℕ} 0 1 = cc in absurd (omega arith)
 
-closed-by : (h : Handshake) (s : State) → closedIn h s .outcome ≡ O.Done → closedIn h s .connection .handshake ≡ withState h S.Closed
-closed-by h S.Idle e = refl
-closed-by h S.Replied e = refl
-closed-by h S.Spec e = refl
-closed-by h S.Open e = refl
-closed-by h S.Closed e = refl
-closed-by h S.Barred e = refused-done X.Ended e
+closed-by : (c : Connection) (s : State) → closedIn c s .outcome ≡ O.Done → closedIn c s .connection ≡ ended c
+closed-by c S.Idle e = refl
+closed-by c S.Replied e = refl
+closed-by c S.Spec e = refl
+closed-by c S.Open e = refl
+closed-by c S.Closed e = refl
+closed-by c S.Barred e = refused-done X.Ended e
 
 pub close-changes-only : CloseChangesOnly
 unfolding CloseChangesOnly
-close-changes-only c e = closed-by (c .handshake) (c .handshake .state) e
+close-changes-only c e = closed-by c (c .handshake .state) e
 
-started-by : (h : Handshake) (s : State) → startedIn h s .outcome ≡ O.Done → startedIn h s .connection .handshake ≡ reopened h
-started-by h S.Idle e = refused-done X.NotAllowed e
-started-by h S.Replied e = refused-done X.NotAllowed e
-started-by h S.Spec e = refused-done X.NotAllowed e
-started-by h S.Open e = refused-done X.NotAllowed e
-started-by h S.Closed e = refl
-started-by h S.Barred e = refused-done X.Ended e
+started-by : (c : Connection) (s : State) → startedIn c s .outcome ≡ O.Done → startedIn c s .connection ≡ restarted c
+started-by c S.Idle e = refused-done X.NotAllowed e
+started-by c S.Replied e = refused-done X.NotAllowed e
+started-by c S.Spec e = refused-done X.NotAllowed e
+started-by c S.Open e = refused-done X.NotAllowed e
+started-by c S.Closed e = refl
+started-by c S.Barred e = refused-done X.Ended e
 
 pub start-changes-only : StartChangesOnly
 unfolding StartChangesOnly
-start-changes-only c e = started-by (c .handshake) (c .handshake .state) e
+start-changes-only c e = started-by c (c .handshake .state) e

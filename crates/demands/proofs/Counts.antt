@@ -85,7 +85,6 @@ module _ (a b c e : ℕ) where
   one-refusal X.Spent = none
   one-refusal X.Argument = none
   one-refusal X.WrongFinished = none
-  one-refusal X.HelloWhileOpen = none
 
   one-answer : (x : Answer) → countedAnswer (tallyOf a b c e) x
       ≡ tallyOf (a + pick (isData x) 1 0) (b + pick (refusedAs isForged x) 1 0) (c + pick (refusedAs isOld x) 1 0) (e + pick (refusedAs isRepeated x) 1 0)
@@ -163,7 +162,7 @@ slots-eight l h =
     whole : (n : ℕ) → n ≤ 8 → n + (8 - n) ≡ 8
     whole n h = omega arith
 
-chain-length : (random d : List ℕ) {h : Handshake} {rs : List Record} {answers : List Answer} {last : Handshake} → Chain random d h rs answers last → length answers ≡ length rs
+chain-length : (random d : List ℕ) {c : Connection} {rs : List Record} {answers : List Answer} {last : Connection} → Chain random d c rs answers last → length answers ≡ length rs
 chain-length random d chain-end = refl
 chain-length random d (chain-more row more) = ap suc (chain-length random d more)
 

@@ -9,21 +9,25 @@ use Rattle.demands.proofs.Exactly.Answers.{given-exactly-when}
 use Rattle.demands.proofs.Refusals.{refused-call, nothing-written, data-changes-only, alert-changes-only, refused-by-the-list}
 use Rattle.demands.proofs.Kept.{kept-is-what-happened}
 use Rattle.demands.proofs.Finished.{only-after-finished}
-use Rattle.demands.proofs.InRuns.{protected-in-runs, checksum-in-runs, wrong-finished-in-runs, leaves-out-of-runs}
+use Rattle.demands.proofs.InRuns.{protected-in-runs, wrong-finished-in-runs, leaves-out-of-runs}
+use Rattle.demands.proofs.Asked.{asked-holds, left-holds, connection-table}
+use Rattle.demands.proofs.Lives.{lives-hold, lives-sound, answers-by-lives, only-after-finished-of-open}
+use Rattle.demands.proofs.SentHistory.{sent-is-what-happened, checksum-in-runs}
+use Rattle.demands.proofs.Replaced.{replaced-exactly}
 use Rattle.demands.proofs.Replies.{replies-right}
 use Rattle.demands.proofs.Barred.{barred-only-by-fatal, barred-for-good}
 use Rattle.demands.proofs.Fatal.{fatal-in-runs}
 use Rattle.demands.proofs.Sends.{data-sent-right, alert-sent-right}
 use Rattle.demands.proofs.Written.{read-as-written}
 use Rattle.demands.proofs.Sets.{sets}
-use Rattle.demands.proofs.LeftOut.{leaves-out}
+use Rattle.demands.proofs.LeftOut.{leaves-out-records, open-kept, leaves-out}
 use Rattle.demands.proofs.HandedOut.{handed-out, handed-once}
 use Rattle.demands.proofs.Traps.{empty-then-data, twice-in-one, closed-between}
 use Rattle.demands.proofs.Counts.{counts-right}
-use Rattle.demands.proofs.Works.{it-works}
+use Rattle.demands.proofs.Works.{it-works, reboots}
 use Rattle.demands.proofs.Instances.{instances}
 use Rattle.demands.proofs.Cases.{cases}
-use Rattle.demands.proofs.Places.{runs-are-events, answers-in-place}
+use Rattle.demands.proofs.Places.{runs-are-acts, answers-in-place}
 use Rattle.demands.proofs.Gateways.{meets-2, meets-3, demand-2-table, demand-2-settles, five-fail}
 
 pub first : First
@@ -42,6 +46,13 @@ pub second : Second
 second =
     record {
       table = table-holds;
+      asked = asked-holds;
+      left = left-holds;
+      connection-table = connection-table;
+      replaced = replaced-exactly;
+      lives = lives-hold;
+      lives-sound = lives-sound;
+      answers-by-lives = answers-by-lives;
       written = read-as-written;
       lists-as-written = lists-as-written;
       hellos-as-written = hellos-as-written;
@@ -54,12 +65,14 @@ second =
       start-changes = start-changes-only;
       kept = kept-is-what-happened;
       protected-in-runs = protected-in-runs;
+      sent = sent-is-what-happened;
       checksum-in-runs = checksum-in-runs;
       wrong-finished-in-runs = wrong-finished-in-runs;
       replies = replies-right;
       data-sent = data-sent-right;
       alert-sent = alert-sent-right;
       only-after-finished = only-after-finished;
+      only-after-finished-of-open = only-after-finished-of-open;
       fatal-in-runs = fatal-in-runs;
       only-by-fatal = barred-only-by-fatal;
       for-good = barred-for-good;
@@ -68,8 +81,10 @@ second =
 pub third : Third
 third =
     record {
+      left-out-records = leaves-out-records;
       left-out = leaves-out;
       left-out-of-runs = leaves-out-of-runs;
+      open-kept = open-kept;
       handed-out = handed-out;
       handed-once = handed-once;
       empty-then-data = empty-then-data;
@@ -85,9 +100,10 @@ demands =
       third = third;
       counts = counts-right;
       works = it-works;
+      reboots = reboots;
       instances = instances;
       cases = cases;
-      runs-are-events = runs-are-events;
+      runs-are-acts = runs-are-acts;
       answers-in-place = answers-in-place;
       meets-2 = meets-2;
       meets-3 = meets-3;

@@ -32,6 +32,7 @@ use Rattle.demands.proofs.Kept.{live, protected-live}
 use Rattle.demands.proofs.Finished.{Progress, progress-all, progress-fresh, keys-are}
 use Rattle.demands.proofs.HandedOut.{by-history, due-new}
 use Rattle.demands.proofs.Barred.{FatalRow, by-fatal}
+use Rattle.connection.specs.declared.sent.SentRecords.{SentRecords}
 
 allowed-alert : (s : State) → Alerted s → protectedAllowed s C.Alert ≡ true
 allowed-alert s (inl e) = ap (λ x. protectedAllowed x C.Alert) e
@@ -45,7 +46,7 @@ alert-allowed S.Open e = inr refl
 alert-allowed S.Closed e = true-false false e refl
 alert-allowed S.Barred e = true-false false e refl
 
-module _ (session : Session) {width : ℕ} (past : List Happened) (h : Handshake) (p : Progress session width past h) (random d : List ℕ) (r : Record) (at : RecordOf d r) where
+module _ (session : Session) {width : ℕ} (past : List Happened) (h : Handshake) (p : Progress session width past h) (sent : SentRecords) (random d : List ℕ) (r : Record) (at : RecordOf d r) where
   past-live : Guarded h r → barredIn past ≡ false
   past-live g = live session past h (p .kept) (protected-live (h .state) (r .content) (g .kind))
 
@@ -63,19 +64,19 @@ module _ (session : Session) {width : ℕ} (past : List Happened) (h : Handshake
       ∙ due-new width (p .kept .held) (acceptedIn past) (r .number) (f .not-before) (f .recent)
 
   bars-so : Alerted (h .state) → (c : List ℕ) (a : Alert) → FatalAt width session past d r c a
-      → (judgedRecord h random d r .answer ≡ W.Barred (a .description)) × (next h (took random d r) .state ≡ S.Barred)
+      → (judgedRecord h sent random d r .answer ≡ W.Barred (a .description)) × (next h (took sent random d r) .state ≡ S.Barred)
   bars-so s c a f =
       let g : Guarded h r = guard s c a f in
       let coded : Protected (keysOf h) d r c = subst (λ k. Protected k d r c) (sym (keys-are session past h p (past-live g))) (f .genuine .protected-as) in
       let n : New h d r c (windowOf width (r .number ∷ acceptedIn past))
       = record { guarded = g; coded = coded; arrived = arrivedOf width (r .number ∷ acceptedIn past); accepted = new-by-past c a f } in
-      let is = row-is h random d r (row-barred c (windowOf width (r .number ∷ acceptedIn past)) a n (f .alert) (f .well-formed) (f .fatal)) in
+      let is = row-is h sent random d r (row-barred c (windowOf width (r .number ∷ acceptedIn past)) a n (f .alert) (f .well-formed) (f .fatal)) in
       (ap (λ j. j .answer) is, ap (λ j. j .handshake .state) is)
 
-  only-so : h .state ≢ S.Barred → next h (took random d r) .state ≡ S.Barred
+  only-so : h .state ≢ S.Barred → next h (took sent random d r) .state ≡ S.Barred
       → Alerted (h .state) × ((c : List ℕ) × (a : Alert) × FatalAt width session past d r c a)
   only-so nb z =
-      let f : FatalRow h d r = by-fatal h random d r nb (row-of h random d r) z in
+      let f : FatalRow h d r = by-fatal h sent random d r nb (row-of h sent random d r) z in
       let g : Guarded h r = f .new .guarded in
       let e = sym (ap (λ w. acceptOf w (r .number)) (p .kept .window-is)) ∙ f .new .accepted in
       let q = new-means width (acceptedIn past) (r .number) (f .w) (f .new .arrived) (sym (by-history width (p .kept .held) (acceptedIn past) (r .number)) ∙ e) in (
@@ -94,11 +95,11 @@ module _ (session : Session) {width : ℕ} (past : List Happened) (h : Handshake
         ),
       )
 
-  pub fatal-exactly : FatalExactly width session past h random d r
+  pub fatal-exactly : FatalExactly width session past h sent random d r
   fatal-exactly = record { bars = bars-so; only = only-so }
 
 pub fatal-in-runs : FatalInRuns
 unfolding FatalInRuns
-fatal-in-runs id secret width held es sound random d r at =
+fatal-in-runs id secret width held es sound sent random d r at =
     let h₀ : Handshake = freshWith id secret width in
-    fatal-exactly (sessionOf id secret) (history h₀ es []) (after h₀ es) (progress-all (sessionOf id secret) es [] h₀ sound (progress-fresh id secret width held)) random d r at
+    fatal-exactly (sessionOf id secret) (history h₀ es []) (after h₀ es) (progress-all (sessionOf id secret) es [] h₀ sound (progress-fresh id secret width held)) sent random d r at

@@ -34,7 +34,7 @@ use Rattle.connection.specs.Calls.{sessionOf}
 use Rattle.connection.specs.Handshake.{withState, withWindow, barred, reopened, keptReply, planted}
 use Rattle.connection.specs.Judge.{judgedRecord, fragmentOf}
 use Rattle.connection.specs.Reply.{answeredWith, replyTo, expectedOf}
-use Rattle.connection.specs.Send.{nextAlert, alertBody, afterAlert}
+use Rattle.connection.specs.Send.{nextAlert, senderOf, alertBody, afterAlert}
 use Rattle.connection.specs.declared.state.State.{State}
 use Rattle.connection.specs.declared.state.State.the-variants as S
 use Rattle.connection.specs.declared.refusal.Refusal.{Refusal}
@@ -48,10 +48,10 @@ use Rattle.demands.specs.Runs.{Call, send-data, send-alert, close, start
 use Rattle.record.specs.declared.keys.Keys.{Keys}
 use Rattle.demands.specs.Genuine.{Genuine, Protected, RecordOf, keysOf}
 use Rattle.demands.specs.Table.{Row, protectedAllowed, Hears, New, Greets}
-use Rattle.demands.specs.Table.{row-ended, row-hello-while-open, row-not-allowed, row-not-first, row-reply, row-hello-malformed, row-unacceptable, row-resent, row-change, row-change-malformed, row-clear-malformed, row-checksum, row-clear-warning, row-clear-critical, row-clear-fatal, row-forged, row-old, row-repeated, row-malformed, row-data, row-warning, row-critical, row-barred, row-open, row-again, row-wrong-finished}
+use Rattle.demands.specs.Table.{row-ended, row-returned, row-not-allowed, row-not-first, row-reply, row-hello-malformed, row-unacceptable, row-resent, row-change, row-change-malformed, row-clear-malformed, row-checksum, row-clear-warning, row-clear-critical, row-clear-fatal, row-forged, row-old, row-repeated, row-malformed, row-data, row-warning, row-critical, row-barred, row-open, row-again, row-wrong-finished}
 use Rattle.demands.specs.Calls.{CallRow, data-16, data-7, data-8, data-15, data-6, data-sent, alert-16, alert-7, alert-8, alert-15, alert-6, alert-sent, close-7, close-done, start-7, start-8, start-done}
 use Rattle.demands.specs.Refusals.{writtenBy}
-use Rattle.demands.specs.Events.{Event, took, sending, alerting, closing, starting, Sound, AllSound, Happened, answered, wrote, closed, started, refused, ifDone, connectionOf, next, happening, after, history}
+use Rattle.demands.specs.Events.{Event, took, sending, alerting, closing, starting, Sound, AllSound, Happened, answered, wrote, closed, started, refused, ifDone, next, happening, after, history}
 use Rattle.demands.specs.Past.{Greeting, none, greeting, isReply, isData, shuts, lastReply, agreedFor, agreedAs, keysWith, keysIn, expectedIn, barredIn}
 use Rattle.record.specs.Window.{Held}
 use Rattle.demands.specs.Runs.{freshWith}
@@ -59,9 +59,11 @@ use Rattle.demands.specs.Kept.{KeptAs}
 use Rattle.demands.specs.Finished.{Quiet, Verified, OnlyAfterFinished}
 use Rattle.demands.proofs.Genuine.{true-false}
 use Rattle.demands.proofs.Table.{row-of}
-use Rattle.demands.proofs.Calls.{call-of}
+use Rattle.demands.proofs.Calls.{call-of, sent-alone}
 use Rattle.demands.proofs.Refusals.{outcomeIn}
 use Rattle.demands.proofs.Kept.{kept-more, kept-fresh, live, greets-live, protected-live}
+use Rattle.connection.specs.declared.sent.SentRecords.{SentRecords}
+use Rattle.connection.specs.Connection.{alone}
 
 -- ---- a content that was judged right is the Finished of the expected contents
 
@@ -128,7 +130,7 @@ module _ (session : Session) {width : ℕ} (past : List Happened) (h : Handshake
   greeted-expects g =
       ap (λ x. agreedFor session x .expected) (g .replied) ∙ ap (λ x. agreedAs session (g .ours) (g .hello) x .expected) (g .heard)
 
-  module _ (random d : List ℕ) (r : Record) (at : RecordOf d r) where
+  module _ (sent : SentRecords) (random d : List ℕ) (r : Record) (at : RecordOf d r) where
     same-reply : (a : Answer) → isReply a ≡ false → lastReply (answered random d r a ∷ past) ≡ lastReply past
     unfolding lastReply
     same-reply a e = ap (λ b. pick b (greeting (fragmentOf d r) random) (lastReply past)) e
@@ -233,11 +235,11 @@ module _ (session : Session) {width : ℕ} (past : List Happened) (h : Handshake
     barred-never : S.Barred ≡ S.Open → ⊥
     barred-never z = let w : _≡_ {A = ℕ} 0 1 = cc in omega arith
 
-    by-row : {j : Judged} → Row h random d r j → KeptAs session width (answered random d r (j .answer) ∷ past) (j .handshake)
+    by-row : {j : Judged} → Row h sent random d r j → KeptAs session width (answered random d r (j .answer) ∷ past) (j .handshake)
         → Progress session width (answered random d r (j .answer) ∷ past) (j .handshake)
     by-row (row-ended e) k = same-state (W.Refused X.Ended) h k refl refl refl
-    by-row (row-hello-while-open e) k = same-state (W.Refused X.HelloWhileOpen) h k refl refl refl
-    by-row (row-not-allowed e o a) k = same-state (W.Refused X.NotAllowed) h k refl refl refl
+    by-row (row-returned q) k = same-state (W.Resent (length (keptReply h))) h k refl refl refl
+    by-row (row-not-allowed e a n) k = same-state (W.Refused X.NotAllowed) h k refl refl refl
     by-row (row-not-first a i z) k = same-state (W.Refused X.NotAllowed) h k refl refl refl
     by-row (row-reply plan g e) k = new-reply plan g e k
     by-row (row-hello-malformed fault g e) k = same-state (W.Refused X.Malformed) h k refl refl refl
@@ -308,7 +310,7 @@ module _ (session : Session) {width : ℕ} (past : List Happened) (h : Handshake
         verified = λ z. absurd (o (sym es ∙ z));
       }
 
-  by-data : (bytes out : List ℕ) {s : Step} → CallRow (connectionOf h) (send-data bytes out) s
+  by-data : (bytes out : List ℕ) {s : Step} → CallRow (alone h) (send-data bytes out) s
       → KeptAs session width (ifDone (outcomeIn (s .result)) (wrote true (take (writtenBy (s .result)) (s .output))) ∷ past) (s .connection .handshake)
       → Progress session width (ifDone (outcomeIn (s .result)) (wrote true (take (writtenBy (s .result)) (s .output))) ∷ past) (s .connection .handshake)
   by-data bytes out (data-16 b) k = still-refused h k refl
@@ -318,11 +320,11 @@ module _ (session : Session) {width : ℕ} (past : List Happened) (h : Handshake
   by-data bytes out (data-6 g e n l) k = still-refused h k refl
   by-data bytes out {s} (data-sent g e n l) k = still-wrote true (take (writtenBy (s .result)) (s .output)) (s .connection .handshake) k refl
 
-  alert-state : (protected : Bool) (bytes : List ℕ) → afterAlert protected h bytes .state ≡ h .state
-  alert-state true bytes = refl
-  alert-state false bytes = refl
+  alert-state : (protected : Bool) → afterAlert protected h .state ≡ h .state
+  alert-state true = refl
+  alert-state false = refl
 
-  by-alert : (protected : Bool) (level description : ℕ) (lent out : List ℕ) {s : Step} → CallRow (connectionOf h) (send-alert protected level description lent out) s
+  by-alert : (protected : Bool) (level description : ℕ) (lent out : List ℕ) {s : Step} → CallRow (alone h) (send-alert protected level description lent out) s
       → KeptAs session width (ifDone (outcomeIn (s .result)) (wrote protected (take (writtenBy (s .result)) (s .output))) ∷ past) (s .connection .handshake)
       → Progress session width (ifDone (outcomeIn (s .result)) (wrote protected (take (writtenBy (s .result)) (s .output))) ∷ past) (s .connection .handshake)
   by-alert protected level description lent out (alert-16 b) k = still-refused h k refl
@@ -331,14 +333,15 @@ module _ (session : Session) {width : ℕ} (past : List Happened) (h : Handshake
   by-alert protected level description lent out (alert-15 g e n) k = still-refused h k refl
   by-alert protected level description lent out (alert-6 g e n l) k = still-refused h k refl
   by-alert protected level description lent out {s} (alert-sent {l = v} {k = m} g e n l) k =
-      still-wrote protected (take (writtenBy (s .result)) (s .output)) (s .connection .handshake) k (alert-state protected (nextAlert protected h (alertBody v m lent)))
+      still-wrote protected (take (writtenBy (s .result)) (s .output)) (s .connection .handshake) k
+      (ap (λ x. x .state) (sent-alone h protected e (nextAlert protected (senderOf protected (alone h)) (alertBody v m lent))) ∙ alert-state protected)
 
-  by-close : {s : Step} → CallRow (connectionOf h) close s → KeptAs session width (ifDone (outcomeIn (s .result)) closed ∷ past) (s .connection .handshake)
+  by-close : {s : Step} → CallRow (alone h) close s → KeptAs session width (ifDone (outcomeIn (s .result)) closed ∷ past) (s .connection .handshake)
       → Progress session width (ifDone (outcomeIn (s .result)) closed ∷ past) (s .connection .handshake)
   by-close (close-7 e) k = still-refused h k refl
   by-close (close-done n) k = over closed (withState h S.Closed) S.Closed k refl refl (λ z. let w : _≡_ {A = ℕ} 0 1 = cc in omega arith)
 
-  by-start : {s : Step} → CallRow (connectionOf h) start s → KeptAs session width (ifDone (outcomeIn (s .result)) started ∷ past) (s .connection .handshake)
+  by-start : {s : Step} → CallRow (alone h) start s → KeptAs session width (ifDone (outcomeIn (s .result)) started ∷ past) (s .connection .handshake)
       → Progress session width (ifDone (outcomeIn (s .result)) started ∷ past) (s .connection .handshake)
   by-start (start-7 e) k = still-refused h k refl
   by-start (start-8 n m) k = still-refused h k refl
@@ -346,13 +349,13 @@ module _ (session : Session) {width : ℕ} (past : List Happened) (h : Handshake
 
   pub progress-more : (e : Event) → Sound e → Progress session width (happening h e ∷ past) (next h e)
   unfolding stepOf
-  progress-more (took random d r) sound = by-row random d r (sound .1) (row-of h random d r) (kept-more session past h (p .kept) (took random d r))
+  progress-more (took sent random d r) sound = by-row sent random d r (sound .1) (row-of h sent random d r) (kept-more session past h (p .kept) (took sent random d r))
   progress-more (sending bytes out) sound =
-      by-data bytes out (call-of (connectionOf h) (send-data bytes out)) (kept-more session past h (p .kept) (sending bytes out))
+      by-data bytes out (call-of (alone h) (send-data bytes out)) (kept-more session past h (p .kept) (sending bytes out))
   progress-more (alerting protected level description lent out) sound =
-      by-alert protected level description lent out (call-of (connectionOf h) (send-alert protected level description lent out)) (kept-more session past h (p .kept) (alerting protected level description lent out))
-  progress-more closing sound = by-close (call-of (connectionOf h) close) (kept-more session past h (p .kept) closing)
-  progress-more starting sound = by-start (call-of (connectionOf h) start) (kept-more session past h (p .kept) starting)
+      by-alert protected level description lent out (call-of (alone h) (send-alert protected level description lent out)) (kept-more session past h (p .kept) (alerting protected level description lent out))
+  progress-more closing sound = by-close (call-of (alone h) close) (kept-more session past h (p .kept) closing)
+  progress-more starting sound = by-start (call-of (alone h) start) (kept-more session past h (p .kept) starting)
 
 -- ---- a whole run
 
@@ -373,27 +376,27 @@ progress-fresh id secret width held =
 
 -- ---- data comes in Open only
 
-data-open : (h : Handshake) (random d : List ℕ) (r : Record) {j : Judged} → Row h random d r j → isData (j .answer) ≡ true → h .state ≡ S.Open
-data-open h random d r (row-ended e) z = true-false false z refl
-data-open h random d r (row-hello-while-open e) z = true-false false z refl
-data-open h random d r (row-not-allowed e o a) z = true-false false z refl
-data-open h random d r (row-not-first a i y) z = true-false false z refl
-data-open h random d r (row-reply plan g e) z = true-false false z refl
-data-open h random d r (row-hello-malformed fault g e) z = true-false false z refl
-data-open h random d r (row-unacceptable condition g e) z = true-false false z refl
-data-open h random d r (row-resent s i y e) z = true-false false z refl
-data-open h random d r (row-change s q c e) z = true-false false z refl
-data-open h random d r (row-change-malformed s q c e) z = true-false false z refl
-data-open h random d r (row-clear-malformed s q c e) z = true-false false z refl
-data-open h random d r (row-checksum a s q c e n) z = true-false false z refl
-data-open h random d r (row-clear-warning a s q c e m l) z = true-false false z refl
-data-open h random d r (row-clear-critical a s q c e m l) z = true-false false z refl
-data-open h random d r (row-clear-fatal a s q c e m l) z = true-false false z refl
-data-open h random d r (row-forged g f) z = true-false false z refl
-data-open h random d r (row-old c g s e) z = true-false false z refl
-data-open h random d r (row-repeated c g s e) z = true-false false z refl
-data-open h random d r (row-malformed c w n m) z = true-false false z refl
-data-open h random d r (row-data c w n e m) z =
+pub data-open : (h : Handshake) (sent : SentRecords) (random d : List ℕ) (r : Record) {j : Judged} → Row h sent random d r j → isData (j .answer) ≡ true → h .state ≡ S.Open
+data-open h sent random d r (row-ended e) z = true-false false z refl
+data-open h sent random d r (row-returned q) z = true-false false z refl
+data-open h sent random d r (row-not-allowed e a n) z = true-false false z refl
+data-open h sent random d r (row-not-first a i y) z = true-false false z refl
+data-open h sent random d r (row-reply plan g e) z = true-false false z refl
+data-open h sent random d r (row-hello-malformed fault g e) z = true-false false z refl
+data-open h sent random d r (row-unacceptable condition g e) z = true-false false z refl
+data-open h sent random d r (row-resent s i y e) z = true-false false z refl
+data-open h sent random d r (row-change s q c e) z = true-false false z refl
+data-open h sent random d r (row-change-malformed s q c e) z = true-false false z refl
+data-open h sent random d r (row-clear-malformed s q c e) z = true-false false z refl
+data-open h sent random d r (row-checksum a s q c e n) z = true-false false z refl
+data-open h sent random d r (row-clear-warning a s q c e m l) z = true-false false z refl
+data-open h sent random d r (row-clear-critical a s q c e m l) z = true-false false z refl
+data-open h sent random d r (row-clear-fatal a s q c e m l) z = true-false false z refl
+data-open h sent random d r (row-forged g f) z = true-false false z refl
+data-open h sent random d r (row-old c g s e) z = true-false false z refl
+data-open h sent random d r (row-repeated c g s e) z = true-false false z refl
+data-open h sent random d r (row-malformed c w n m) z = true-false false z refl
+data-open h sent random d r (row-data c w n e m) z =
     allowed-data (h .state) refl (sym (ap (protectedAllowed (h .state)) e) ∙ n .guarded .kind)
   where
     allowed-data : (s : State) → h .state ≡ s → protectedAllowed s C.Data ≡ true → h .state ≡ S.Open
@@ -403,15 +406,15 @@ data-open h random d r (row-data c w n e m) z =
     allowed-data S.Open es a = es
     allowed-data S.Closed es a = true-false false a refl
     allowed-data S.Barred es a = true-false false a refl
-data-open h random d r (row-warning c w a n e m l) z = true-false false z refl
-data-open h random d r (row-critical c w a n e m l) z = true-false false z refl
-data-open h random d r (row-barred c w a n e m l) z = true-false false z refl
-data-open h random d r (row-open c w n s e m) z = true-false false z refl
-data-open h random d r (row-again c w n s e m) z = true-false false z refl
-data-open h random d r (row-wrong-finished c w n e m) z = true-false false z refl
+data-open h sent random d r (row-warning c w a n e m l) z = true-false false z refl
+data-open h sent random d r (row-critical c w a n e m l) z = true-false false z refl
+data-open h sent random d r (row-barred c w a n e m l) z = true-false false z refl
+data-open h sent random d r (row-open c w n s e m) z = true-false false z refl
+data-open h sent random d r (row-again c w n s e m) z = true-false false z refl
+data-open h sent random d r (row-wrong-finished c w n e m) z = true-false false z refl
 
 pub only-after-finished : OnlyAfterFinished
 unfolding OnlyAfterFinished
-only-after-finished id secret width held es sound random d r here z =
+only-after-finished id secret width held es sound sent random d r here z =
     progress-all (sessionOf id secret) es [] (freshWith id secret width) sound (progress-fresh id secret width held) .verified
-    (data-open (after (freshWith id secret width) es) random d r (row-of (after (freshWith id secret width) es) random d r) z)
+    (data-open (after (freshWith id secret width) es) sent random d r (row-of (after (freshWith id secret width) es) sent random d r) z)

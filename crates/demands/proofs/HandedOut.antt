@@ -4,7 +4,7 @@
 use mathlib.Core.Path.{_≡_, refl, sym, _∙_, ap, ap₂, subst}
 use mathlib.Core.Logic.{_↔_, _⊎_, inl, inr, _≢_}
 use mathlib.Core.Bool.{Bool, true, false}
-use mathlib.Core.List.{List, [], _∷_, _++_}
+use mathlib.Core.List.{List, [], _∷_, _++_, map}
 use Prim.Native.Nat.{ℕ, zero, suc, _+_, _-_, _≤_, _<_, min}
 use native.Mathlib.Omega.{arith}
 use lib.ListN.{length, take, drop, length-append, length-take, length-drop, take-append-drop}
@@ -34,7 +34,7 @@ use Rattle.connection.specs.Answer.{refusing, judged, handedOf, partAt}
 use Rattle.connection.specs.Calls.{sessionOf}
 use Rattle.connection.specs.Handshake.{withState, withWindow, barred}
 use Rattle.connection.specs.Judge.{judgedRecord, fragmentOf}
-use Rattle.connection.specs.Send.{afterAlert, nextAlert, alertBody}
+use Rattle.connection.specs.Send.{afterAlert, nextAlert, senderOf, alertBody}
 use Rattle.connection.specs.declared.state.State.{State}
 use Rattle.connection.specs.declared.state.State.the-variants as S
 use Rattle.connection.specs.declared.refusal.Refusal.the-variants as X
@@ -46,21 +46,30 @@ use Rattle.connection.specs.declared.handshake.Session.{Session}
 use Rattle.demands.specs.Runs.{Call, send-data, send-alert, close, start, Step, stepOf}
 use Rattle.record.specs.declared.keys.Keys.{Keys}
 use Rattle.demands.specs.Genuine.{Genuine, Protected, RecordOf, keysOf, unitKey}
-use Rattle.demands.specs.Table.{Row, ended, allowed, protectedAllowed, clearAllowed, beginsHello, isHello, Hears, New, Guarded, Greets, MalformedAs, openIs, helloWhileOpen}
-use Rattle.demands.specs.Table.{row-ended, row-hello-while-open, row-not-allowed, row-not-first, row-reply, row-hello-malformed, row-unacceptable, row-resent, row-change, row-change-malformed, row-clear-malformed, row-checksum, row-clear-warning, row-clear-critical, row-clear-fatal, row-forged, row-old, row-repeated, row-malformed, row-data, row-warning, row-critical, row-barred, row-open, row-again, row-wrong-finished}
+use Rattle.demands.specs.Table.{Row, ended, allowed, protectedAllowed, clearAllowed, beginsHello, isHello, Hears, New, Guarded, Greets, MalformedAs}
+use Rattle.demands.specs.Table.{row-ended, row-returned, row-not-allowed, row-not-first, row-reply, row-hello-malformed, row-unacceptable, row-resent, row-change, row-change-malformed, row-clear-malformed, row-checksum, row-clear-warning, row-clear-critical, row-clear-fatal, row-forged, row-old, row-repeated, row-malformed, row-data, row-warning, row-critical, row-barred, row-open, row-again, row-wrong-finished}
 use Rattle.demands.specs.Calls.{CallRow, data-16, data-7, data-8, data-15, data-6, data-sent, alert-16, alert-7, alert-8, alert-15, alert-6, alert-sent, close-7, close-done, start-7, start-8, start-done}
-use Rattle.demands.specs.Events.{Event, took, sending, alerting, closing, starting, Sound, AllSound, Happened, connectionOf, next, after, history}
+use Rattle.demands.specs.Events.{Event, took, sending, alerting, closing, starting, Sound, AllSound, Happened, next, after, history}
 use Rattle.demands.specs.Past.{isData, keysIn, expectedIn, acceptedIn, barredIn}
 use Rattle.demands.specs.Course.{Course, genuineBytes, contentBytes, isNew, levelShuts, alertShuts, finishedShuts, contentShuts, withRecord, withEvent, courseOf, Ongoing, Due}
-use Rattle.demands.specs.Runs.{freshWith}
-use Rattle.demands.specs.HandedOut.{courseAt, courseFrom, answerAt, HandedOut, HandedOnce}
+use Rattle.demands.specs.Runs.{freshWith, freshOne}
+use Rattle.demands.specs.HandedOut.{courseAt, courseFrom, OngoingFrom, pastOf, HandedOut, HandedOnce}
 use Rattle.demands.proofs.Genuine.{true-false, protected-right, protected-content, right-protected}
 use Rattle.demands.proofs.Table.{row-of, row-is}
 use Rattle.demands.proofs.Changes.{hello-clear}
-use Rattle.demands.proofs.Calls.{call-of}
+use Rattle.demands.proofs.Calls.{call-of, sent-alone}
 use Rattle.demands.proofs.Kept.{window-more, live, protected-live}
 use Rattle.demands.proofs.Finished.{Progress, progress-all, progress-fresh, keys-are, expected-is}
-use Rattle.demands.proofs.LeftOut.{not-open, greets-not-open, seven}
+use Rattle.demands.proofs.LeftOut.{not-open, greets-not-open, seven, clear-noise, told-open, told-seven}
+use Rattle.connection.specs.declared.sent.SentRecords.{SentRecords}
+use Rattle.connection.specs.Connection.{alone}
+use Rattle.connection.specs.Told.{toldRecord}
+use Rattle.connection.specs.declared.connection.Connection.{Connection}
+use Rattle.demands.specs.Asked.{RightBeside}
+use Rattle.demands.specs.Acts.{Act, comes, sends, alerts, closes, starts, SoundActs, eventOf, leaves, behind}
+use Rattle.demands.specs.Lives.{Lives, noLives, livesOf}
+use Rattle.demands.specs.LeftOut.{Unreplaced}
+use Rattle.demands.proofs.Lives.{data-asked, NoRecord, act-next, lives-hold-at, lives-sound-at}
 
 -- ---- new numbers, by the window and by the history
 
@@ -108,13 +117,13 @@ pub record Along (k : Keys) (expected : List ℕ) (course : Course) (h : Handsha
 
 module _ (k : Keys) (expected : List ℕ) (course : Course) (h : Handshake) (a : Along k expected course h) where
   -- a course that is shut stays as it is, and an ended connection too
-  module _ (random d : List ℕ) (r : Record) where
-    shut-more : course .shut ≡ true → Along k expected (withRecord k expected course d r) (judgedRecord h random d r .handshake)
+  module _ (sent : SentRecords) (random d : List ℕ) (r : Record) where
+    shut-more : course .shut ≡ true → Along k expected (withRecord k expected course d r) (judgedRecord h sent random d r .handshake)
     shut-more z =
         let same : withRecord k expected course d r ≡ course
         = ap (λ b. pick b course (pick (genuineBytes k d r) (pick (isNew (course .width) (course .numbers) (r .number)) (record { width = course .width; numbers = r .number ∷ course .numbers; shut = contentShuts (r .content) (contentBytes k d r) expected }) course) course)) z in
-        let left : judgedRecord h random d r .handshake ≡ h = ap (λ j. j .handshake) (seven k h random d r (a .is-ended z)) in
-        subst (λ c. Along k expected c (judgedRecord h random d r .handshake)) (sym same) (subst (Along k expected course) (sym left) a)
+        let left : judgedRecord h sent random d r .handshake ≡ h = ap (λ j. j .handshake) (seven k h sent random d r (a .is-ended z)) in
+        subst (λ c. Along k expected c (judgedRecord h sent random d r .handshake)) (sym same) (subst (Along k expected course) (sym left) a)
 
     module _ (z : course .shut ≡ false) where
       -- the course, by what the bytes are
@@ -174,9 +183,9 @@ module _ (k : Keys) (expected : List ℕ) (course : Course) (h : Handshake) (a :
           used c w n (withWindow h w) refl (λ _. (a .is-open z, a .keys-same z, a .expected-same z))
           (λ g. true-false (contentShuts (r .content) c expected) g (ap (λ y. contentShuts y c expected) ec ∙ f))
 
-      closes : (c : List ℕ) (w : Window) → New h d r c w → (t : Content) → r .content ≡ t → contentShuts t c expected ≡ true → (x : Handshake) → x .protection .window ≡ w
+      closes-by : (c : List ℕ) (w : Window) → New h d r c w → (t : Content) → r .content ≡ t → contentShuts t c expected ≡ true → (x : Handshake) → x .protection .window ≡ w
           → ended (x .state) ≡ true → Along k expected (withRecord k expected course d r) x
-      closes c w n t ec f x ew g =
+      closes-by c w n t ec f x ew g =
           used c w n x ew (λ y. true-false (contentShuts (r .content) c expected) (ap (λ v. contentShuts v c expected) ec ∙ f) y) (λ _. g)
 
       verdict-at : (c : List ℕ) (x : Verdict) → verdictOf c (h .expected) ≡ x → verdictOf c expected ≡ x
@@ -196,19 +205,11 @@ module _ (k : Keys) (expected : List ℕ) (course : Course) (h : Handshake) (a :
           by-protection false ep q = ep
           by-protection true ep q = true-false true refl (sym (ap (λ b. pick b true false) ep) ∙ q)
 
-      open-hello : (s : State) → helloWhileOpen s d r ≡ true → isHello d r ≡ true
-      open-hello S.Idle e = true-false false e refl
-      open-hello S.Replied e = true-false false e refl
-      open-hello S.Spec e = true-false false e refl
-      open-hello S.Open e = e
-      open-hello S.Closed e = true-false false e refl
-      open-hello S.Barred e = true-false false e refl
-
-      by-row : {j : Judged} → Row h random d r j → Along k expected (withRecord k expected course d r) (j .handshake)
+      by-row : {j : Judged} → Row h sent random d r j → Along k expected (withRecord k expected course d r) (j .handshake)
       by-row (row-ended e) = true-false (ended (h .state)) e (ap ended (a .is-open z))
-      by-row (row-hello-while-open e) = clear-same (hello-clear h random d r (open-hello (h .state) e))
-      by-row (row-not-allowed e o b) = clear-same (refused-clear (h .state) (a .is-open z) b)
-      by-row (row-not-first b i y) = clear-same (hello-clear h random d r i)
+      by-row (row-returned q) = clear-same (hello-clear h sent random d r (q .hello))
+      by-row (row-not-allowed e b n) = clear-same (refused-clear (h .state) (a .is-open z) b)
+      by-row (row-not-first b i y) = clear-same (hello-clear h sent random d r i)
       by-row (row-reply plan g e) = greets-not-open (h .state) (g .another) (a .is-open z)
       by-row (row-hello-malformed fault g e) = greets-not-open (h .state) (g .another) (a .is-open z)
       by-row (row-unacceptable condition g e) = greets-not-open (h .state) (g .another) (a .is-open z)
@@ -235,25 +236,25 @@ module _ (k : Keys) (expected : List ℕ) (course : Course) (h : Handshake) (a :
       by-row (row-malformed c w n m) = stays-open c w n (r .content) refl (malformed-shuts c (r .content) m)
       by-row (row-data c w n e m) = stays-open c w n C.Data e refl
       by-row (row-warning c w b n e m l) = stays-open c w n C.Alert e (ap alertShuts m ∙ ap levelShuts l)
-      by-row (row-critical c w b n e m l) = closes c w n C.Alert e (ap alertShuts m ∙ ap levelShuts l) (withState (withWindow h w) S.Closed) refl refl
-      by-row (row-barred c w b n e m l) = closes c w n C.Alert e (ap alertShuts m ∙ ap levelShuts l) (barred (withWindow h w)) refl refl
+      by-row (row-critical c w b n e m l) = closes-by c w n C.Alert e (ap alertShuts m ∙ ap levelShuts l) (withState (withWindow h w) S.Closed) refl refl
+      by-row (row-barred c w b n e m l) = closes-by c w n C.Alert e (ap alertShuts m ∙ ap levelShuts l) (barred (withWindow h w)) refl refl
       by-row (row-open c w n s e m) = let y : S.Spec ≡ S.Open = sym s ∙ a .is-open z in let v : _≡_ {A = ℕ} 0 1 = cc in absurd (omega arith)
       by-row (row-again c w n s e m) = stays-open c w n C.Handshake e (ap finishedShuts (verdict-at c F.Right m))
       by-row (row-wrong-finished c w n e m) =
-          closes c w n C.Handshake e (ap finishedShuts (verdict-at c F.Wrong m)) (withState (withWindow h w) S.Closed) refl refl
+          closes-by c w n C.Handshake e (ap finishedShuts (verdict-at c F.Wrong m)) (withState (withWindow h w) S.Closed) refl refl
 
-    record-more : (b : Bool) → course .shut ≡ b → Along k expected (withRecord k expected course d r) (judgedRecord h random d r .handshake)
+    record-more : (b : Bool) → course .shut ≡ b → Along k expected (withRecord k expected course d r) (judgedRecord h sent random d r .handshake)
     record-more true z = shut-more z
-    record-more false z = by-row z (row-of h random d r)
+    record-more false z = by-row z (row-of h sent random d r)
 
   -- a send changes neither
-  sent-along : (protected : Bool) (bytes : List ℕ) → Along k expected course (afterAlert protected h bytes)
-  sent-along true bytes =
+  sent-along : (protected : Bool) → Along k expected course (afterAlert protected h)
+  sent-along true =
       record { is-open = a .is-open; keys-same = a .keys-same; expected-same = a .expected-same; held = a .held; window-same = a .window-same; is-ended = a .is-ended }
-  sent-along false bytes =
+  sent-along false =
       record { is-open = a .is-open; keys-same = a .keys-same; expected-same = a .expected-same; held = a .held; window-same = a .window-same; is-ended = a .is-ended }
 
-  by-data : (bytes out : List ℕ) {s : Step} → CallRow (connectionOf h) (send-data bytes out) s → Along k expected course (s .connection .handshake)
+  by-data : (bytes out : List ℕ) {s : Step} → CallRow (alone h) (send-data bytes out) s → Along k expected course (s .connection .handshake)
   by-data bytes out (data-16 b) = a
   by-data bytes out (data-7 g e) = a
   by-data bytes out (data-8 g e n) = a
@@ -262,17 +263,18 @@ module _ (k : Keys) (expected : List ℕ) (course : Course) (h : Handshake) (a :
   by-data bytes out (data-sent g e n l) =
       record { is-open = a .is-open; keys-same = a .keys-same; expected-same = a .expected-same; held = a .held; window-same = a .window-same; is-ended = a .is-ended }
 
-  by-alert : (protected : Bool) (level description : ℕ) (lent out : List ℕ) {s : Step} → CallRow (connectionOf h) (send-alert protected level description lent out) s
+  by-alert : (protected : Bool) (level description : ℕ) (lent out : List ℕ) {s : Step} → CallRow (alone h) (send-alert protected level description lent out) s
       → Along k expected course (s .connection .handshake)
   by-alert protected level description lent out (alert-16 b) = a
   by-alert protected level description lent out (alert-7 g e) = a
   by-alert protected level description lent out (alert-8 g e f) = a
   by-alert protected level description lent out (alert-15 g e n) = a
   by-alert protected level description lent out (alert-6 g e n l) = a
-  by-alert protected level description lent out (alert-sent {l = v} {k = m} g e n l) = sent-along protected (nextAlert protected h (alertBody v m lent))
+  by-alert protected level description lent out (alert-sent {l = v} {k = m} g e n l) =
+      subst (Along k expected course) (sym (sent-alone h protected e (nextAlert protected (senderOf protected (alone h)) (alertBody v m lent)))) (sent-along protected)
 
   -- our own close ends it
-  close-ends : {s : Step} → CallRow (connectionOf h) close s → ended (s .connection .handshake .state) ≡ true
+  close-ends : {s : Step} → CallRow (alone h) close s → ended (s .connection .handshake .state) ≡ true
   close-ends (close-7 e) = ap ended e
   close-ends (close-done n) = refl
 
@@ -285,33 +287,59 @@ module _ (k : Keys) (expected : List ℕ) (course : Course) (h : Handshake) (a :
         expected-same = λ f. true-false true refl f;
         held = a .held;
         window-same = λ f. true-false true refl f;
-        is-ended = λ _. close-ends (call-of (connectionOf h) close);
+        is-ended = λ _. close-ends (call-of (alone h) close);
       }
 
   -- a start again is refused in Open
-  start-stays : h .state ≡ S.Open → {s : Step} → CallRow (connectionOf h) start s → s .connection .handshake ≡ h
+  start-stays : h .state ≡ S.Open → {s : Step} → CallRow (alone h) start s → s .connection .handshake ≡ h
   start-stays o (start-7 e) = refl
   start-stays o (start-8 n m) = refl
   start-stays o (start-done e) = let z : S.Closed ≡ S.Open = sym e ∙ o in let n : _≡_ {A = ℕ} 0 1 = cc in absurd (omega arith)
 
   by-start : course .shut ≡ false → Along k expected course (next h starting)
   unfolding stepOf
-  by-start z = subst (Along k expected course) (sym (start-stays (a .is-open z) (call-of (connectionOf h) start))) a
+  by-start z = subst (Along k expected course) (sym (start-stays (a .is-open z) (call-of (alone h) start))) a
 
-along-all : (k : Keys) (expected : List ℕ) (es : List Event) (course : Course) (h : Handshake) → Along k expected course h → Ongoing k expected course es
-    → Along k expected (courseOf k expected course es) (after h es)
-unfolding courseOf after stepOf
-along-all k expected [] course h a go = a
-along-all k expected (took random d r ∷ es) course h a go =
-    along-all k expected es (withRecord k expected course d r) (judgedRecord h random d r .handshake) (record-more k expected course h a random d r (course .shut) refl) go
-along-all k expected (sending bytes out ∷ es) course h a go =
-    along-all k expected es course (next h (sending bytes out)) (by-data k expected course h a bytes out (call-of (connectionOf h) (send-data bytes out))) go
-along-all k expected (alerting protected level description lent out ∷ es) course h a go =
-    along-all k expected es course (next h (alerting protected level description lent out)) (by-alert k expected course h a protected level description lent out (call-of (connectionOf h) (send-alert protected level description lent out))) go
-along-all k expected (closing ∷ es) course h a go =
-    along-all k expected es (withEvent k expected course closing) (next h closing) (by-close k expected course h a) go
-along-all k expected (starting ∷ es) course h a go =
-    along-all k expected es course (next h starting) (by-start k expected course h a (go .0)) (go .1)
+-- the connection's open handshake, record by record
+module _ (k : Keys) (expected : List ℕ) (course : Course) (c : Connection) (a : Along k expected course (c .handshake)) where
+  told-along : (random d : List ℕ) (r : Record) → (RightBeside c d r → ⊥) → (b : Bool) → course .shut ≡ b
+      → Along k expected (withRecord k expected course d r) (toldRecord c random d r .connection .handshake)
+  told-along random d r n true z =
+      subst (Along k expected (withRecord k expected course d r))
+      (ap (λ j. j .handshake) (seven k (c .handshake) (c .sent) random d r (a .is-ended z)) ∙ sym (ap (λ t. t .connection .handshake) (told-seven c random d r (a .is-ended z))))
+      (record-more k expected course (c .handshake) a (c .sent) random d r true z)
+  told-along random d r n false z = by-protection (r .protected) refl
+    where
+      by-protection : (p : Bool) → r .protected ≡ p → Along k expected (withRecord k expected course d r) (toldRecord c random d r .connection .handshake)
+      by-protection false p =
+          subst (Along k expected (withRecord k expected course d r)) (sym (clear-noise c random d r (a .is-open z) p .0))
+          (clear-same k expected course (c .handshake) a (c .sent) random d r z p)
+      by-protection true p =
+          subst (λ t. Along k expected (withRecord k expected course d r) (t .connection .handshake)) (sym (told-open c random d r (a .is-open z) p n))
+          (record-more k expected course (c .handshake) a (c .sent) random d r false z)
+
+  other-along : (x : Act) → NoRecord x → (then : Course) → Along k expected then (next (c .handshake) (eventOf x)) → Along k expected then (leaves c x .handshake)
+  other-along x n then y = subst (Along k expected then) (sym (act-next c x n)) y
+
+along-all : (k : Keys) (expected : List ℕ) (acts : List Act) (course : Course) (c : Connection) → Along k expected course (c .handshake) → Unreplaced c acts
+    → Ongoing k expected course (map eventOf acts) → Along k expected (courseOf k expected course (map eventOf acts)) (behind c acts .handshake)
+unfolding courseOf behind stepOf Unreplaced
+along-all k expected [] course c a n go = a
+along-all k expected (comes random d r ∷ acts) course c a n go =
+    along-all k expected acts (withRecord k expected course d r) (toldRecord c random d r .connection) (told-along k expected course c a random d r (n .0) (course .shut) refl) (n .1) go
+along-all k expected (sends bytes out ∷ acts) course c a n go =
+    along-all k expected acts course (leaves c (sends bytes out))
+    (other-along k expected course c a (sends bytes out) tt course (by-data k expected course (c .handshake) a bytes out (call-of (alone (c .handshake)) (send-data bytes out)))) n go
+along-all k expected (alerts protected level description lent out ∷ acts) course c a n go =
+    along-all k expected acts course (leaves c (alerts protected level description lent out))
+    (other-along k expected course c a (alerts protected level description lent out) tt course
+    (by-alert k expected course (c .handshake) a protected level description lent out (call-of (alone (c .handshake)) (send-alert protected level description lent out)))) n go
+along-all k expected (closes ∷ acts) course c a n go =
+    along-all k expected acts (withEvent k expected course closing) (leaves c closes)
+    (other-along k expected course c a closes tt (withEvent k expected course closing) (by-close k expected course (c .handshake) a)) n go
+along-all k expected (starts ∷ acts) course c a n go =
+    along-all k expected acts course (leaves c starts)
+    (other-along k expected course c a starts tt course (by-start k expected course (c .handshake) a (go .0))) n (go .1)
 
 -- an Open place of a run begins a course
 along-open : (session : Session) {width : ℕ} (past : List Happened) (h : Handshake) → Progress session width past h → h .state ≡ S.Open
@@ -367,11 +395,11 @@ pub record DataFacts (h : Handshake) (d : List ℕ) (r : Record) : Type 0 where
   pub is-data : r .content ≡ C.Data
   pub some : 0 < length c
 
-module _ (h : Handshake) (random d : List ℕ) (r : Record) where
-  pub data-facts : {j : Judged} → Row h random d r j → isData (j .answer) ≡ true → DataFacts h d r
+module _ (h : Handshake) (sent : SentRecords) (random d : List ℕ) (r : Record) where
+  pub data-facts : {j : Judged} → Row h sent random d r j → isData (j .answer) ≡ true → DataFacts h d r
   data-facts (row-ended e) z = true-false false z refl
-  data-facts (row-hello-while-open e) z = true-false false z refl
-  data-facts (row-not-allowed e o b) z = true-false false z refl
+  data-facts (row-returned q) z = true-false false z refl
+  data-facts (row-not-allowed e b n) z = true-false false z refl
   data-facts (row-not-first b i y) z = true-false false z refl
   data-facts (row-reply plan g e) z = true-false false z refl
   data-facts (row-hello-malformed fault g e) z = true-false false z refl
@@ -396,7 +424,7 @@ module _ (h : Handshake) (random d : List ℕ) (r : Record) where
   data-facts (row-again c w n s e m) z = true-false false z refl
   data-facts (row-wrong-finished c w n e m) z = true-false false z refl
 
-module _ (k : Keys) (expected : List ℕ) (course : Course) (h : Handshake) (a : Along k expected course h) (random d : List ℕ) (r : Record) (at : RecordOf d r) where
+module _ (k : Keys) (expected : List ℕ) (course : Course) (h : Handshake) (a : Along k expected course h) (sent : SentRecords) (random d : List ℕ) (r : Record) (at : RecordOf d r) where
   due-open : DataFacts h d r → course .shut ≡ false → (c : List ℕ) × Due k course d r c
   due-open f z =
       let e : acceptOf (windowOf (course .width) (course .numbers)) (r .number) ≡ A.New (f .w) (f .new .arrived)
@@ -417,7 +445,7 @@ module _ (k : Keys) (expected : List ℕ) (course : Course) (h : Handshake) (a :
   due-by f false z = due-open f z
   due-by f true z = true-false (ended (h .state)) (a .is-ended z) (protected-live (h .state) (r .content) (f .new .guarded .kind))
 
-  data-due : (c : List ℕ) → Due k course d r c → judgedRecord h random d r .answer ≡ W.Data (r .number) (r .start + r .head) (length c)
+  data-due : (c : List ℕ) → Due k course d r c → judgedRecord h sent random d r .answer ≡ W.Data (r .number) (r .start + r .head) (length c)
   data-due c u =
       let z = u .not-shut in
       let n : New h d r c (windowOf (course .width) (r .number ∷ course .numbers)) = record {
@@ -426,27 +454,70 @@ module _ (k : Keys) (expected : List ℕ) (course : Course) (h : Handshake) (a :
         arrived = arrivedOf (course .width) (r .number ∷ course .numbers);
         accepted = ap (λ w. acceptOf w (r .number)) (a .window-same z) ∙ due-new (course .width) (a .held) (course .numbers) (r .number) (u .not-before) (u .recent);
       } in
-      ap (λ j. j .answer) (row-is h random d r (row-data c (windowOf (course .width) (r .number ∷ course .numbers)) n (u .is-data) (u .some)))
+      ap (λ j. j .answer) (row-is h sent random d r (row-data c (windowOf (course .width) (r .number ∷ course .numbers)) n (u .is-data) (u .some)))
 
-  pub due-exactly : (isData (judgedRecord h random d r .answer) ≡ true) ↔ ((c : List ℕ) × Due k course d r c)
+  pub due-exactly : (isData (judgedRecord h sent random d r .answer) ≡ true) ↔ ((c : List ℕ) × Due k course d r c)
   due-exactly =
-      (λ z. due-by (data-facts h random d r (row-of h random d r) z) (course .shut) refl, λ q. ap isData (data-due (q .0) (q .1)))
+      (λ z. due-by (data-facts h sent random d r (row-of h sent random d r) z) (course .shut) refl, λ q. ap isData (data-due (q .0) (q .1)))
 
-  pub due-handed : (c : List ℕ) → Due k course d r c → handedOf d (judgedRecord h random d r .answer) ≡ c
+  pub due-handed : (c : List ℕ) → Due k course d r c → handedOf d (judgedRecord h sent random d r .answer) ≡ c
   due-handed c u = ap (handedOf d) (data-due c u) ∙ handed-part k d r c (u .some) (u .genuine .protected-as)
+
+-- of the connection: what is due is for the open one
+module _ (k : Keys) (expected : List ℕ) (course : Course) (c : Connection) (a : Along k expected course (c .handshake)) (random d : List ℕ) (r : Record) (at : RecordOf d r) where
+  due-answer : (x : List ℕ) → Due k course d r x → toldRecord c random d r .answer ≡ judgedRecord (c .handshake) (c .sent) random d r .answer
+  due-answer x u =
+      ap (λ t. t .answer)
+      (told-open c random d r (a .is-open (u .not-shut)) (u .genuine .protected-as .is-protected)
+      (λ q. let z : C.Data ≡ C.Handshake = sym (u .is-data) ∙ q .handshake in let w : _≡_ {A = ℕ} 0 1 = cc in omega arith))
+
+  pub told-exactly : (isData (toldRecord c random d r .answer) ≡ true) ↔ ((x : List ℕ) × Due k course d r x)
+  told-exactly =
+      let q = due-exactly k expected course (c .handshake) a (c .sent) random d r at in
+      (λ z. q .0 (sym (ap isData (data-asked c random d r z .1)) ∙ z), λ u. ap isData (due-answer (u .0) (u .1)) ∙ q .1 u)
+
+  pub told-handed : (x : List ℕ) → Due k course d r x → handedOf d (toldRecord c random d r .answer) ≡ x
+  told-handed x u = ap (handedOf d) (due-answer x u) ∙ due-handed k expected course (c .handshake) a (c .sent) random d r at x u
+
+pub along-run : (id secret : List ℕ) (width : ℕ) → Held width → (acts : List Act) → SoundActs acts
+    → behind (freshOne id secret width) acts .handshake .state ≡ S.Open → (later : List Act) → Unreplaced (behind (freshOne id secret width) acts) later
+    → OngoingFrom (sessionOf id secret) width (pastOf id secret width acts) (map eventOf later)
+    → Along (keysIn (sessionOf id secret) (pastOf id secret width acts)) (expectedIn (sessionOf id secret) (pastOf id secret width acts))
+    (courseFrom (sessionOf id secret) width (pastOf id secret width acts) (map eventOf later)) (behind (behind (freshOne id secret width) acts) later .handshake)
+along-run id secret width held acts sound is-open later n go =
+    let h₀ : Handshake = freshWith id secret width in
+    let session : Session = sessionOf id secret in
+    let l : Lives = livesOf (freshOne id secret width) noLives acts in
+    let past : List Happened = history h₀ (l .own) [] in
+    let c : Connection = behind (freshOne id secret width) acts in
+    let own : c .handshake ≡ after h₀ (l .own) = lives-hold-at id secret width held acts .own-life in
+    let p : Progress session width past (after h₀ (l .own)) = progress-all session (l .own) [] h₀ (lives-sound-at id secret width acts sound .0) (progress-fresh id secret width held) in
+    let start : Along (keysIn session past) (expectedIn session past) (courseAt width past) (c .handshake)
+    = subst (Along (keysIn session past) (expectedIn session past) (courseAt width past)) (sym own) (along-open session past (after h₀ (l .own)) p (sym (ap (λ h. h .state) own) ∙ is-open)) in
+    along-all (keysIn session past) (expectedIn session past) later (courseAt width past) c start n go
+
+pub handed-out-at : (id secret : List ℕ) (width : ℕ) → Held width → (acts : List Act) → SoundActs acts
+    → behind (freshOne id secret width) acts .handshake .state ≡ S.Open → (later : List Act) → Unreplaced (behind (freshOne id secret width) acts) later
+    → OngoingFrom (sessionOf id secret) width (pastOf id secret width acts) (map eventOf later)
+    → (random d : List ℕ) (r : Record) → RecordOf d r
+    → let past = pastOf id secret width acts in
+    let session = sessionOf id secret in
+    let course = courseFrom session width past (map eventOf later) in
+    let answer = toldRecord (behind (behind (freshOne id secret width) acts) later) random d r .answer in
+    ((isData answer ≡ true) ↔ ((c : List ℕ) × Due (keysIn session past) course d r c))
+    × ((c : List ℕ) → Due (keysIn session past) course d r c → handedOf d answer ≡ c)
+handed-out-at id secret width held acts sound is-open later n go random d r at =
+    let session : Session = sessionOf id secret in
+    let past : List Happened = pastOf id secret width acts in
+    let e : Connection = behind (behind (freshOne id secret width) acts) later in
+    let a = along-run id secret width held acts sound is-open later n go in (
+      told-exactly (keysIn session past) (expectedIn session past) (courseFrom session width past (map eventOf later)) e a random d r at,
+      told-handed (keysIn session past) (expectedIn session past) (courseFrom session width past (map eventOf later)) e a random d r at,
+    )
 
 pub handed-out : HandedOut
 unfolding HandedOut
-handed-out id secret width held es sound is-open later more go random d r here =
-    let h₀ : Handshake = freshWith id secret width in
-    let session : Session = sessionOf id secret in
-    let past : List Happened = history h₀ es [] in
-    let p : Progress session width past (after h₀ es) = progress-all session es [] h₀ sound (progress-fresh id secret width held) in
-    let a : Along (keysIn session past) (expectedIn session past) (courseFrom session width past later) (after (after h₀ es) later)
-    = along-all (keysIn session past) (expectedIn session past) later (record { width = width; numbers = acceptedIn past; shut = false }) (after h₀ es) (along-open session past (after h₀ es) p is-open) go in (
-      due-exactly (keysIn session past) (expectedIn session past) (courseFrom session width past later) (after (after h₀ es) later) a random d r (here .1),
-      due-handed (keysIn session past) (expectedIn session past) (courseFrom session width past later) (after (after h₀ es) later) a random d r (here .1),
-    )
+handed-out id secret width held acts sound is-open later n go random d r at = handed-out-at id secret width held acts sound is-open later n go random d r at
 
 -- ---- once
 
@@ -467,7 +538,7 @@ module _ (k : Keys) (expected : List ℕ) (n : ℕ) where
   grows : (es : List Event) (course : Course) → accepted (course .numbers) n ≡ true → accepted (courseOf k expected course es .numbers) n ≡ true
   unfolding courseOf
   grows [] course x = x
-  grows (took random d r ∷ es) course x = grows es (withRecord k expected course d r) (grows-record course d r x)
+  grows (took sent random d r ∷ es) course x = grows es (withRecord k expected course d r) (grows-record course d r x)
   grows (sending bytes out ∷ es) course x = grows es course x
   grows (alerting protected level description lent out ∷ es) course x = grows es course x
   grows (closing ∷ es) course x = grows es (withEvent k expected course closing) x
@@ -484,7 +555,7 @@ width-by course more false false e x = refl
 width-stays : (k : Keys) (expected : List ℕ) (es : List Event) (course : Course) → courseOf k expected course es .width ≡ course .width
 unfolding courseOf
 width-stays k expected [] course = refl
-width-stays k expected (took random d r ∷ es) course =
+width-stays k expected (took sent random d r ∷ es) course =
     width-stays k expected es (withRecord k expected course d r)
     ∙ width-by course (record { width = course .width; numbers = r .number ∷ course .numbers; shut = contentShuts (r .content) (contentBytes k d r) expected })
     (course .shut) (genuineBytes k d r) (isNew (course .width) (course .numbers) (r .number)) refl
@@ -510,33 +581,46 @@ unfolding courseOf
 course-more k expected [] fs course = refl
 course-more k expected (e ∷ es) fs course = course-more k expected es fs (withEvent k expected course e)
 
-sound-more : (es fs : List Event) → AllSound es → AllSound fs → AllSound (es ++ fs)
-sound-more [] fs a b = b
-sound-more (e ∷ es) fs a b = (a .0, sound-more es fs (a .1) b)
-
 ongoing-front : (k : Keys) (expected : List ℕ) (es fs : List Event) (course : Course) → Ongoing k expected course (es ++ fs) → Ongoing k expected course es
 ongoing-front k expected [] fs course g = tt
-ongoing-front k expected (took random d r ∷ es) fs course g = ongoing-front k expected es fs (withEvent k expected course (took random d r)) g
+ongoing-front k expected (took sent random d r ∷ es) fs course g = ongoing-front k expected es fs (withEvent k expected course (took sent random d r)) g
 ongoing-front k expected (sending bytes out ∷ es) fs course g = ongoing-front k expected es fs course g
 ongoing-front k expected (alerting protected level description lent out ∷ es) fs course g = ongoing-front k expected es fs course g
 ongoing-front k expected (closing ∷ es) fs course g = ongoing-front k expected es fs (withEvent k expected course closing) g
 ongoing-front k expected (starting ∷ es) fs course g = (g .0, ongoing-front k expected es fs course (g .1))
 
+events-more : (xs ys : List Act) → map eventOf (xs ++ ys) ≡ map eventOf xs ++ map eventOf ys
+events-more [] ys = refl
+events-more (x ∷ xs) ys = ap (λ t. eventOf x ∷ t) (events-more xs ys)
+
+unreplaced-front : (c : Connection) (xs ys : List Act) → Unreplaced c (xs ++ ys) → Unreplaced c xs
+unfolding Unreplaced
+unreplaced-front c [] ys n = tt
+unreplaced-front c (comes random d r ∷ xs) ys n = (n .0, unreplaced-front (leaves c (comes random d r)) xs ys (n .1))
+unreplaced-front c (sends bytes out ∷ xs) ys n = unreplaced-front (leaves c (sends bytes out)) xs ys n
+unreplaced-front c (alerts protected level description lent out ∷ xs) ys n = unreplaced-front (leaves c (alerts protected level description lent out)) xs ys n
+unreplaced-front c (closes ∷ xs) ys n = unreplaced-front (leaves c closes) xs ys n
+unreplaced-front c (starts ∷ xs) ys n = unreplaced-front (leaves c starts) xs ys n
+
 pub handed-once : HandedOnce
-unfolding HandedOnce HandedOut courseOf
-handed-once id secret width held es sound is-open later between sl sb random d r random′ d′ r′ here there go x y same =
-    let h₀ : Handshake = freshWith id secret width in
+unfolding HandedOnce courseOf
+handed-once id secret width held acts sound is-open later between random d r random′ d′ r′ here there n go x y same =
     let session : Session = sessionOf id secret in
-    let past : List Happened = history h₀ es [] in
+    let past : List Happened = pastOf id secret width acts in
     let k : Keys = keysIn session past in
     let expected : List ℕ = expectedIn session past in
-    let first = handed-out id secret width held es sound is-open later sl (ongoing-front k expected later (took random d r ∷ between) (courseAt width past) go) random d r here .0 .0 x in
-    let second = handed-out id secret width held es sound is-open (later ++ (took random d r ∷ between)) (sound-more later (took random d r ∷ between) sl (here, sb)) go random′ d′ r′ there .0 .0 y in
-    let still-held : Held (courseFrom session width past later .width)
-    = subst Held (sym (width-stays k expected later (record { width = width; numbers = acceptedIn past; shut = false }))) held in
-    let used : accepted (withRecord k expected (courseFrom session width past later) d r .numbers) (r .number) ≡ true
-    = due-used k expected (courseFrom session width past later) still-held d r (first .0) (first .1) in
-    let still : accepted (courseFrom session width past (later ++ (took random d r ∷ between)) .numbers) (r .number) ≡ true
-    = ap (λ c. accepted (c .numbers) (r .number)) (course-more k expected later (took random d r ∷ between) (record { width = width; numbers = acceptedIn past; shut = false }))
-    ∙ grows k expected (r .number) between (withRecord k expected (courseFrom session width past later) d r) used in
-    true-false (accepted (courseFrom session width past (later ++ (took random d r ∷ between)) .numbers) (r′ .number)) (ap (accepted (courseFrom session width past (later ++ (took random d r ∷ between)) .numbers)) (sym same) ∙ still) (second .1 .not-before)
+    let all : List Event = map eventOf (later ++ (comes random d r ∷ between)) in
+    let split : all ≡ map eventOf later ++ map eventOf (comes random d r ∷ between) = events-more later (comes random d r ∷ between) in
+    let ongoing : OngoingFrom session width past (map eventOf later)
+    = ongoing-front k expected (map eventOf later) (map eventOf (comes random d r ∷ between)) (courseAt width past) (subst (OngoingFrom session width past) split go) in
+    let first = handed-out-at id secret width held acts sound is-open later (unreplaced-front (behind (freshOne id secret width) acts) later (comes random d r ∷ between) n) ongoing random d r here .0 .0 x in
+    let second = handed-out-at id secret width held acts sound is-open (later ++ (comes random d r ∷ between)) n go random′ d′ r′ there .0 .0 y in
+    let still-held : Held (courseFrom session width past (map eventOf later) .width)
+    = subst Held (sym (width-stays k expected (map eventOf later) (courseAt width past))) held in
+    let used : accepted (withRecord k expected (courseFrom session width past (map eventOf later)) d r .numbers) (r .number) ≡ true
+    = due-used k expected (courseFrom session width past (map eventOf later)) still-held d r (first .0) (first .1) in
+    let still : accepted (courseFrom session width past all .numbers) (r .number) ≡ true
+    = ap (λ es. accepted (courseFrom session width past es .numbers) (r .number)) split
+    ∙ ap (λ c. accepted (c .numbers) (r .number)) (course-more k expected (map eventOf later) (map eventOf (comes random d r ∷ between)) (courseAt width past))
+    ∙ grows k expected (r .number) (map eventOf between) (withRecord k expected (courseFrom session width past (map eventOf later)) d r) used in
+    true-false (accepted (courseFrom session width past all .numbers) (r′ .number)) (ap (accepted (courseFrom session width past all .numbers)) (sym same) ∙ still) (second .1 .not-before)

@@ -31,36 +31,40 @@ use Rattle.connection.specs.declared.refusal.Refusal.the-variants as X
 use Rattle.connection.specs.declared.answer.Answer.{Answer}
 use Rattle.connection.specs.declared.answer.Answer.the-variants as W
 use Rattle.connection.specs.declared.answer.Judged.{Judged}
-use Rattle.connection.specs.Handshake.{wasSent}
+use Rattle.connection.specs.Handshake.{}
 use Rattle.connection.specs.declared.handshake.Handshake.{Handshake}
 use Rattle.connection.specs.declared.handshake.Session.{Session}
-use Rattle.demands.specs.Runs.{stepOf, freshWith}
+use Rattle.demands.specs.Runs.{freshWith, freshOne}
 use Rattle.record.specs.declared.keys.Keys.{Keys}
 use Rattle.demands.specs.Genuine.{Genuine, Protected, RecordOf, keysOf}
 use Rattle.demands.specs.Table.{Row, ended, Guarded, Hears}
-use Rattle.demands.specs.Table.{row-ended, row-hello-while-open, row-not-allowed, row-not-first, row-reply, row-hello-malformed, row-unacceptable, row-resent, row-change, row-change-malformed, row-clear-malformed, row-checksum, row-clear-warning, row-clear-critical, row-clear-fatal, row-forged, row-old, row-repeated, row-malformed, row-data, row-warning, row-critical, row-barred, row-open, row-again, row-wrong-finished}
-use Rattle.demands.specs.Events.{Event, AllSound, Happened, connectionOf, after, history}
-use Rattle.demands.specs.Past.{keysIn, expectedIn, acceptedIn, sentSince, MatchesNone, barredIn}
-use Rattle.connection.specs.Sent.{recordsKept, oneOf}
-use Rattle.demands.proofs.SentRecords.{unmatched, matches-none}
-use Rattle.demands.specs.LeftOut.{LeftOut, SameWithout, LeavesOut}
-use Rattle.demands.specs.InRuns.{TooOldFor, RepeatedIn, ProtectedExactly, ProtectedInRuns, ChecksumInRuns, WrongFinishedInRuns, LeavesOutOfRuns}
+use Rattle.demands.specs.Table.{row-ended, row-returned, row-not-allowed, row-not-first, row-reply, row-hello-malformed, row-unacceptable, row-resent, row-change, row-change-malformed, row-clear-malformed, row-checksum, row-clear-warning, row-clear-critical, row-clear-fatal, row-forged, row-old, row-repeated, row-malformed, row-data, row-warning, row-critical, row-barred, row-open, row-again, row-wrong-finished}
+use Rattle.demands.specs.Events.{Event, AllSound, Happened, after, history}
+use Rattle.demands.specs.Past.{keysIn, expectedIn, acceptedIn, barredIn}
+use Rattle.connection.specs.Sent.{matchesOf}
+use Rattle.demands.specs.LeftOut.{Without}
+use Rattle.demands.specs.Acts.{Act, SoundActs, behind}
+use Rattle.demands.specs.Lives.{Lives, noLives, livesOf}
+use Rattle.connection.specs.declared.connection.Connection.{Connection}
+use Rattle.demands.specs.InRuns.{TooOldFor, RepeatedIn, ProtectedExactly, ProtectedInRuns, WrongFinishedInRuns, LeavesOutOfRuns}
 use Rattle.demands.proofs.Genuine.{true-false}
 use Rattle.demands.proofs.Table.{row-of, row-is}
 use Rattle.demands.proofs.Kept.{live, protected-live}
 use Rattle.demands.proofs.Finished.{Progress, progress-all, progress-fresh, keys-are, expected-is}
 use Rattle.demands.proofs.HandedOut.{by-history}
-use Rattle.demands.proofs.LeftOut.{leaves-out}
+use Rattle.demands.proofs.LeftOut.{leaves-out-at}
+use Rattle.demands.proofs.Lives.{lives-hold-at, lives-sound-at}
+use Rattle.connection.specs.declared.sent.SentRecords.{SentRecords}
 
 -- ---- what a row says, by its answer
 
-module _ (h : Handshake) (random d : List ℕ) (r : Record) where
+module _ (h : Handshake) (sent : SentRecords) (random d : List ℕ) (r : Record) where
   abbrev RefusedFacts : Refusal → Type 0
   RefusedFacts (X.Framing fault) = Unit
   RefusedFacts X.Forged = (c : List ℕ) → Protected (keysOf h) d r c → ⊥
   RefusedFacts X.TooOld = (acceptOf (h .protection .window) (r .number) ≡ A.TooOld) × ((c : List ℕ) × Protected (keysOf h) d r c)
   RefusedFacts X.Repeated = (acceptOf (h .protection .window) (r .number) ≡ A.Repeated) × ((c : List ℕ) × Protected (keysOf h) d r c)
-  RefusedFacts X.Checksum = (a : Alert) × (alertOf (fragmentOf d r) ≡ R.WellFormed a) × (wasSent h (a .checksum) ≡ false)
+  RefusedFacts X.Checksum = (a : Alert) × (alertOf (fragmentOf d r) ≡ R.WellFormed a) × (matchesOf sent (a .checksum) ≡ false)
   RefusedFacts X.WrongFinished =
       (c : List ℕ) × Protected (keysOf h) d r c × (r .content ≡ C.Handshake) × (judgedOf c (h .expected) ≡ F.Wrong)
   RefusedFacts X.Room = Unit
@@ -70,7 +74,6 @@ module _ (h : Handshake) (random d : List ℕ) (r : Record) where
   RefusedFacts X.Unacceptable = Unit
   RefusedFacts X.Spent = Unit
   RefusedFacts X.Argument = Unit
-  RefusedFacts X.HelloWhileOpen = Unit
 
   abbrev Facts : Answer → Type 0
   Facts W.Nothing = Unit
@@ -86,10 +89,10 @@ module _ (h : Handshake) (random d : List ℕ) (r : Record) where
   Facts (W.Barred description) = Unit
   Facts (W.Refused refusal) = RefusedFacts refusal
 
-  facts : {j : Judged} → Row h random d r j → Facts (j .answer)
+  facts : {j : Judged} → Row h sent random d r j → Facts (j .answer)
   facts (row-ended e) = tt
-  facts (row-hello-while-open e) = tt
-  facts (row-not-allowed e o b) = tt
+  facts (row-returned q) = tt
+  facts (row-not-allowed e b n) = tt
   facts (row-not-first b i y) = tt
   facts (row-reply plan g e) = tt
   facts (row-hello-malformed fault g e) = tt
@@ -115,8 +118,8 @@ module _ (h : Handshake) (random d : List ℕ) (r : Record) where
   facts (row-wrong-finished c w n e m) = (c, n .coded, e, m)
 
   -- of the answer that was given
-  pub told : (x : Refusal) → judgedRecord h random d r .answer ≡ W.Refused x → RefusedFacts x
-  told x e = subst Facts e (facts (row-of h random d r))
+  pub told : (x : Refusal) → judgedRecord h sent random d r .answer ≡ W.Refused x → RefusedFacts x
+  told x e = subst Facts e (facts (row-of h sent random d r))
 
 -- ---- numbers by the history
 
@@ -131,7 +134,7 @@ for-old width numbers s o = reached (o .n) (highestOf numbers) (o .far) (accepte
     reached : (n m : ℕ) → s + width ≤ n → n ≤ m → s + width ≤ m
     reached n m a b = omega arith
 
-module _ (session : Session) {width : ℕ} (past : List Happened) (h : Handshake) (p : Progress session width past h) (random d : List ℕ) (r : Record) where
+module _ (session : Session) {width : ℕ} (past : List Happened) (h : Handshake) (p : Progress session width past h) (sent : SentRecords) (random d : List ℕ) (r : Record) where
   module _ (at : RecordOf d r) (g : Guarded h r) where
     l : barredIn past ≡ false
     l = live session past h (p .kept) (protected-live (h .state) (r .content) (g .kind))
@@ -145,59 +148,46 @@ module _ (session : Session) {width : ℕ} (past : List Happened) (h : Handshake
     window-at : acceptOf (h .protection .window) (r .number) ≡ judgedIn width (acceptedIn past) (r .number)
     window-at = ap (λ w. acceptOf w (r .number)) (p .kept .window-is) ∙ by-history width (p .kept .held) (acceptedIn past) (r .number)
 
-    nine : (judgedRecord h random d r .answer ≡ W.Refused X.Forged) ↔ ((c : List ℕ) → Genuine (keysIn session past) d r c → ⊥)
+    nine : (judgedRecord h sent random d r .answer ≡ W.Refused X.Forged) ↔ ((c : List ℕ) → Genuine (keysIn session past) d r c → ⊥)
     nine = (
-      λ e c s. told h random d r X.Forged e c (of-history c s),
-      λ f. ap (λ j. j .answer) (row-is h random d r (row-forged g (λ c s. f c (to-history c s)))),
+      λ e c s. told h sent random d r X.Forged e c (of-history c s),
+      λ f. ap (λ j. j .answer) (row-is h sent random d r (row-forged g (λ c s. f c (to-history c s)))),
     )
 
-    ten : (judgedRecord h random d r .answer ≡ W.Refused X.TooOld) ↔ (((c : List ℕ) × Genuine (keysIn session past) d r c) × TooOldFor width (acceptedIn past) (r .number))
+    ten : (judgedRecord h sent random d r .answer ≡ W.Refused X.TooOld) ↔ (((c : List ℕ) × Genuine (keysIn session past) d r c) × TooOldFor width (acceptedIn past) (r .number))
     ten = (
-      λ e. let q = told h random d r X.TooOld e in (
+      λ e. let q = told h sent random d r X.TooOld e in (
         (q .1 .0, to-history (q .1 .0) (q .1 .1)),
         old-for width (held-some width (p .kept .held)) (acceptedIn past) (r .number) (old-means width (acceptedIn past) (r .number) (sym window-at ∙ q .0)),
       ),
       λ q. ap (λ j. j .answer)
-          (row-is h random d r
+          (row-is h sent random d r
           (row-old (q .0 .0) g (of-history (q .0 .0) (q .0 .1))
           (window-at ∙ old-when width (acceptedIn past) (r .number) (for-old width (acceptedIn past) (r .number) (q .1))))),
     )
 
-    eleven : (judgedRecord h random d r .answer ≡ W.Refused X.Repeated) ↔ (((c : List ℕ) × Genuine (keysIn session past) d r c) × RepeatedIn width (acceptedIn past) (r .number))
+    eleven : (judgedRecord h sent random d r .answer ≡ W.Refused X.Repeated) ↔ (((c : List ℕ) × Genuine (keysIn session past) d r c) × RepeatedIn width (acceptedIn past) (r .number))
     eleven = (
-      λ e. let q = told h random d r X.Repeated e in
+      λ e. let q = told h sent random d r X.Repeated e in
           let t = repeated-means width (acceptedIn past) (r .number) (sym window-at ∙ q .0) in (
             (q .1 .0, to-history (q .1 .0) (q .1 .1)),
             record { was-accepted = t .1; recent = all-below width (acceptedIn past) (r .number) (t .0) },
           ),
       λ q. ap (λ j. j .answer)
-          (row-is h random d r
+          (row-is h sent random d r
           (row-repeated (q .0 .0) g (of-history (q .0 .0) (q .0 .1))
           (window-at
           ∙ repeated-when width (acceptedIn past) (r .number)
           (below-all width (held-some width (p .kept .held)) (acceptedIn past) (r .number) (q .1 .recent)) (q .1 .was-accepted)))),
     )
 
-    protected-exactly : ProtectedExactly session width past d r (judgedRecord h random d r .answer)
+    protected-exactly : ProtectedExactly session width past d r (judgedRecord h sent random d r .answer)
     protected-exactly = record { exactly-9 = nine; exactly-10 = ten; exactly-11 = eleven }
 
-  one-alert : (a b : Alert) (x : Reading) → x ≡ R.WellFormed a → x ≡ R.WellFormed b → a ≡ b
-  one-alert a b x e f = cc
-
-  fourteen : (a : Alert) → Hears (h .state) → r .protected ≡ false → r .content ≡ C.Alert → alertOf (fragmentOf d r) ≡ R.WellFormed a
-      → (judgedRecord h random d r .answer ≡ W.Refused X.Checksum) ↔ MatchesNone (a .checksum) (sentSince session past)
-  fourteen a s q c e = (
-    λ z. let t = told h random d r X.Checksum z in
-        let same : t .0 .checksum ≡ a .checksum = ap (λ b. b .checksum) (one-alert (t .0) a (alertOf (fragmentOf d r)) (t .1) e) in
-        unmatched (a .checksum) recordsKept (sentSince session past) (ap (oneOf (a .checksum)) (sym (p .kept .sent-is)) ∙ ap (wasSent h) (sym same) ∙ t .2),
-    λ n. ap (λ j. j .answer) (row-is h random d r (row-checksum a s q c e
-        (ap (oneOf (a .checksum)) (p .kept .sent-is) ∙ matches-none (a .checksum) recordsKept (sentSince session past) n))),
-  )
-
-  seventeen : RecordOf d r → barredIn past ≡ false → judgedRecord h random d r .answer ≡ W.Refused X.WrongFinished
+  seventeen : RecordOf d r → barredIn past ≡ false → judgedRecord h sent random d r .answer ≡ W.Refused X.WrongFinished
       → (c : List ℕ) × Genuine (keysIn session past) d r c × (r .content ≡ C.Handshake) × (judgedOf c (expectedIn session past) ≡ F.Wrong)
   seventeen at b e =
-      let t = told h random d r X.WrongFinished e in (
+      let t = told h sent random d r X.WrongFinished e in (
         t .0,
         record { in-place = at; protected-as = subst (λ k. Protected k d r (t .0)) (keys-are session past h p b) (t .1) },
         t .2,
@@ -205,39 +195,37 @@ module _ (session : Session) {width : ℕ} (past : List Happened) (h : Handshake
       )
 
   -- 17 is not given by a barred connection
-  not-barred : (b : Bool) → barredIn past ≡ b → judgedRecord h random d r .answer ≡ W.Refused X.WrongFinished → barredIn past ≡ false
+  not-barred : (b : Bool) → barredIn past ≡ b → judgedRecord h sent random d r .answer ≡ W.Refused X.WrongFinished → barredIn past ≡ false
   not-barred false f e = f
   not-barred true f e =
-      let z : W.Refused X.Ended ≡ W.Refused X.WrongFinished = sym (ap (λ j. j .answer) (row-is h random d r (row-ended (ap ended (p .kept .barred-is f .0))))) ∙ e in
+      let z : W.Refused X.Ended ≡ W.Refused X.WrongFinished = sym (ap (λ j. j .answer) (row-is h sent random d r (row-ended (ap ended (p .kept .barred-is f .0))))) ∙ e in
       let n : _≡_ {A = ℕ} 0 1 = cc in
       absurd (omega arith)
 
 pub protected-in-runs : ProtectedInRuns
 unfolding ProtectedInRuns
-protected-in-runs id secret width held es sound random d r at g =
+protected-in-runs id secret width held es sound sent random d r at g =
     let h₀ : Handshake = freshWith id secret width in
-    protected-exactly (sessionOf id secret) (history h₀ es []) (after h₀ es) (progress-all (sessionOf id secret) es [] h₀ sound (progress-fresh id secret width held)) random d r at g
-
-pub checksum-in-runs : ChecksumInRuns
-unfolding ChecksumInRuns
-checksum-in-runs id secret width held es sound random d r a s q c e =
-    let h₀ : Handshake = freshWith id secret width in
-    fourteen (sessionOf id secret) (history h₀ es []) (after h₀ es) (progress-all (sessionOf id secret) es [] h₀ sound (progress-fresh id secret width held)) random d r a s q c e
+    protected-exactly (sessionOf id secret) (history h₀ es []) (after h₀ es) (progress-all (sessionOf id secret) es [] h₀ sound (progress-fresh id secret width held)) sent random d r at g
 
 pub wrong-finished-in-runs : WrongFinishedInRuns
 unfolding WrongFinishedInRuns
-wrong-finished-in-runs id secret width held es sound random d r at e =
+wrong-finished-in-runs id secret width held es sound sent random d r at e =
     let h₀ : Handshake = freshWith id secret width in
     let past : List Happened = history h₀ es [] in
     let p : Progress (sessionOf id secret) width past (after h₀ es) = progress-all (sessionOf id secret) es [] h₀ sound (progress-fresh id secret width held) in
-    seventeen (sessionOf id secret) past (after h₀ es) p random d r at (not-barred (sessionOf id secret) past (after h₀ es) p random d r (barredIn past) refl e) e
+    seventeen (sessionOf id secret) past (after h₀ es) p sent random d r at (not-barred (sessionOf id secret) past (after h₀ es) p sent random d r (barredIn past) refl e) e
 
 pub leaves-out-of-runs : LeavesOutOfRuns
-unfolding LeavesOutOfRuns LeavesOut
-leaves-out-of-runs id secret width held es sound is-open calls rest =
+unfolding LeavesOutOfRuns
+leaves-out-of-runs id secret width held acts sound o xs ys w =
     let h₀ : Handshake = freshWith id secret width in
-    let past : List Happened = history h₀ es [] in
-    let h : Handshake = after h₀ es in
-    let p : Progress (sessionOf id secret) width past h = progress-all (sessionOf id secret) es [] h₀ sound (progress-fresh id secret width held) in
-    let same : keysOf h ≡ keysIn (sessionOf id secret) past = keys-are (sessionOf id secret) past h p (live (sessionOf id secret) past h (p .kept) (ap ended is-open)) in
-    subst (λ k. (out : LeftOut stepOf k (connectionOf h) calls rest) → SameWithout stepOf k (connectionOf h) calls rest out) same (leaves-out (connectionOf h) is-open calls rest)
+    let l : Lives = livesOf (freshOne id secret width) noLives acts in
+    let past : List Happened = history h₀ (l .own) [] in
+    let c : Connection = behind (freshOne id secret width) acts in
+    let own : c .handshake ≡ after h₀ (l .own) = lives-hold-at id secret width held acts .own-life in
+    let p : Progress (sessionOf id secret) width past (after h₀ (l .own)) = progress-all (sessionOf id secret) (l .own) [] h₀ (lives-sound-at id secret width acts sound .0) (progress-fresh id secret width held) in
+    let there : after h₀ (l .own) .state ≡ S.Open = sym (ap (λ h. h .state) own) ∙ o in
+    let same : keysOf (c .handshake) ≡ keysIn (sessionOf id secret) past
+    = ap keysOf own ∙ keys-are (sessionOf id secret) past (after h₀ (l .own)) p (live (sessionOf id secret) past (after h₀ (l .own)) (p .kept) (ap ended there)) in
+    leaves-out-at c c refl o xs ys (subst (λ k. Without k c c xs ys) (sym same) w)

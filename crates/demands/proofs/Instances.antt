@@ -30,7 +30,7 @@ use Rattle.record.specs.declared.keys.Keys.{Keys}
 use Rattle.demands.specs.Genuine.{Genuine, RecordOf, keysOf}
 use Rattle.demands.specs.Table.{Row, New, row-barred}
 use Rattle.demands.specs.Calls.{mayAlert, data-sent, alert-sent}
-use Rattle.demands.specs.Events.{Event, took, Sound, AllSound, connectionOf, next, after}
+use Rattle.demands.specs.Events.{Event, took, Sound, AllSound, next, after}
 use Rattle.demands.specs.Past.{isData}
 use Rattle.demands.specs.LeftOut.{NoneGenuine}
 use Rattle.demands.specs.Traps.{lastProtected, JustOpen}
@@ -43,7 +43,9 @@ use Rattle.demands.proofs.Refusals.{outcomeIn}
 use Rattle.demands.proofs.Works.{Walk}
 use Rattle.demands.proofs.Example.{example-heard, example-held, example-walk, opening, opening-sound, opening-leaves, opening-open}
 use Rattle.demands.proofs.Gateways.{two, one-of-two, two-of-two, two-framed}
-use Rattle.demands.proofs.Traps.{w₀, w₇, new-7, alone, alone-framed, alone-protected}
+use Rattle.demands.proofs.Traps.{w₀, w₇, new-7, single, single-framed, single-protected}
+use Rattle.connection.specs.Connection.{alone}
+use Rattle.connection.specs.Sent.{noRecords}
 
 abbrev w : Walk exampleId exampleSecret exampleWidth exampleRandom exampleData
 w = example-walk
@@ -80,30 +82,30 @@ abbrev fatal-datagram : List ℕ
 fatal-datagram = lastProtected (keysOf (w .h₃)) C.Alert 7 fatal-alert
 
 abbrev fatal-record : Record
-fatal-record = alone (keysOf (w .h₃)) C.Alert 7 (lit≤ tt) fatal-alert
+fatal-record = single (keysOf (w .h₃)) C.Alert 7 (lit≤ tt) fatal-alert
 
-fatal-row : Row (w .h₃) exampleRandom fatal-datagram fatal-record (judged (W.Barred D.SessionCloseNotify) (barred (withWindow (w .h₃) (w₇ exampleWidth))))
-unfolding fatal-alert alone w₀
+fatal-row : Row (w .h₃) noRecords exampleRandom fatal-datagram fatal-record (judged (W.Barred D.SessionCloseNotify) (barred (withWindow (w .h₃) (w₇ exampleWidth))))
+unfolding fatal-alert single w₀
 fatal-row =
     row-barred fatal-alert (w₇ exampleWidth) (record { level = L.Fatal; description = D.SessionCloseNotify; checksum = 0 })
-    (new-7 (w .h₃) (w .open-is) exampleWidth example-held (w .window-is) fatal-datagram fatal-record fatal-alert refl (alone-protected (keysOf (w .h₃)) C.Alert 7 (lit≤ tt) fatal-alert)) refl
+    (new-7 (w .h₃) (w .open-is) exampleWidth example-held (w .window-is) fatal-datagram fatal-record fatal-alert refl (single-protected (keysOf (w .h₃)) C.Alert 7 (lit≤ tt) fatal-alert)) refl
     (alert-back L.Fatal D.SessionCloseNotify 0 (omega arith)) refl
 
 fatal-framed : framingOf fatal-datagram ≡ framed (fatal-record ∷ [])
 unfolding fatal-alert
-fatal-framed = alone-framed (keysOf (w .h₃)) C.Alert 7 (lit≤ tt) fatal-alert (lit≤ tt)
+fatal-framed = single-framed (keysOf (w .h₃)) C.Alert 7 (lit≤ tt) fatal-alert (lit≤ tt)
 
-data-is-done : (h : Handshake) → h .state ≡ S.Open → h .protection .protected ≡ 1 → dataSent (connectionOf h) exampleData (length exampleOut) .outcome ≡ O.Done
+data-is-done : (h : Handshake) → h .state ≡ S.Open → h .protection .protected ≡ 1 → dataSent (alone h) exampleData (length exampleOut) .outcome ≡ O.Done
 unfolding stepOf
 data-is-done h s n =
     ap (λ x. outcomeIn (x .result))
-    (call-is (connectionOf h) (data-sent {bytes = exampleData} {out = exampleOut} (record { some = lit≤ tt; most = lit≤ tt }) s (omega arith) (omega (arith, size-most (h .protection .keys .mac)))))
+    (call-is (alone h) (data-sent {bytes = exampleData} {out = exampleOut} (record { some = lit≤ tt; most = lit≤ tt }) s (omega arith) (omega (arith, size-most (h .protection .keys .mac)))))
 
-alert-is-done : (h : Handshake) → h .state ≡ S.Open → h .protection .protected ≡ 1 → alertSent (connectionOf h) true 1 0 [] (length exampleOut) .outcome ≡ O.Done
+alert-is-done : (h : Handshake) → h .state ≡ S.Open → h .protection .protected ≡ 1 → alertSent (alone h) true 1 0 [] (length exampleOut) .outcome ≡ O.Done
 unfolding stepOf
 alert-is-done h s n =
     ap (λ x. outcomeIn (x .result))
-    (call-is (connectionOf h) (alert-sent {protected = true} {out = exampleOut} {l = L.Warning} {k = D.ConnectionCloseNotify} (record { level-is = level-back L.Warning; description-is = description-back D.ConnectionCloseNotify; lent-most = lit≤ tt }) (ap (mayAlert true) s) (omega arith) (omega (arith, size-most (h .protection .keys .mac)))))
+    (call-is (alone h) (alert-sent {protected = true} {out = exampleOut} {l = L.Warning} {k = D.ConnectionCloseNotify} (record { level-is = level-back L.Warning; description-is = description-back D.ConnectionCloseNotify; lent-most = lit≤ tt }) (ap (mayAlert true) s) (omega arith) (omega (arith, size-most (h .protection .keys .mac)))))
 
 pub instances : Instances
 unfolding run w₀
@@ -119,17 +121,17 @@ instances =
         d = w .d₄;
         r = w .r₄;
         here = (refl, record { before = []; behind = []; framing = w .framed₄ });
-        handed = ap (λ x. isData (judgedRecord x exampleRandom (w .d₄) (w .r₄) .answer)) run-leaves ∙ ap (λ j. isData (j .answer)) (row-is (w .h₃) exampleRandom (w .d₄) (w .r₄) (w .row₄));
+        handed = ap (λ x. isData (judgedRecord x noRecords exampleRandom (w .d₄) (w .r₄) .answer)) run-leaves ∙ ap (λ j. isData (j .answer)) (row-is (w .h₃) noRecords exampleRandom (w .d₄) (w .r₄) (w .row₄ noRecords));
         bytes = exampleData;
         out = exampleOut;
-        data-done = ap (λ x. dataSent (connectionOf x) exampleData (length exampleOut) .outcome) run-leaves ∙ data-is-done (w .h₃) (w .open-is) (w .next-is);
-        alert-done = ap (λ x. alertSent (connectionOf x) true 1 0 [] (length exampleOut) .outcome) run-leaves ∙ alert-is-done (w .h₃) (w .open-is) (w .next-is);
+        data-done = ap (λ x. dataSent (alone x) exampleData (length exampleOut) .outcome) run-leaves ∙ data-is-done (w .h₃) (w .open-is) (w .next-is);
+        alert-done = ap (λ x. alertSent (alone x) true 1 0 [] (length exampleOut) .outcome) run-leaves ∙ alert-is-done (w .h₃) (w .open-is) (w .next-is);
         noise = two;
         noise-records = one-of-two ∷ two-of-two ∷ [];
         noise-framed = two-framed;
         noise-only = two-silent (keysOf (after exampleFresh run));
-        fatal = took exampleRandom fatal-datagram fatal-record;
+        fatal = took noRecords exampleRandom fatal-datagram fatal-record;
         fatal-sound = (refl, record { before = []; behind = []; framing = fatal-framed });
-        fatal-bars = ap (λ x. judgedRecord x exampleRandom fatal-datagram fatal-record .handshake .state) run-leaves ∙ ap (λ j. j .handshake .state) (row-is (w .h₃) exampleRandom fatal-datagram fatal-record fatal-row);
+        fatal-bars = ap (λ x. judgedRecord x noRecords exampleRandom fatal-datagram fatal-record .handshake .state) run-leaves ∙ ap (λ j. j .handshake .state) (row-is (w .h₃) noRecords exampleRandom fatal-datagram fatal-record fatal-row);
       };
     }

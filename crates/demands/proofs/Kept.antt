@@ -28,11 +28,9 @@ use Rattle.connection.specs.Calls.{sessionOf}
 use Rattle.digest.specs.declared.mac.Mac.{Mac}
 use Rattle.connection.specs.Handshake.{withState, withWindow, barred, reopened, nothingKept, noSession, keptHello, keptReply, planted}
 use Rattle.connection.specs.Judge.{judgedRecord, fragmentOf}
-use Rattle.connection.specs.Reply.{answeredWith, replyTo, padTo, lastOf, ourHello, helloRecord, changeRecord}
-use Rattle.connection.specs.Sent.{sumOf, sumsOf}
+use Rattle.connection.specs.Reply.{answeredWith, replyTo, padTo}
 use Rattle.connection.specs.declared.sent.SentRecords.{SentRecords}
-use Rattle.demands.proofs.SentRecords.{record-sums, reply-sums}
-use Rattle.connection.specs.Send.{nextProtected, nextAlert, alertBody, afterAlert}
+use Rattle.connection.specs.Send.{nextProtected, nextAlert, senderOf, alertBody, afterAlert}
 use Rattle.connection.specs.declared.state.State.{State}
 use Rattle.connection.specs.declared.state.State.the-variants as S
 use Rattle.connection.specs.declared.refusal.Refusal.{Refusal}
@@ -44,18 +42,19 @@ use Rattle.connection.specs.declared.handshake.Handshake.{Handshake}
 use Rattle.connection.specs.declared.handshake.Session.{Session}
 use Rattle.demands.specs.Runs.{Call, send-data, send-alert, close, start, Step, stepOf}
 use Rattle.demands.specs.Table.{Row, ended, protectedAllowed, Hears, New, Guarded, Greets, isHello}
-use Rattle.demands.specs.Table.{row-ended, row-hello-while-open, row-not-allowed, row-not-first, row-reply, row-hello-malformed, row-unacceptable, row-resent, row-change, row-change-malformed, row-clear-malformed, row-checksum, row-clear-warning, row-clear-critical, row-clear-fatal, row-forged, row-old, row-repeated, row-malformed, row-data, row-warning, row-critical, row-barred, row-open, row-again, row-wrong-finished}
+use Rattle.demands.specs.Table.{row-ended, row-returned, row-not-allowed, row-not-first, row-reply, row-hello-malformed, row-unacceptable, row-resent, row-change, row-change-malformed, row-clear-malformed, row-checksum, row-clear-warning, row-clear-critical, row-clear-fatal, row-forged, row-old, row-repeated, row-malformed, row-data, row-warning, row-critical, row-barred, row-open, row-again, row-wrong-finished}
 use Rattle.demands.specs.Calls.{CallRow, data-16, data-7, data-8, data-15, data-6, data-sent, alert-16, alert-7, alert-8, alert-15, alert-6, alert-sent, close-7, close-done, start-7, start-8, start-done}
 use Rattle.demands.specs.Refusals.{writtenBy}
-use Rattle.demands.specs.Events.{Event, took, sending, alerting, closing, starting, Sound, AllSound, Happened, answered, wrote, closed, started, refused, ifDone, connectionOf, next, happening, after, history}
-use Rattle.demands.specs.Past.{greeting, isReply, isSpec, isBarred, marks, lastReply, keptGreeting, agreedFor, agreedAs, helloAs, replyFor, replyHeard, protectedNext, nextClearNumber, sentSince, recordsHeard, acceptedIn, barredIn, agreedOf, nothingAgreed, Agreed}
+use Rattle.demands.specs.Events.{Event, took, sending, alerting, closing, starting, Sound, AllSound, Happened, answered, wrote, closed, started, refused, ifDone, next, happening, after, history}
+use Rattle.demands.specs.Past.{greeting, isReply, isSpec, isBarred, marks, lastReply, keptGreeting, agreedFor, agreedAs, helloAs, replyFor, replyHeard, protectedNext, nextClearNumber, acceptedIn, barredIn, agreedOf, nothingAgreed, Agreed}
 use Rattle.demands.specs.Runs.{freshWith}
 use Rattle.demands.specs.Kept.{KeptAs, KeptIsWhatHappened}
 use Rattle.demands.proofs.Genuine.{true-false}
 use Rattle.demands.proofs.Table.{row-of}
 use Rattle.demands.proofs.Changes.{hello-clear}
-use Rattle.demands.proofs.Calls.{call-of}
-use Rattle.demands.proofs.Refusals.{outcomeIn, laid-front}
+use Rattle.demands.proofs.Calls.{call-of, sent-alone}
+use Rattle.demands.proofs.Refusals.{outcomeIn}
+use Rattle.connection.specs.Connection.{alone}
 
 -- ---- the window
 
@@ -88,14 +87,13 @@ both-no : (b : Bool) → pick b false false ≡ false
 both-no true = refl
 both-no false = refl
 
--- what we sent: the next numbers and the records
+-- the next numbers
 record Sending : Type 0 where
   protected : ℕ
   clear : ℕ
-  sent : SentRecords
 
 abbrev sendingOf : Handshake → Sending
-sendingOf h = record { protected = h .protection .protected; clear = h .protection .clear; sent = h .sent }
+sendingOf h = record { protected = h .protection .protected; clear = h .protection .clear }
 
 module _ (session : Session) {width : ℕ} (past : List Happened) (h : Handshake) (k : KeptAs session width past h) where
   -- a connection that is not ended was not barred
@@ -106,12 +104,12 @@ module _ (session : Session) {width : ℕ} (past : List Happened) (h : Handshake
       by-bar false f = f
       by-bar true f = true-false (ended (h .state)) (ap ended (k .barred-is f .0)) e
 
-  module _ (random d : List ℕ) (r : Record) where
+  module _ (sent : SentRecords) (random d : List ℕ) (r : Record) where
     -- an answer that is no reply and bars nothing
     kept-by : (x : Handshake) (a : Answer) → isReply a ≡ false → isBarred a ≡ false → planted x ≡ planted h → agreedOf x ≡ agreedOf h
         → x .kept ≡ h .kept → sendingOf x ≡ sendingOf h → x .protection .window ≡ windowOf width (acceptedIn (answered random d r a ∷ past))
         → (barredIn past ≡ true → x .state ≡ S.Barred) → KeptAs session width (answered random d r a ∷ past) x
-    unfolding lastReply keptGreeting protectedNext nextClearNumber sentSince barredIn
+    unfolding lastReply keptGreeting protectedNext nextClearNumber barredIn
     kept-by x a nr nb es ea ek en ew st =
         let bar : pick (isBarred a) true (barredIn past) ≡ barredIn past = ap (λ b. pick b true (barredIn past)) nb in
         record {
@@ -121,8 +119,6 @@ module _ (session : Session) {width : ℕ} (past : List Happened) (h : Handshake
           reply-is = λ f. ap (λ y. take (y .size) (y .reply)) ek ∙ k .reply-is (sym bar ∙ f) ∙ sym (ap (λ b. replyFor session (pick b (greeting (fragmentOf d r) random) (keptGreeting past))) nr);
           protected-is = ap (λ y. y .protected) en ∙ k .protected-is ∙ sym (ap (λ b. pick b 1 (protectedNext past)) nr);
           clear-is = ap (λ y. y .clear) en ∙ k .clear-is ∙ sym (ap (λ b. pick b 2 (nextClearNumber past)) nr);
-          sent-is = ap (λ y. sumsOf (y .sent)) en ∙ k .sent-is
-              ∙ sym (ap (λ b. map sumOf (take 8 (pick b (recordsHeard session random (fragmentOf d r) (heardOf (fragmentOf d r) (session .id)) ++ sentSince session past) (sentSince session past)))) nr);
           window-is = ew;
           held = k .held;
           barred-is = λ f. (
@@ -181,7 +177,7 @@ module _ (session : Session) {width : ℕ} (past : List Happened) (h : Handshake
 
     replied : (plan : Plan) → Greets h d r → heardOf (fragmentOf d r) (h .id) ≡ H.Accepted plan
         → KeptAs session width (answered random d r (W.Reply (length (replyTo (planted h) random (fragmentOf d r) plan))) ∷ past) (answeredWith h random (fragmentOf d r) plan)
-    unfolding answeredWith lastReply keptGreeting protectedNext nextClearNumber sentSince barredIn
+    unfolding answeredWith lastReply keptGreeting protectedNext nextClearNumber barredIn
     replied plan g e =
         let m : List ℕ = fragmentOf d r in
         let reply : List ℕ = replyTo (planted h) random m plan in
@@ -195,10 +191,6 @@ module _ (session : Session) {width : ℕ} (past : List Happened) (h : Handshake
               ∙ ap (replyHeard (planted h) random m) (sym e) ∙ ap (λ s. replyHeard s random m (heardOf m (s .id))) es;
           protected-is = refl;
           clear-is = refl;
-          sent-is = reply-sums (h .sent) (sentSince session past) (helloRecord (ourHello (planted h) random plan)) changeRecord
-              (lastOf (planted h) random m plan) (k .sent-is)
-              ∙ ap (λ x. map sumOf (take 8 (recordsHeard (planted h) random m x ++ sentSince session past))) (sym e)
-              ∙ ap (λ s. map sumOf (take 8 (recordsHeard s random m (heardOf m (s .id)) ++ sentSince session past))) es;
           window-is = k .window-is ∙ sym (ap (windowOf width) (accepted-unmarked (W.Reply (length reply)) refl refl));
           held = k .held;
           barred-is = λ f. true-false (barredIn past) f l;
@@ -206,7 +198,7 @@ module _ (session : Session) {width : ℕ} (past : List Happened) (h : Handshake
 
     barred-by : (c : List ℕ) (w : Window) → New h d r c w → (x : Description)
         → KeptAs session width (answered random d r (W.Barred x) ∷ past) (barred (withWindow h w))
-    unfolding protectedNext nextClearNumber sentSince barredIn nothingAgreed noSession
+    unfolding protectedNext nextClearNumber barredIn nothingAgreed noSession
     barred-by c w n x =
         record {
           session-is = λ f. true-false true refl f;
@@ -215,7 +207,6 @@ module _ (session : Session) {width : ℕ} (past : List Happened) (h : Handshake
           reply-is = λ f. true-false true refl f;
           protected-is = k .protected-is;
           clear-is = k .clear-is;
-          sent-is = k .sent-is;
           window-is = window-marked c w n (W.Barred x) refl refl;
           held = k .held;
           barred-is = λ f. (refl, refl, refl, refl);
@@ -226,17 +217,18 @@ module _ (session : Session) {width : ℕ} (past : List Happened) (h : Handshake
     fresh-again = ap emptied (k .window-is) ∙ fresh-means width
 
     -- the rows
-    pub by-row : {j : Judged} → Row h random d r j → KeptAs session width (answered random d r (j .answer) ∷ past) (j .handshake)
+    pub by-row : {j : Judged} → Row h sent random d r j → KeptAs session width (answered random d r (j .answer) ∷ past) (j .handshake)
     by-row (row-ended e) = refused-by X.Ended refl
-    by-row (row-hello-while-open e) = refused-by X.HelloWhileOpen refl
-    by-row (row-not-allowed e o a) = refused-by X.NotAllowed refl
+    by-row (row-returned q) =
+        clear-by (W.Resent (length (keptReply h))) h refl refl refl (hello-clear h sent random d r (q .hello)) refl refl refl refl refl (ap ended (q .is-open))
+    by-row (row-not-allowed e a n) = refused-by X.NotAllowed refl
     by-row (row-not-first a i z) = refused-by X.NotAllowed refl
     by-row (row-reply plan g e) = replied plan g e
     by-row (row-hello-malformed fault g e) =
-        clear-by (W.Refused X.Malformed) h refl refl refl (hello-clear h random d r (g .hello)) refl refl refl refl refl (greets-live h d r (g .another))
+        clear-by (W.Refused X.Malformed) h refl refl refl (hello-clear h sent random d r (g .hello)) refl refl refl refl refl (greets-live h d r (g .another))
     by-row (row-unacceptable condition g e) = refused-by X.Unacceptable refl
     by-row (row-resent s i z e) =
-        clear-by (W.Resent (length (keptReply h))) h refl refl refl (hello-clear h random d r i) refl refl refl refl refl (hears-live (h .state) s)
+        clear-by (W.Resent (length (keptReply h))) h refl refl refl (hello-clear h sent random d r i) refl refl refl refl refl (hears-live (h .state) s)
     by-row (row-change s p c e) =
         kept-by (withState (withWindow h (emptied (h .protection .window))) S.Spec) W.Spec refl refl refl refl refl refl fresh-again (λ f. true-false (barredIn past) f (live (ap ended s)))
     by-row (row-change-malformed s p c e) = clear-by (W.Refused X.Malformed) h refl refl refl p refl refl refl refl refl (ap ended s)
@@ -261,7 +253,7 @@ module _ (session : Session) {width : ℕ} (past : List Happened) (h : Handshake
 
   -- a call that is refused
   refused-more : KeptAs session width (refused ∷ past) h
-  unfolding lastReply keptGreeting protectedNext nextClearNumber sentSince acceptedIn barredIn
+  unfolding lastReply keptGreeting protectedNext nextClearNumber acceptedIn barredIn
   refused-more =
       record {
         session-is = k .session-is;
@@ -270,16 +262,15 @@ module _ (session : Session) {width : ℕ} (past : List Happened) (h : Handshake
         reply-is = k .reply-is;
         protected-is = k .protected-is;
         clear-is = k .clear-is;
-        sent-is = k .sent-is;
         window-is = k .window-is;
         held = k .held;
         barred-is = k .barred-is;
       }
 
   -- a record of ours
-  wrote-more : (protected : Bool) (bytes front : List ℕ) → front ≡ bytes → KeptAs session width (wrote protected front ∷ past) (afterAlert protected h bytes)
-  unfolding lastReply keptGreeting protectedNext nextClearNumber sentSince acceptedIn barredIn
-  wrote-more true bytes front e =
+  wrote-more : (protected : Bool) (front : List ℕ) → KeptAs session width (wrote protected front ∷ past) (afterAlert protected h)
+  unfolding lastReply keptGreeting protectedNext nextClearNumber acceptedIn barredIn
+  wrote-more true front =
       record {
         session-is = k .session-is;
         agreed-is = k .agreed-is;
@@ -287,12 +278,11 @@ module _ (session : Session) {width : ℕ} (past : List Happened) (h : Handshake
         reply-is = k .reply-is;
         protected-is = ap (λ n. n + 1) (k .protected-is);
         clear-is = k .clear-is;
-        sent-is = record-sums (h .sent) (sentSince session past) bytes (k .sent-is) ∙ ap (λ b. map sumOf (take 8 (b ∷ sentSince session past))) (sym e);
         window-is = k .window-is;
         held = k .held;
         barred-is = k .barred-is;
       }
-  wrote-more false bytes front e =
+  wrote-more false front =
       record {
         session-is = k .session-is;
         agreed-is = k .agreed-is;
@@ -300,14 +290,13 @@ module _ (session : Session) {width : ℕ} (past : List Happened) (h : Handshake
         reply-is = k .reply-is;
         protected-is = k .protected-is;
         clear-is = ap (λ n. n + 1) (k .clear-is);
-        sent-is = record-sums (h .sent) (sentSince session past) bytes (k .sent-is) ∙ ap (λ b. map sumOf (take 8 (b ∷ sentSince session past))) (sym e);
         window-is = k .window-is;
         held = k .held;
         barred-is = k .barred-is;
       }
 
   closed-more : barredIn past ≡ false → KeptAs session width (closed ∷ past) (withState h S.Closed)
-  unfolding lastReply keptGreeting protectedNext nextClearNumber sentSince acceptedIn barredIn
+  unfolding lastReply keptGreeting protectedNext nextClearNumber acceptedIn barredIn
   closed-more l =
       record {
         session-is = k .session-is;
@@ -316,14 +305,13 @@ module _ (session : Session) {width : ℕ} (past : List Happened) (h : Handshake
         reply-is = k .reply-is;
         protected-is = k .protected-is;
         clear-is = k .clear-is;
-        sent-is = k .sent-is;
         window-is = k .window-is;
         held = k .held;
         barred-is = λ f. true-false (barredIn past) f l;
       }
 
   started-more : barredIn past ≡ false → KeptAs session width (started ∷ past) (reopened h)
-  unfolding lastReply keptGreeting protectedNext nextClearNumber sentSince acceptedIn barredIn nothingKept
+  unfolding lastReply keptGreeting protectedNext nextClearNumber acceptedIn barredIn nothingKept
   started-more l =
       record {
         session-is = k .session-is;
@@ -332,7 +320,6 @@ module _ (session : Session) {width : ℕ} (past : List Happened) (h : Handshake
         reply-is = λ f. refl;
         protected-is = k .protected-is;
         clear-is = k .clear-is;
-        sent-is = refl;
         window-is = ap emptied (k .window-is) ∙ fresh-means width;
         held = k .held;
         barred-is = λ f. true-false (barredIn past) f l;
@@ -342,7 +329,7 @@ module _ (session : Session) {width : ℕ} (past : List Happened) (h : Handshake
   not-barred n false f = f
   not-barred n true f = absurd (n (k .barred-is f .0))
 
-  by-data : (bytes out : List ℕ) {s : Step} → CallRow (connectionOf h) (send-data bytes out) s
+  by-data : (bytes out : List ℕ) {s : Step} → CallRow (alone h) (send-data bytes out) s
       → KeptAs session width (ifDone (outcomeIn (s .result)) (wrote true (take (writtenBy (s .result)) (s .output))) ∷ past) (s .connection .handshake)
   by-data bytes out (data-16 b) = refused-more
   by-data bytes out (data-7 g e) = refused-more
@@ -350,9 +337,9 @@ module _ (session : Session) {width : ℕ} (past : List Happened) (h : Handshake
   by-data bytes out (data-15 g e n) = refused-more
   by-data bytes out (data-6 g e n l) = refused-more
   by-data bytes out (data-sent g e n l) =
-      let b : List ℕ = nextProtected h C.Data bytes in wrote-more true b (take (length b) (laidOver out 0 b)) (laid-front out b)
+      let b : List ℕ = nextProtected h C.Data bytes in wrote-more true (take (length b) (laidOver out 0 b))
 
-  by-alert : (protected : Bool) (level description : ℕ) (lent out : List ℕ) {s : Step} → CallRow (connectionOf h) (send-alert protected level description lent out) s
+  by-alert : (protected : Bool) (level description : ℕ) (lent out : List ℕ) {s : Step} → CallRow (alone h) (send-alert protected level description lent out) s
       → KeptAs session width (ifDone (outcomeIn (s .result)) (wrote protected (take (writtenBy (s .result)) (s .output))) ∷ past) (s .connection .handshake)
   by-alert protected level description lent out (alert-16 b) = refused-more
   by-alert protected level description lent out (alert-7 g e) = refused-more
@@ -360,13 +347,15 @@ module _ (session : Session) {width : ℕ} (past : List Happened) (h : Handshake
   by-alert protected level description lent out (alert-15 g e n) = refused-more
   by-alert protected level description lent out (alert-6 g e n l) = refused-more
   by-alert protected level description lent out (alert-sent {l = v} {k = m} g e n l) =
-      let b : List ℕ = nextAlert protected h (alertBody v m lent) in wrote-more protected b (take (length b) (laidOver out 0 b)) (laid-front out b)
+      let b : List ℕ = nextAlert protected (senderOf protected (alone h)) (alertBody v m lent) in
+      subst (KeptAs session width (wrote protected (take (length b) (laidOver out 0 b)) ∷ past)) (sym (sent-alone h protected e b))
+      (wrote-more protected (take (length b) (laidOver out 0 b)))
 
-  by-close : {s : Step} → CallRow (connectionOf h) close s → KeptAs session width (ifDone (outcomeIn (s .result)) closed ∷ past) (s .connection .handshake)
+  by-close : {s : Step} → CallRow (alone h) close s → KeptAs session width (ifDone (outcomeIn (s .result)) closed ∷ past) (s .connection .handshake)
   by-close (close-7 e) = refused-more
   by-close (close-done n) = closed-more (not-barred n (barredIn past) refl)
 
-  by-start : {s : Step} → CallRow (connectionOf h) start s → KeptAs session width (ifDone (outcomeIn (s .result)) started ∷ past) (s .connection .handshake)
+  by-start : {s : Step} → CallRow (alone h) start s → KeptAs session width (ifDone (outcomeIn (s .result)) started ∷ past) (s .connection .handshake)
   by-start (start-7 e) = refused-more
   by-start (start-8 n m) = refused-more
   by-start (start-done e) = started-more (live-closed (barredIn past) refl)
@@ -378,12 +367,12 @@ module _ (session : Session) {width : ℕ} (past : List Happened) (h : Handshake
 
   pub kept-more : (e : Event) → KeptAs session width (happening h e ∷ past) (next h e)
   unfolding stepOf
-  kept-more (took random d r) = by-row random d r (row-of h random d r)
-  kept-more (sending bytes out) = by-data bytes out (call-of (connectionOf h) (send-data bytes out))
+  kept-more (took sent random d r) = by-row sent random d r (row-of h sent random d r)
+  kept-more (sending bytes out) = by-data bytes out (call-of (alone h) (send-data bytes out))
   kept-more (alerting protected level description lent out) =
-      by-alert protected level description lent out (call-of (connectionOf h) (send-alert protected level description lent out))
-  kept-more closing = by-close (call-of (connectionOf h) close)
-  kept-more starting = by-start (call-of (connectionOf h) start)
+      by-alert protected level description lent out (call-of (alone h) (send-alert protected level description lent out))
+  kept-more closing = by-close (call-of (alone h) close)
+  kept-more starting = by-start (call-of (alone h) start)
 
 -- ---- a whole run
 
@@ -394,7 +383,7 @@ kept-all session [] past h k = k
 kept-all session (e ∷ es) past h k = kept-all session es (happening h e ∷ past) (next h e) (kept-more session past h k e)
 
 pub kept-fresh : (id secret : List ℕ) (width : ℕ) → Held width → KeptAs (sessionOf id secret) width [] (freshWith id secret width)
-unfolding lastReply keptGreeting protectedNext nextClearNumber sentSince acceptedIn barredIn nothingKept nothingAgreed
+unfolding lastReply keptGreeting protectedNext nextClearNumber acceptedIn barredIn nothingKept nothingAgreed
 kept-fresh id secret width held =
     record {
       session-is = λ f. refl;
@@ -403,7 +392,6 @@ kept-fresh id secret width held =
       reply-is = λ f. refl;
       protected-is = refl;
       clear-is = refl;
-      sent-is = refl;
       window-is = fresh-means width;
       held = held;
       barred-is = λ f. true-false false f refl;

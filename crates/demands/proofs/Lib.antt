@@ -1,6 +1,7 @@
 -- The proofs of the demands.
 pub mod Genuine
 pub mod Table
+pub mod Asked
 pub mod Changes
 pub mod First
 pub mod Calls
@@ -8,6 +9,7 @@ pub mod Refusals
 pub mod SentRecords
 pub mod Kept
 pub mod Finished
+pub mod Lives
 pub mod LeftOut
 pub mod HandedOut
 pub mod Barred
@@ -26,6 +28,8 @@ pub mod Cases
 pub mod Exactly
 pub mod Replies
 pub mod InRuns
+pub mod SentHistory
+pub mod Replaced
 pub mod Fatal
 pub mod Demands
 pub mod Messages

@@ -94,8 +94,8 @@ messages-run l ps = record { same-connection = connections l ps; same-steps = st
 pub messages-leave-out : MessagesLeaveOut
 unfolding MessagesLeaveOut LeavesOut
 messages-leave-out c is-open g g′ ps ps′ out =
-    let same = leaves-out c is-open (callsIn g ps) (callsIn g′ ps′) out in (
-      connections (record { connection = c; gathering = g }) ps ∙ same .same-connection
-          ∙ sym (connections (record { connection = c; gathering = g′ }) ps′),
+    let same = leaves-out c c refl is-open (callsIn g ps) (callsIn g′ ps′) out in (
+      ap (λ x. x .handshake) (connections (record { connection = c; gathering = g }) ps) ∙ same .same-open
+          ∙ sym (ap (λ x. x .handshake) (connections (record { connection = c; gathering = g′ }) ps′)),
       same .same-handed,
     )

@@ -32,6 +32,8 @@ use Rattle.demands.specs.Refusals.{lentBy, IsRefused, writtenBy, Refused
 use Rattle.demands.specs.Changes.{afterSending, DataChangesOnly, AlertChangesOnly}
 use Rattle.demands.proofs.First.{first-is}
 use Rattle.demands.proofs.Calls.{call-of}
+use Rattle.connection.specs.Told.{toldRecord, keptBy}
+use Rattle.connection.specs.Send.{senderOf, afterSend}
 
 module _ (c : Connection) where
   by-row : {call : Call} {s : Step} → CallRow c call s → IsRefused (s .result)
@@ -71,18 +73,18 @@ laid-nothing out = refl
 framed-one : (rs qs : List Record) (f : Framing) → f ≡ framed rs → f ≡ framed qs → rs ≡ qs
 framed-one rs qs f e g = cc
 
-pub no-reply : (c : Connection) (random d : List ℕ) (r : Record) (rs : List Record) → replySize (judgedRecord (c .handshake) random d r .answer) ≡ 0
-    → firstReply (c .handshake) random d (r ∷ rs) ≡ []
+pub no-reply : (c : Connection) (random d : List ℕ) (r : Record) (rs : List Record) → replySize (toldRecord c random d r .answer) ≡ 0
+    → firstReply c random d (r ∷ rs) ≡ []
 unfolding firstReply
-no-reply c random d r rs e = ap (λ n. take n (judgedRecord (c .handshake) random d r .handshake .kept .reply)) e
+no-reply c random d r rs e = ap (λ n. take n (keptBy (toldRecord c random d r .beside) (toldRecord c random d r .connection) .reply)) e
 
-module _ (c : Connection) (d random out : List ℕ) (r : Record) (rs : List Record) (f : framingOf d ≡ framed (r ∷ rs)) (z : replySize (judgedRecord (c .handshake) random d r .answer) ≡ 0) where
+module _ (c : Connection) (d random out : List ℕ) (r : Record) (rs : List Record) (f : framingOf d ≡ framed (r ∷ rs)) (z : replySize (toldRecord c random d r .answer) ≡ 0) where
   unwritten : {s : Step} → CallRow c (receive d random out) s → (s .output ≡ out) × (writtenBy (s .result) ≡ 0)
   unwritten (receive-16 n) = (refl, refl)
   unwritten (receive-6 e l) = (refl, refl)
   unwritten (receive-framing e l g) = (refl, refl)
   unwritten (receive-records {rs = qs} reply e l g more sends) =
-      let none : reply ≡ [] = sym (first-is random d more reply sends) ∙ ap (firstReply (c .handshake) random d) (framed-one qs (r ∷ rs) (framingOf d) g f) ∙ no-reply c random d r rs z in
+      let none : reply ≡ [] = sym (first-is random d more reply sends) ∙ ap (firstReply c random d) (framed-one qs (r ∷ rs) (framingOf d) g f) ∙ no-reply c random d r rs z in
       (ap (laidOver out 0) none ∙ laid-nothing out, ap length none)
 
 pub nothing-written : NothingWrittenWithoutReply
@@ -105,34 +107,34 @@ pub refused-done : {P : Type 0} (x : Refusal) → O.Refused x ≡ O.Done → P
 refused-done x e = let z : _≡_ {A = ℕ} 0 1 = cc in absurd (omega arith)
 
 data-after : (c : Connection) (bytes out : List ℕ) {s : Step} → CallRow c (send-data bytes out) s → outcomeIn (s .result) ≡ O.Done
-    → s .connection .handshake ≡ afterSending true (c .handshake) (take (writtenBy (s .result)) (s .output))
+    → s .connection ≡ afterSending true c (take (writtenBy (s .result)) (s .output))
 data-after c bytes out (data-16 b) x = refused-done X.Argument x
 data-after c bytes out (data-7 g e) x = refused-done X.Ended x
 data-after c bytes out (data-8 g e n) x = refused-done X.NotAllowed x
 data-after c bytes out (data-15 g e n) x = refused-done X.Spent x
 data-after c bytes out (data-6 g e n l) x = refused-done X.Room x
 data-after c bytes out (data-sent g e n l) x =
-    ap (afterSending true (c .handshake)) (sym (laid-front out (nextProtected (c .handshake) C.Data bytes)))
+    ap (afterSending true c) (sym (laid-front out (nextProtected (c .handshake) C.Data bytes)))
 
 pub data-changes-only : DataChangesOnly
 unfolding DataChangesOnly stepOf
 data-changes-only c bytes out x = data-after c bytes out (call-of c (send-data bytes out)) x
 
-alert-left : (protected : Bool) (h : Handshake) (bytes : List ℕ) → afterAlert protected h bytes ≡ afterSending protected h bytes
-alert-left true h bytes = refl
-alert-left false h bytes = refl
+alert-left : (protected : Bool) (c : Connection) (bytes : List ℕ) → afterSend protected c bytes ≡ afterSending protected c bytes
+alert-left true c bytes = refl
+alert-left false c bytes = refl
 
 alert-after : (c : Connection) (protected : Bool) (level description : ℕ) (answered out : List ℕ) {s : Step}
     → CallRow c (send-alert protected level description answered out) s → outcomeIn (s .result) ≡ O.Done
-    → s .connection .handshake ≡ afterSending protected (c .handshake) (take (writtenBy (s .result)) (s .output))
+    → s .connection ≡ afterSending protected c (take (writtenBy (s .result)) (s .output))
 alert-after c protected level description answered out (alert-16 b) x = refused-done X.Argument x
 alert-after c protected level description answered out (alert-7 g e) x = refused-done X.Ended x
 alert-after c protected level description answered out (alert-8 g e f) x = refused-done X.NotAllowed x
 alert-after c protected level description answered out (alert-15 g e n) x = refused-done X.Spent x
 alert-after c protected level description answered out (alert-6 g e n l) x = refused-done X.Room x
 alert-after c protected level description answered out (alert-sent {l = k} {k = m} g e n l) x =
-    let bytes : List ℕ = nextAlert protected (c .handshake) (alertBody k m answered) in
-    alert-left protected (c .handshake) bytes ∙ ap (afterSending protected (c .handshake)) (sym (laid-front out bytes))
+    let bytes : List ℕ = nextAlert protected (senderOf protected c) (alertBody k m answered) in
+    alert-left protected c bytes ∙ ap (afterSending protected c) (sym (laid-front out bytes))
 
 pub alert-changes-only : AlertChangesOnly
 unfolding AlertChangesOnly stepOf
@@ -141,14 +143,14 @@ alert-changes-only c protected level description answered out x =
 
 -- ---- the numbers of the list
 
-fault-listed : (fault : Fault) → (1 ≤ faultNumber fault) × (faultNumber fault ≤ 18)
+fault-listed : (fault : Fault) → (1 ≤ faultNumber fault) × (faultNumber fault ≤ 17)
 fault-listed F.Size = (lit≤ tt, lit≤ tt)
 fault-listed F.Header = (lit≤ tt, lit≤ tt)
 fault-listed F.Kind = (lit≤ tt, lit≤ tt)
 fault-listed F.Fragment = (lit≤ tt, lit≤ tt)
 fault-listed F.Ninth = (lit≤ tt, lit≤ tt)
 
-listed : (x : Refusal) → (1 ≤ refusalNumber x) × (refusalNumber x ≤ 18)
+listed : (x : Refusal) → (1 ≤ refusalNumber x) × (refusalNumber x ≤ 17)
 listed (X.Framing fault) = fault-listed fault
 listed X.Room = (lit≤ tt, lit≤ tt)
 listed X.Ended = (lit≤ tt, lit≤ tt)
@@ -162,7 +164,6 @@ listed X.Checksum = (lit≤ tt, lit≤ tt)
 listed X.Spent = (lit≤ tt, lit≤ tt)
 listed X.Argument = (lit≤ tt, lit≤ tt)
 listed X.WrongFinished = (lit≤ tt, lit≤ tt)
-listed X.HelloWhileOpen = (lit≤ tt, lit≤ tt)
 
 pub refused-by-the-list : RefusedByTheList
 unfolding RefusedByTheList

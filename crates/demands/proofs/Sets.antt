@@ -23,24 +23,25 @@ use Rattle.connection.proofs.Replying.{reply-size}
 use Rattle.demands.specs.Table.{Greets, row-reply, row-hello-malformed, row-unacceptable}
 use Rattle.demands.specs.Sets.{Brings, AnsweredAlike, Sets}
 use Rattle.demands.proofs.Table.{row-is}
+use Rattle.connection.specs.declared.sent.SentRecords.{SentRecords}
 
-module _ (h : Handshake) (random d e : List ℕ) (r q : Record) (lr : length random ≡ 16) (li : length (h .id) ≡ 8)
+module _ (h : Handshake) (sent : SentRecords) (random d e : List ℕ) (r q : Record) (lr : length random ≡ 16) (li : length (h .id) ≡ 8)
     (g : Greets h d r) (k : Greets h e q) where
   by-heard : (x : Heard) → heardOf (fragmentOf d r) (h .id) ≡ x → heardOf (fragmentOf e q) (h .id) ≡ x
-      → judgedRecord h random d r .answer ≡ judgedRecord h random e q .answer
+      → judgedRecord h sent random d r .answer ≡ judgedRecord h sent random e q .answer
   by-heard (H.Accepted plan) a b =
-      ap (λ (j : Judged). j .answer) (row-is h random d r (row-reply plan g a))
+      ap (λ (j : Judged). j .answer) (row-is h sent random d r (row-reply plan g a))
       ∙ ap W.Reply
       (reply-size (planted h) random (fragmentOf d r) plan lr li ∙ sym (reply-size (planted h) random (fragmentOf e q) plan lr li))
-      ∙ sym (ap (λ (j : Judged). j .answer) (row-is h random e q (row-reply plan k b)))
+      ∙ sym (ap (λ (j : Judged). j .answer) (row-is h sent random e q (row-reply plan k b)))
   by-heard (H.Malformed fault) a b =
-      ap (λ (j : Judged). j .answer) (row-is h random d r (row-hello-malformed fault g a))
-      ∙ sym (ap (λ (j : Judged). j .answer) (row-is h random e q (row-hello-malformed fault k b)))
+      ap (λ (j : Judged). j .answer) (row-is h sent random d r (row-hello-malformed fault g a))
+      ∙ sym (ap (λ (j : Judged). j .answer) (row-is h sent random e q (row-hello-malformed fault k b)))
   by-heard (H.Unacceptable condition) a b =
-      ap (λ (j : Judged). j .answer) (row-is h random d r (row-unacceptable condition g a))
-      ∙ sym (ap (λ (j : Judged). j .answer) (row-is h random e q (row-unacceptable condition k b)))
+      ap (λ (j : Judged). j .answer) (row-is h sent random d r (row-unacceptable condition g a))
+      ∙ sym (ap (λ (j : Judged). j .answer) (row-is h sent random e q (row-unacceptable condition k b)))
 
-answered : (h : Handshake) (random d e : List ℕ) (r q : Record) (v w : Values)
+answered : (h : Handshake) (sent : SentRecords) (random d e : List ℕ) (r q : Record) (v w : Values)
     → length random ≡ 16
     → length (h .id) ≡ 8
     → blanked v ≡ blanked w
@@ -48,9 +49,9 @@ answered : (h : Handshake) (random d e : List ℕ) (r q : Record) (v w : Values)
     → Brings e q w
     → Greets h d r
     → Greets h e q
-    → judgedRecord h random d r .answer ≡ judgedRecord h random e q .answer
-answered h random d e r q v w lr li same x y g k =
-    by-heard h random d e r q lr li g k (heardOf (fragmentOf d r) (h .id)) refl
+    → judgedRecord h sent random d r .answer ≡ judgedRecord h sent random e q .answer
+answered h sent random d e r q v w lr li same x y g k =
+    by-heard h sent random d e r q lr li g k (heardOf (fragmentOf d r) (h .id)) refl
     (ap (λ (m : List ℕ). heardOf m (h .id)) (y .message)
     ∙ sym (alike-heard v w (h .id) same (x .sound) (y .sound))
     ∙ sym (ap (λ (m : List ℕ). heardOf m (h .id)) (x .message)))

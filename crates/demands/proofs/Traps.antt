@@ -41,28 +41,46 @@ use Rattle.record.specs.declared.keys.Keys.{Keys}
 use Rattle.demands.specs.Genuine.{Protected, keysOf, unitKey}
 use Rattle.demands.specs.Table.{Row, New, Guarded, protectedAllowed, row-ended, row-repeated, row-malformed, row-data, row-critical}
 use Rattle.demands.specs.Calls.{Chain, chain-end, chain-more}
-use Rattle.demands.specs.Events.{connectionOf}
 use Rattle.demands.specs.Traps.{longProtected, lastProtected, JustOpen, EmptyThenData, TwiceInOne, ClosedBetween}
-use Rattle.demands.proofs.Table.{row-is}
+use Rattle.demands.specs.Asked.{Tells, tells, asks-protected}
+use Rattle.demands.proofs.Asked.{left-of, tells-is, tells-seven}
+use Rattle.connection.specs.Told.{leftBy}
+use Rattle.connection.specs.declared.asked.Whom.the-variants as Y
+use Rattle.connection.specs.declared.told.Told.{Told}
 use Rattle.demands.proofs.Calls.{by-chain, call-is}
 use Rattle.demands.proofs.Refusals.{no-reply}
 use Rattle.demands.proofs.Wire.{front-framed, last-framed, sized, size-protected, protected-read, protected-framed, protected-fragment, long-size, long-read, long-fragment, behind}
+use Rattle.connection.specs.declared.sent.SentRecords.{SentRecords}
 
 -- the result of a receive, by its chain, where the first record gets no reply
-result-by : (c : Connection) (d random out : List ℕ) (r : Record) (rs : List Record) (j : Judged) (answers : List Answer) (last : Handshake)
-    → length random ≡ 16 → 128 ≤ length out → framingOf d ≡ framed (r ∷ rs) → Row (c .handshake) random d r j → replySize (j .answer) ≡ 0
-    → Chain random d (j .handshake) rs answers last
-    → stepOf c (receive d random out) .result ≡ received (T.Records (suc (length rs))) (slotsOf (j .answer ∷ answers)) 0
-result-by c d random out r rs j answers last e l f row z more =
+result-by : (c : Connection) (d random out : List ℕ) (r : Record) (rs : List Record) (x : Told) (answers : List Answer) (last : Connection)
+    → length random ≡ 16 → 128 ≤ length out → framingOf d ≡ framed (r ∷ rs) → Tells c random d r x → replySize (x .answer) ≡ 0
+    → Chain random d (x .connection) rs answers last
+    → stepOf c (receive d random out) .result ≡ received (T.Records (suc (length rs))) (slotsOf (x .answer ∷ answers)) 0
+result-by c d random out r rs x answers last e l f row z more =
     ap (λ s. s .result) (call-is c (by-chain c {out = out} e l f (chain-more row more)))
-    ∙ ap (λ x. received (T.Records (suc (length rs))) (slotsOf (j .answer ∷ answers)) (length x))
-    (no-reply c random d r rs (ap (λ x. replySize (x .answer)) (row-is (c .handshake) random d r row) ∙ z))
+    ∙ ap (λ y. received (T.Records (suc (length rs))) (slotsOf (x .answer ∷ answers)) (length y))
+    (no-reply c random d r rs (ap (λ y. replySize (y .answer)) (tells-is c random d r row) ∙ z))
 
-left-by : (c : Connection) (d random out : List ℕ) (r : Record) (rs : List Record) (j : Judged) (answers : List Answer) (last : Handshake)
-    → length random ≡ 16 → 128 ≤ length out → framingOf d ≡ framed (r ∷ rs) → Row (c .handshake) random d r j
-    → Chain random d (j .handshake) rs answers last → stepOf c (receive d random out) .connection ≡ connectionOf last
-left-by c d random out r rs j answers last e l f row more =
+left-by : (c : Connection) (d random out : List ℕ) (r : Record) (rs : List Record) (x : Told) (answers : List Answer) (last : Connection)
+    → length random ≡ 16 → 128 ≤ length out → framingOf d ≡ framed (r ∷ rs) → Tells c random d r x
+    → Chain random d (x .connection) rs answers last → stepOf c (receive d random out) .connection ≡ last
+left-by c d random out r rs x answers last e l f row more =
     ap (λ s. s .connection) (call-is c (by-chain c {out = out} e l f (chain-more row more)))
+
+-- a protected record that is no handshake record is for the open handshake
+abbrev openBy : Connection → Judged → Told
+openBy c j = record { answer = j .answer; connection = leftBy c Y.Open j; beside = false }
+
+open-tells : (c : Connection) (random d : List ℕ) (r : Record) (j : Judged) → c .handshake .state ≡ S.Open → r .protected ≡ true → (r .content ≡ C.Handshake → ⊥)
+    → Row (c .handshake) (c .sent) random d r j → Tells c random d r (openBy c j)
+open-tells c random d r j o p n row = tells (asks-protected o p (λ q. n (q .handshake))) row (left-of c j Y.Open)
+
+data-no : C.Data ≡ C.Handshake → ⊥
+data-no z = let w : _≡_ {A = ℕ} 0 1 = cc in omega arith
+
+alert-no : C.Alert ≡ C.Handshake → ⊥
+alert-no z = let w : _≡_ {A = ℕ} 0 1 = cc in omega arith
 
 -- the windows
 unfoldable pub w₀ : ℕ → Window
@@ -108,41 +126,46 @@ module _ (h : Handshake) (is-open : h .state ≡ S.Open) (width : ℕ) (held : H
         accepted = ap (acceptOf (w₇ width)) e ∙ takes-8 width held;
       }
 
-  repeated-7 : (random d : List ℕ) (r : Record) (c : List ℕ) → r .number ≡ 7 → Protected (keysOf h) d r c
-      → Row (withWindow h (w₇ width)) random d r (refusing X.Repeated (withWindow h (w₇ width)))
-  repeated-7 random d r c e s = row-repeated c (guarded (w₇ width) r (s .is-protected)) s (ap (acceptOf (w₇ width)) e ∙ again-7 width held)
+  repeated-7 : (sent : SentRecords) (random d : List ℕ) (r : Record) (c : List ℕ) → r .number ≡ 7 → Protected (keysOf h) d r c
+      → Row (withWindow h (w₇ width)) sent random d r (refusing X.Repeated (withWindow h (w₇ width)))
+  repeated-7 sent random d r c e s = row-repeated c (guarded (w₇ width) r (s .is-protected)) s (ap (acceptOf (w₇ width)) e ∙ again-7 width held)
 
 -- ---- a record alone in its datagram
 
 module _ (k : Keys) (content : Content) (s : ℕ) (inside : s ≤ 65535) (body : List ℕ) where
-  unfoldable pub alone : Record
-  alone = readBack false true content s (length body + sizeOf (k .mac))
+  unfoldable pub single : Record
+  single = readBack false true content s (length body + sizeOf (k .mac))
 
-  pub alone-framed : length body ≤ 1300 → framingOf (lastProtected k content s body) ≡ framed (alone ∷ [])
-  unfolding alone
-  alone-framed most = protected-framed content s inside (unitKey k s) (k .mac) body (omega (arith, size-most (k .mac)))
+  pub single-framed : length body ≤ 1300 → framingOf (lastProtected k content s body) ≡ framed (single ∷ [])
+  unfolding single
+  single-framed most = protected-framed content s inside (unitKey k s) (k .mac) body (omega (arith, size-most (k .mac)))
 
-  pub alone-protected : Protected k (lastProtected k content s body) alone body
-  unfolding alone
-  alone-protected = record { is-protected = refl; is-coded = protected-fragment content s inside (unitKey k s) (k .mac) body }
+  pub single-protected : Protected k (lastProtected k content s body) single body
+  unfolding single
+  single-protected = record { is-protected = refl; is-coded = protected-fragment content s inside (unitKey k s) (k .mac) body }
 
 pub empty-then-data : EmptyThenData stepOf
-unfolding EmptyThenData alone w₀
+unfolding EmptyThenData single w₀
 empty-then-data c o random out bytes lr lo most =
     let h : Handshake = c .handshake in
     let k : Keys = keysOf h in
     let d : List ℕ = lastProtected k C.Data 7 [] in
     let e : List ℕ = lastProtected k C.Data 7 bytes in
-    let r : Record = alone k C.Data 7 (omega arith) [] in
-    let q : Record = alone k C.Data 7 (omega arith) bytes in
-    let row : Row h random d r (refusing X.Malformed (withWindow h (w₇ (o .width))))
-    = row-malformed [] (w₇ (o .width)) (new-7 h (o .is-open) (o .width) (o .held) (o .window-is) d r [] refl (alone-protected k C.Data 7 (omega arith) [])) refl in
-    let again : Row (withWindow h (w₇ (o .width))) random e q (refusing X.Repeated (withWindow h (w₇ (o .width))))
-    = repeated-7 h (o .is-open) (o .width) (o .held) (o .window-is) random e q bytes refl (alone-protected k C.Data 7 (omega arith) bytes) in
-    let f = alone-framed k C.Data 7 (omega arith) [] (omega arith) in (
-      result-by c d random out r [] (refusing X.Malformed (withWindow h (w₇ (o .width)))) [] (withWindow h (w₇ (o .width))) lr lo f row refl chain-end,
-      ap (λ x. stepOf x (receive e random out) .result) (left-by c d random out r [] (refusing X.Malformed (withWindow h (w₇ (o .width)))) [] (withWindow h (w₇ (o .width))) lr lo f row chain-end)
-          ∙ result-by (connectionOf (withWindow h (w₇ (o .width)))) e random out q [] (refusing X.Repeated (withWindow h (w₇ (o .width)))) [] (withWindow h (w₇ (o .width))) lr lo (alone-framed k C.Data 7 (omega arith) bytes most) again refl chain-end,
+    let r : Record = single k C.Data 7 (omega arith) [] in
+    let q : Record = single k C.Data 7 (omega arith) bytes in
+    let j : Judged = refusing X.Malformed (withWindow h (w₇ (o .width))) in
+    let g : Judged = refusing X.Repeated (withWindow h (w₇ (o .width))) in
+    let row : Row h (c .sent) random d r j
+    = row-malformed [] (w₇ (o .width)) (new-7 h (o .is-open) (o .width) (o .held) (o .window-is) d r [] refl (single-protected k C.Data 7 (omega arith) [])) refl in
+    let c₁ : Connection = leftBy c Y.Open j in
+    let again : Row (withWindow h (w₇ (o .width))) (c₁ .sent) random e q g
+    = repeated-7 h (o .is-open) (o .width) (o .held) (o .window-is) (c₁ .sent) random e q bytes refl (single-protected k C.Data 7 (omega arith) bytes) in
+    let first = open-tells c random d r j (o .is-open) refl data-no row in
+    let f = single-framed k C.Data 7 (omega arith) [] (omega arith) in (
+      result-by c d random out r [] (openBy c j) [] c₁ lr lo f first refl chain-end,
+      ap (λ x. stepOf x (receive e random out) .result) (left-by c d random out r [] (openBy c j) [] c₁ lr lo f first chain-end)
+          ∙ result-by c₁ e random out q [] (openBy c₁ g) [] (leftBy c₁ Y.Open g) lr lo (single-framed k C.Data 7 (omega arith) bytes most)
+          (open-tells c₁ random e q g (o .is-open) refl data-no again) refl chain-end,
     )
 
 -- ---- records one behind the other
@@ -211,11 +234,15 @@ twice-in-one c o random out one two lr lo some most most′ =
     let nonempty : 1 ≤ length d = omega (arith, length-append a b, long-size C.Data 7 i (unitKey k 7) (k .mac) one) in
     let f : framingOf d ≡ framed (r ∷ q ∷ [])
     = sized d nonempty size ∙ front-by k C.Data C.Data 7 7 i i one two b most 7 0 ∙ ap (after (r ∷ [])) (end-by k C.Data 7 i two 6 n) in
-    let first : Row h random d r (judged (W.Data 7 5 (length one)) (withWindow h (w₇ (o .width))))
+    let one-j : Judged = judged (W.Data 7 5 (length one)) (withWindow h (w₇ (o .width))) in
+    let two-j : Judged = refusing X.Repeated (withWindow h (w₇ (o .width))) in
+    let c₁ : Connection = leftBy c Y.Open one-j in
+    let first : Row h (c .sent) random d r one-j
     = row-data one (w₇ (o .width)) (new-7 h (o .is-open) (o .width) (o .held) (o .window-is) d r one refl (front-protected k C.Data C.Data 7 7 i i one two b most)) refl some in
-    let second : Row (withWindow h (w₇ (o .width))) random d q (refusing X.Repeated (withWindow h (w₇ (o .width))))
-    = repeated-7 h (o .is-open) (o .width) (o .held) (o .window-is) random d q two refl (end-protected k C.Data 7 i two a n at) in
-    result-by c d random out r (q ∷ []) (judged (W.Data 7 5 (length one)) (withWindow h (w₇ (o .width)))) (W.Refused X.Repeated ∷ []) (withWindow h (w₇ (o .width))) lr lo f first refl (chain-more second chain-end)
+    let second : Row (withWindow h (w₇ (o .width))) (c₁ .sent) random d q two-j
+    = repeated-7 h (o .is-open) (o .width) (o .held) (o .window-is) (c₁ .sent) random d q two refl (end-protected k C.Data 7 i two a n at) in
+    result-by c d random out r (q ∷ []) (openBy c one-j) (W.Refused X.Repeated ∷ []) (leftBy c₁ Y.Open two-j) lr lo f
+    (open-tells c random d r one-j (o .is-open) refl data-no first) refl (chain-more (open-tells c₁ random d q two-j (o .is-open) refl data-no second) chain-end)
 
 pub closed-between : ClosedBetween stepOf
 unfolding ClosedBetween at-front at-end w₀
@@ -241,10 +268,14 @@ closed-between c o random out one two description checksum lr lo some most most�
     let f : framingOf d ≡ framed (r ∷ q ∷ p ∷ [])
     = sized d nonempty size ∙ front-by k C.Data C.Data 7 7 i₇ i₇ one two (b ++ e) most 7 0
     ∙ ap (after (r ∷ [])) (front-by k C.Alert C.Data 8 9 i₈ i₉ alert two e (omega arith) 6 n ∙ ap (after (q ∷ [])) (end-by k C.Data 9 i₉ two 5 m)) in
-    let first : Row h random d r (judged (W.Data 7 5 (length one)) (withWindow h (w₇ (o .width))))
+    let one-j : Judged = judged (W.Data 7 5 (length one)) (withWindow h (w₇ (o .width))) in
+    let two-j : Judged = judged (W.Critical description) (withState (withWindow h (w₈ (o .width))) S.Closed) in
+    let c₁ : Connection = leftBy c Y.Open one-j in
+    let c₂ : Connection = leftBy c₁ Y.Open two-j in
+    let first : Row h (c .sent) random d r one-j
     = row-data one (w₇ (o .width)) (new-7 h (o .is-open) (o .width) (o .held) (o .window-is) d r one refl (front-protected k C.Data C.Data 7 7 i₇ i₇ one two (b ++ e) most)) refl some in
-    let second : Row (withWindow h (w₇ (o .width))) random d q (judged (W.Critical description) (withState (withWindow h (w₈ (o .width))) S.Closed))
+    let second : Row (withWindow h (w₇ (o .width))) (c₁ .sent) random d q two-j
     = row-critical alert (w₈ (o .width)) (record { level = L.Critical; description = description; checksum = checksum }) (new-8 h (o .is-open) (o .width) (o .held) (o .window-is) d q alert refl (mid-protected k C.Alert 8 i₈ alert e a n at)) refl (alert-back L.Critical description checksum small) refl in
-    let third : Row (withState (withWindow h (w₈ (o .width))) S.Closed) random d p (refusing X.Ended (withState (withWindow h (w₈ (o .width))) S.Closed)) = row-ended refl in
-    result-by c d random out r (q ∷ p ∷ []) (judged (W.Data 7 5 (length one)) (withWindow h (w₇ (o .width)))) (W.Critical description ∷ W.Refused X.Ended ∷ []) (withState (withWindow h (w₈ (o .width))) S.Closed) lr lo f first refl
-    (chain-more second (chain-more third chain-end))
+    result-by c d random out r (q ∷ p ∷ []) (openBy c one-j) (W.Critical description ∷ W.Refused X.Ended ∷ []) c₂ lr lo f
+    (open-tells c random d r one-j (o .is-open) refl data-no first) refl
+    (chain-more (open-tells c₁ random d q two-j (o .is-open) refl alert-no second) (chain-more (tells-seven c₂ random d p refl) chain-end))

@@ -1,7 +1,7 @@
 -- It works. The idea: each of the four datagrams is one record, framed and read back as it was made (`Wire`); its row of the table is
 -- given by how it was made; and what each row leaves is what the next one asks for.
 use mathlib.Core.Path.{_≡_, refl, sym, _∙_, ap, ap₂, subst}
-use mathlib.Core.Logic.{_⊎_, inl, inr}
+use mathlib.Core.Logic.{_⊎_, inl, inr, _≢_}
 use mathlib.Core.Bool.{Bool, true, false}
 use mathlib.Core.List.{List, [], _∷_, _++_}
 use Prim.Native.Nat.{ℕ, _+_, _-_, _≤_, _<_}
@@ -45,7 +45,9 @@ use Rattle.message.proofs.Written.{Filled, filled}
 use Rattle.message.proofs.FinishedLaws.{finished-right}
 use Rattle.connection.specs.Answer.{judged, handedOf, replySize}
 use Rattle.connection.specs.Calls.{sessionOf}
-use Rattle.connection.specs.Handshake.{withState, withWindow}
+use Rattle.connection.specs.Handshake.{withState, withWindow, planted, keptHello, keptReply, newcomerTo, newHandshake, noneStarted}
+use Rattle.connection.specs.Sent.{noRecords}
+use Rattle.connection.specs.Told.{sentAfter, leftBy, toldBy, keptBy}
 use Rattle.connection.specs.Judge.{judgedRecord, fragmentOf}
 use Rattle.connection.specs.Receive.{firstReply, sentBy, slotsOf}
 use Rattle.connection.specs.Reply.{replyTo, expectedOf, answeredWith, ourHello, ourFinished}
@@ -59,37 +61,42 @@ use Rattle.connection.specs.declared.handshake.Session.{Session}
 use Rattle.demands.specs.Runs.{receive, received, Step, stepOf}
 use Rattle.record.specs.declared.keys.Keys.{Keys}
 use Rattle.demands.specs.Genuine.{Protected, RecordOf, keysOf, unitKey}
-use Rattle.demands.specs.Table.{Row, New, Guarded, Greets, isHello, row-reply, row-change, row-open, row-data}
+use Rattle.demands.specs.Table.{Row, New, Guarded, Greets, isHello, Hears, row-reply, row-change, row-open, row-data}
 use Rattle.demands.specs.Calls.{chain-end, chain-more, taken}
-use Rattle.demands.specs.Events.{connectionOf}
 use Rattle.demands.specs.Runs.{freshWith}
-use Rattle.demands.specs.Works.{clearDatagram, protectedDatagram, keysAfter, oneAnswer, Worked, Works}
+use Rattle.demands.specs.Works.{clearDatagram, protectedDatagram, keysAfter, oneAnswer, Worked, Works, Rebooted, Reboots}
 use Rattle.demands.proofs.Genuine.{true-false}
-use Rattle.demands.proofs.Table.{row-is}
+use Rattle.demands.proofs.Asked.{tells-is, left-of}
 use Rattle.demands.proofs.Calls.{by-chain, call-is}
 use Rattle.demands.proofs.Refusals.{laid-nothing}
 use Rattle.demands.proofs.HandedOut.{handed-part}
 use Rattle.demands.proofs.Wire.{clear-framed, clear-fragment, protected-framed, protected-fragment}
+use Rattle.connection.specs.Connection.{alone, connectionOf}
+use Rattle.connection.specs.declared.sent.SentRecords.{SentRecords}
+use Rattle.connection.specs.declared.handshake.Kept.{Kept}
+use Rattle.connection.specs.declared.told.Told.{Told}
+use Rattle.connection.specs.declared.asked.Whom.the-variants as Y
+use Rattle.demands.specs.Asked.{RightBeside, Tells, tells, asks-only, asks-new-hello, asks-clear, asks-right, asks-protected, left-only, left-greeted, left-started, left-replaced}
 
 -- ---- a datagram of one record
 
-one-record : (c : Connection) (d random out : List ℕ) (r : Record) (j : Judged) → length random ≡ 16 → 128 ≤ length out → framingOf d ≡ framed (r ∷ [])
-    → Row (c .handshake) random d r j
-    → stepOf c (receive d random out) ≡ record { result = oneAnswer (j .answer) (length (sentBy j)); output = laidOver out 0 (sentBy j); connection = connectionOf (j .handshake) }
+one-record : (c : Connection) (d random out : List ℕ) (r : Record) (x : Told) → length random ≡ 16 → 128 ≤ length out → framingOf d ≡ framed (r ∷ [])
+    → Tells c random d r x
+    → stepOf c (receive d random out) ≡ record { result = oneAnswer (x .answer) (length (sentBy x)); output = laidOver out 0 (sentBy x); connection = x .connection }
 unfolding firstReply
-one-record c d random out r j e l f row =
+one-record c d random out r x e l f row =
     call-is c (by-chain c {out = out} e l f (chain-more row chain-end))
-    ∙ ap (λ x. taken out (r ∷ []) (j .answer ∷ []) (sentBy x) (j .handshake)) (row-is (c .handshake) random d r row)
+    ∙ ap (λ y. taken out (r ∷ []) (x .answer ∷ []) (sentBy y) (x .connection)) (tells-is c random d r row)
 
 -- one that sends nothing
-one-silent : (c : Connection) (d random out : List ℕ) (r : Record) (j : Judged) → length random ≡ 16 → 128 ≤ length out → framingOf d ≡ framed (r ∷ [])
-    → Row (c .handshake) random d r j → replySize (j .answer) ≡ 0
-    → stepOf c (receive d random out) ≡ record { result = oneAnswer (j .answer) 0; output = out; connection = connectionOf (j .handshake) }
-one-silent c d random out r j e l f row z =
-    let none : sentBy j ≡ [] = ap (λ n. take n (j .handshake .kept .reply)) z in
-    one-record c d random out r j e l f row
-    ∙ (λ i. record { result = oneAnswer (j .answer) (length (none i)); output = laidOver out 0 (none i); connection = connectionOf (j .handshake) })
-    ∙ λ i. record { result = oneAnswer (j .answer) 0; output = laid-nothing out i; connection = connectionOf (j .handshake) }
+one-silent : (c : Connection) (d random out : List ℕ) (r : Record) (x : Told) → length random ≡ 16 → 128 ≤ length out → framingOf d ≡ framed (r ∷ [])
+    → Tells c random d r x → replySize (x .answer) ≡ 0
+    → stepOf c (receive d random out) ≡ record { result = oneAnswer (x .answer) 0; output = out; connection = x .connection }
+one-silent c d random out r x e l f row z =
+    let none : sentBy x ≡ [] = ap (λ n. take n (keptBy (x .beside) (x .connection) .reply)) z in
+    one-record c d random out r x e l f row
+    ∙ (λ i. record { result = oneAnswer (x .answer) (length (none i)); output = laidOver out 0 (none i); connection = x .connection })
+    ∙ λ i. record { result = oneAnswer (x .answer) 0; output = laid-nothing out i; connection = x .connection }
 
 -- ---- an accepted hello begins with byte 1
 
@@ -150,15 +157,16 @@ pub record Walk (id secret : List ℕ) (width : ℕ) (random bytes : List ℕ) :
   pub framed₂ : framingOf d₂ ≡ framed (r₂ ∷ [])
   pub framed₃ : framingOf d₃ ≡ framed (r₃ ∷ [])
   pub framed₄ : framingOf d₄ ≡ framed (r₄ ∷ [])
-  pub row₁ : Row (freshWith id secret width) random d₁ r₁ (judged (W.Reply reply) h₁)
-  pub row₂ : Row h₁ random d₂ r₂ (judged W.Spec h₂)
-  pub row₃ : Row h₂ random d₃ r₃ (judged W.Open h₃)
-  pub row₄ : Row h₃ random d₄ r₄ (judged (W.Data 1 3 (length bytes)) h₄)
+  pub row₁ : (s : SentRecords) → Row (freshWith id secret width) s random d₁ r₁ (judged (W.Reply reply) h₁)
+  pub row₂ : (s : SentRecords) → Row h₁ s random d₂ r₂ (judged W.Spec h₂)
+  pub row₃ : (s : SentRecords) → Row h₂ s random d₃ r₃ (judged W.Open h₃)
+  pub row₄ : (s : SentRecords) → Row h₃ s random d₄ r₄ (judged (W.Data 1 3 (length bytes)) h₄)
   pub replied-is : h₁ .state ≡ S.Replied
   pub spec-is : h₂ .state ≡ S.Spec
   pub open-is : h₃ .state ≡ S.Open
   pub window-is : h₃ .protection .window ≡ windowOf width (0 ∷ [])
   pub next-is : h₃ .protection .protected ≡ 1
+  pub protected₄ : r₄ .protected ≡ true
 
 module _ (id secret : List ℕ) (width : ℕ) (held : Held width) (m random out bytes : List ℕ) (plan : Plan) (lr : length random ≡ 16) (lo : 128 ≤ length out) (e : heardOf m id ≡ H.Accepted plan) (some : 1 ≤ length bytes) (most : length bytes ≤ 1300) where
   abbrev session : Session
@@ -194,26 +202,48 @@ module _ (id secret : List ℕ) (width : ℕ) (held : Held width) (m random out 
   unfolding r₁
   hello₁ = eq-eqb (getD (fragmentOf d₁ r₁) 0 0) 1 (ap (λ f. getD f 0 0) fragment₁ ∙ begins m id plan e)
 
-  row₁ : Row (freshWith id secret width) random d₁ r₁ (judged (W.Reply (length (replyTo session random m plan))) h₁)
+  row₁ : (s : SentRecords) → Row (freshWith id secret width) s random d₁ r₁ (judged (W.Reply (length (replyTo session random m plan))) h₁)
   unfolding h₁ r₁
-  row₁ =
-      subst (λ f. Row (freshWith id secret width) random d₁ r₁ (judged (W.Reply (length (replyTo session random f plan))) (answeredWith (freshWith id secret width) random f plan))) fragment₁
+  row₁ s =
+      subst (λ f. Row (freshWith id secret width) s random d₁ r₁ (judged (W.Reply (length (replyTo session random f plan))) (answeredWith (freshWith id secret width) random f plan))) fragment₁
       (row-reply plan (record { hello = hello₁; first = refl; another = inl refl }) (ap (λ f. heardOf f id) fragment₁ ∙ e))
 
-  sent₁ : sentBy (judged (W.Reply (length (replyTo session random m plan))) h₁) ≡ replyTo session random m plan
+  front₁ : take (length (replyTo session random m plan)) (h₁ .kept .reply) ≡ replyTo session random m plan
   unfolding h₁ answeredWith
-  sent₁ = take-at (replyTo session random m plan) (replicate (84 - length (replyTo session random m plan)) 0) (length (replyTo session random m plan)) refl
+  front₁ = take-at (replyTo session random m plan) (replicate (84 - length (replyTo session random m plan)) 0) (length (replyTo session random m plan)) refl
 
-  replied : stepOf (connectionOf (freshWith id secret width)) (receive (clearDatagram C.Handshake 0 m) random out)
+  -- the records sent then
+  list : SentRecords → SentRecords
+  list s = sentAfter s (h₁ .kept) (W.Reply (length (replyTo session random m plan)))
+
+  idle-not : S.Idle ≡ S.Open → ⊥
+  idle-not z = let w : _≡_ {A = ℕ} 0 1 = cc in omega arith
+
+  replied-not : h₁ .state ≡ S.Open → ⊥
+  unfolding h₁ answeredWith
+  replied-not z = let w : _≡_ {A = ℕ} 0 1 = cc in omega arith
+
+  replied-state : h₁ .state ≡ S.Replied
+  unfolding h₁ answeredWith
+  replied-state = refl
+
+  spec-not : S.Spec ≡ S.Open → ⊥
+  spec-not z = let w : _≡_ {A = ℕ} 0 1 = cc in omega arith
+
+  -- the hello, by whatever connection that leaves h₁ in its place
+  hello-step : (c : Connection) (x : Told) → Tells c random d₁ r₁ x → x .answer ≡ W.Reply (length (replyTo session random m plan))
+      → keptBy (x .beside) (x .connection) ≡ h₁ .kept
+      → stepOf c (receive (clearDatagram C.Handshake 0 m) random out)
       ≡ record {
         result = oneAnswer (W.Reply (length (replyTo session random m plan))) (length (replyTo session random m plan));
         output = laidOver out 0 (replyTo session random m plan);
-        connection = connectionOf h₁;
+        connection = x .connection;
       }
   unfolding d₁ r₁
-  replied =
-      one-record (connectionOf (freshWith id secret width)) d₁ random out r₁ (judged (W.Reply (length (replyTo session random m plan))) h₁) lr lo (clear-framed C.Handshake 0 (omega arith) m hello-some hello-most) row₁
-      ∙ λ i. record { result = oneAnswer (W.Reply (length (replyTo session random m plan))) (length (sent₁ i)); output = laidOver out 0 (sent₁ i); connection = connectionOf h₁ }
+  hello-step c x told ea ek =
+      let goes : sentBy x ≡ replyTo session random m plan = ap₂ (λ (a : Answer) (y : Kept). take (replySize a) (y .reply)) ea ek ∙ front₁ in
+      one-record c d₁ random out r₁ x lr lo (clear-framed C.Handshake 0 (omega arith) m hello-some hello-most) told
+      ∙ λ i. record { result = oneAnswer (ea i) (length (goes i)); output = laidOver out 0 (goes i); connection = x .connection }
 
   -- change cipher spec
   d₂ : List ℕ
@@ -229,14 +259,16 @@ module _ (id secret : List ℕ) (width : ℕ) (held : Held width) (m random out 
   unfolding d₂ r₂ isChange
   change₂ = ap isChange (clear-fragment C.ChangeCipherSpec 1 (omega arith) changeBytes (omega arith))
 
-  row₂ : Row h₁ random d₂ r₂ (judged W.Spec h₂)
+  row₂ : (s : SentRecords) → Row h₁ s random d₂ r₂ (judged W.Spec h₂)
   unfolding h₁ answeredWith h₂ r₂
-  row₂ = row-change refl refl refl change₂
+  row₂ s = row-change refl refl refl change₂
 
-  changed : stepOf (connectionOf h₁) (receive (clearDatagram C.ChangeCipherSpec 1 changeBytes) random out) ≡ record { result = oneAnswer W.Spec 0; output = out; connection = connectionOf h₂ }
+  change-step : (c : Connection) (x : Told) → Tells c random d₂ r₂ x → x .answer ≡ W.Spec
+      → stepOf c (receive (clearDatagram C.ChangeCipherSpec 1 changeBytes) random out) ≡ record { result = oneAnswer W.Spec 0; output = out; connection = x .connection }
   unfolding d₂ r₂
-  changed =
-      one-silent (connectionOf h₁) d₂ random out r₂ (judged W.Spec h₂) lr lo (clear-framed C.ChangeCipherSpec 1 (omega arith) changeBytes (omega arith) (omega arith)) row₂ refl
+  change-step c x told ea =
+      one-silent c d₂ random out r₂ x lr lo (clear-framed C.ChangeCipherSpec 1 (omega arith) changeBytes (omega arith) (omega arith)) told (ap replySize ea)
+      ∙ λ i. record { result = oneAnswer (ea i) 0; output = out; connection = x .connection }
 
   -- Finished
   d₃ : List ℕ
@@ -256,17 +288,19 @@ module _ (id secret : List ℕ) (width : ℕ) (held : Held width) (m random out 
   protected₃ =
       record { is-protected = refl; is-coded = protected-fragment C.Handshake 0 (omega arith) (unitKey k 0) (plan .mac) (finishedOf expected) }
 
-  row₃ : Row h₂ random d₃ r₃ (judged W.Open h₃)
+  row₃ : (s : SentRecords) → Row h₂ s random d₃ r₃ (judged W.Open h₃)
   unfolding h₁ answeredWith h₂ h₃ r₃ w₃
-  row₃ =
+  row₃ s =
       row-open (finishedOf expected) w₃
       (record { guarded = record { protection = refl; kind = refl }; coded = protected₃; arrived = arrivedOf width (0 ∷ []); accepted = takes-0 width held }) refl refl (finished-right expected (expected-size session random m plan))
 
-  opened : stepOf (connectionOf h₂) (receive (protectedDatagram k C.Handshake 0 (finishedOf expected)) random out) ≡ record { result = oneAnswer W.Open 0; output = out; connection = connectionOf h₃ }
+  finished-step : (c : Connection) (x : Told) → Tells c random d₃ r₃ x → x .answer ≡ W.Open
+      → stepOf c (receive (protectedDatagram k C.Handshake 0 (finishedOf expected)) random out) ≡ record { result = oneAnswer W.Open 0; output = out; connection = x .connection }
   unfolding d₃ r₃
-  opened =
-      one-silent (connectionOf h₂) d₃ random out r₃ (judged W.Open h₃) lr lo
-      (protected-framed C.Handshake 0 (omega arith) (unitKey k 0) (plan .mac) (finishedOf expected) (omega (arith, size-most (plan .mac), expected-size session random m plan))) row₃ refl
+  finished-step c x told ea =
+      one-silent c d₃ random out r₃ x lr lo
+      (protected-framed C.Handshake 0 (omega arith) (unitKey k 0) (plan .mac) (finishedOf expected) (omega (arith, size-most (plan .mac), expected-size session random m plan))) told (ap replySize ea)
+      ∙ λ i. record { result = oneAnswer (ea i) 0; output = out; connection = x .connection }
 
   -- data
   d₄ : List ℕ
@@ -285,16 +319,34 @@ module _ (id secret : List ℕ) (width : ℕ) (held : Held width) (m random out 
   unfolding d₄ r₄
   protected₄ = record { is-protected = refl; is-coded = protected-fragment C.Data 1 (omega arith) (unitKey k 1) (plan .mac) bytes }
 
-  row₄ : Row h₃ random d₄ r₄ (judged (W.Data 1 3 (length bytes)) h₄)
+  row₄ : (s : SentRecords) → Row h₃ s random d₄ r₄ (judged (W.Data 1 3 (length bytes)) h₄)
   unfolding h₁ answeredWith h₂ h₃ h₄ r₄ w₃ w₄
-  row₄ =
+  row₄ s =
       row-data bytes w₄ (record { guarded = record { protection = refl; kind = refl }; coded = protected₄; arrived = arrivedOf width (1 ∷ 0 ∷ []); accepted = takes-1 width held }) refl some
 
-  handed : stepOf (connectionOf h₃) (receive (protectedDatagram k C.Data 1 bytes) random out) ≡ record { result = oneAnswer (W.Data 1 3 (length bytes)) 0; output = out; connection = connectionOf h₄ }
-  unfolding d₄ r₄
-  handed =
-      one-silent (connectionOf h₃) d₄ random out r₄ (judged (W.Data 1 3 (length bytes)) h₄) lr lo
-      (protected-framed C.Data 1 (omega arith) (unitKey k 1) (plan .mac) bytes (omega (arith, size-most (plan .mac)))) row₄ refl
+  open₃ : h₃ .state ≡ S.Open
+  unfolding h₃
+  open₃ = refl
+
+  -- data, on a connection whose open handshake is h₃
+  j₄ : Judged
+  j₄ = judged (W.Data 1 3 (length bytes)) h₄
+
+  told₄ : (s : SentRecords) → Tells (connectionOf h₃ noneStarted s) random d₄ r₄ (toldBy (connectionOf h₃ noneStarted s) Y.Open j₄)
+  unfolding r₄ j₄
+  told₄ s =
+      tells (asks-protected open₃ refl (λ q. let z : C.Data ≡ C.Handshake = q .handshake in let w : _≡_ {A = ℕ} 0 1 = cc in omega arith)) (row₄ s)
+      (left-of (connectionOf h₃ noneStarted s) j₄ Y.Open)
+
+  c₄ : SentRecords → Connection
+  c₄ s = leftBy (connectionOf h₃ noneStarted s) Y.Open j₄
+
+  data-step : (s : SentRecords) → stepOf (connectionOf h₃ noneStarted s) (receive (protectedDatagram k C.Data 1 bytes) random out)
+      ≡ record { result = oneAnswer (W.Data 1 3 (length bytes)) 0; output = out; connection = c₄ s }
+  unfolding d₄ r₄ j₄ c₄
+  data-step s =
+      one-silent (connectionOf h₃ noneStarted s) d₄ random out r₄ (toldBy (connectionOf h₃ noneStarted s) Y.Open j₄) lr lo
+      (protected-framed C.Data 1 (omega arith) (unitKey k 1) (plan .mac) bytes (omega (arith, size-most (plan .mac)))) (told₄ s) refl
 
   as-sent : handedOf (protectedDatagram k C.Data 1 bytes) (W.Data 1 3 (length bytes)) ≡ bytes
   unfolding d₄ r₄
@@ -331,6 +383,7 @@ module _ (id secret : List ℕ) (width : ℕ) (held : Held width) (m random out 
         open-is = refl;
         window-is = refl;
         next-is = refl;
+        protected₄ = refl;
       }
 
   -- what it agreed
@@ -346,19 +399,92 @@ module _ (id secret : List ℕ) (width : ℕ) (held : Held width) (m random out 
   unfolding walk h₁ answeredWith
   walk-clear = refl
 
+  -- from fresh
+  abbrev fresh : Connection
+  fresh = alone (freshWith id secret width)
+
   pub worked : Worked stepOf id secret width m random out bytes plan
+  unfolding list h₂ h₃
   worked =
       record {
-        c₁ = connectionOf h₁;
-        c₂ = connectionOf h₂;
-        c₃ = connectionOf h₃;
-        c₄ = connectionOf h₄;
-        replied = replied;
-        changed = changed;
-        opened = opened;
-        handed = handed;
+        c₁ = connectionOf h₁ noneStarted (list noRecords);
+        c₂ = connectionOf h₂ noneStarted (list noRecords);
+        c₃ = connectionOf h₃ noneStarted (list noRecords);
+        c₄ = c₄ (list noRecords);
+        replied = hello-step fresh (toldBy fresh Y.Only (judged (W.Reply (length (replyTo session random m plan))) h₁)) (tells (asks-only idle-not) (row₁ noRecords) left-only) refl refl;
+        changed = change-step (connectionOf h₁ noneStarted (list noRecords)) (toldBy (connectionOf h₁ noneStarted (list noRecords)) Y.Only (judged W.Spec h₂)) (tells (asks-only replied-not) (row₂ (list noRecords)) left-only) refl;
+        opened = finished-step (connectionOf h₂ noneStarted (list noRecords)) (toldBy (connectionOf h₂ noneStarted (list noRecords)) Y.Only (judged W.Open h₃)) (tells (asks-only spec-not) (row₃ (list noRecords)) left-only) refl;
+        handed = data-step (list noRecords);
         as-sent = as-sent;
       }
+
+  -- beside an open one
+  module _ (c : Connection) (o : c .handshake .state ≡ S.Open) (session-is : planted (c .handshake) ≡ session) (width-is : c .handshake .protection .window .width ≡ width)
+      (other : m ≢ keptHello (c .handshake)) (others : Hears (c .started .state) → m ≢ keptHello (c .started)) where
+    newcomer-is : newcomerTo (c .handshake) ≡ freshWith id secret width
+    newcomer-is = ap₂ (λ s n. newHandshake s n S.Idle) session-is width-is
+
+    told₁ : Tells c random d₁ r₁ (record { answer = W.Reply (length (replyTo session random m plan)); connection = connectionOf (c .handshake) h₁ (list (c .sent)); beside = true })
+    unfolding r₁ list
+    told₁ =
+        tells (asks-new-hello o hello₁ refl (λ s q. others s (sym fragment₁ ∙ q)) (λ q. other (sym fragment₁ ∙ q)))
+        (subst (λ h. Row h (c .sent) random d₁ r₁ (judged (W.Reply (length (replyTo session random m plan))) h₁)) (sym newcomer-is) (row₁ (c .sent)))
+        (left-greeted (inl replied-state))
+
+    abbrev e₁ : Connection
+    e₁ = connectionOf (c .handshake) h₁ (list (c .sent))
+
+    told₂ : Tells e₁ random d₂ r₂ (record { answer = W.Spec; connection = connectionOf (c .handshake) h₂ (list (c .sent)); beside = true })
+    unfolding r₂ h₂
+    told₂ = tells (asks-clear o refl (λ i. true-false false i refl) (inl replied-state)) (row₂ (list (c .sent))) (left-started spec-not refl)
+
+    abbrev e₂ : Connection
+    e₂ = connectionOf (c .handshake) h₂ (list (c .sent))
+
+    keys₂ : keysOf h₂ ≡ k
+    unfolding h₁ answeredWith h₂
+    keys₂ = refl
+
+    right₃ : RightBeside e₂ d₃ r₃
+    unfolding r₃ h₂
+    right₃ =
+        record { is-open = o; in-spec = refl; handshake = refl; content = finishedOf expected; coded = subst (λ x. Protected x d₃ r₃ (finishedOf expected)) (sym keys₂) protected₃ }
+
+    told₃ : Tells e₂ random d₃ r₃ (record { answer = W.Open; connection = connectionOf h₃ noneStarted (list (c .sent)); beside = true })
+    unfolding h₃
+    told₃ = tells (asks-right right₃) (row₃ (list (c .sent))) (left-replaced refl)
+
+    keys₃ : keysOf h₃ ≡ k
+    unfolding h₁ answeredWith h₂ h₃
+    keys₃ = refl
+
+    hello₃ : keptHello h₃ ≡ m
+    unfolding h₁ answeredWith h₂ h₃
+    hello₃ = take-at m (replicate (256 - length m) 0) (length m) refl
+
+    reply₃ : keptReply h₃ ≡ replyTo session random m plan
+    unfolding h₁ answeredWith h₂ h₃
+    reply₃ = take-at (replyTo session random m plan) (replicate (84 - length (replyTo session random m plan)) 0) (length (replyTo session random m plan)) refl
+
+    pub rebooted : Rebooted stepOf secret c session m random out bytes plan
+    rebooted =
+        record {
+          c₁ = e₁;
+          c₂ = e₂;
+          c₃ = connectionOf h₃ noneStarted (list (c .sent));
+          c₄ = c₄ (list (c .sent));
+          replied = hello-step c (record { answer = W.Reply (length (replyTo session random m plan)); connection = e₁; beside = true }) told₁ refl refl;
+          changed = change-step e₁ (record { answer = W.Spec; connection = e₂; beside = true }) told₂ refl;
+          opened = finished-step e₂ (record { answer = W.Open; connection = connectionOf h₃ noneStarted (list (c .sent)); beside = true }) told₃ refl;
+          handed = data-step (list (c .sent));
+          open-kept = (refl, refl);
+          replaced = (keys₃, hello₃, reply₃, refl);
+        }
+
+pub reboots : Reboots stepOf
+unfolding Reboots
+reboots id secret width held c o session-is width-is m random out bytes plan lr lo other others e some most =
+    rebooted id secret width held m random out bytes plan lr lo e some most c o session-is width-is other others
 
 pub it-works : Works stepOf
 unfolding Works

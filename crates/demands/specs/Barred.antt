@@ -34,15 +34,17 @@ use Rattle.demands.specs.Genuine.{Genuine, keysOf}
 use Rattle.demands.specs.Table.{Guarded}
 use Rattle.demands.specs.Events.{Event, took, Sound, next}
 use Rattle.demands.specs.Refusals.{lentBy}
+use Rattle.connection.specs.declared.sent.SentRecords.{SentRecords}
 
 -- a protected fatal alert, of a kind that the state allows: genuine, its number new to the window, and well formed
 pub record FatalUnderCode (h : Handshake) (e : Event) : Type 0 where
+  pub records : SentRecords
   pub random : List ℕ
   pub d : List ℕ
   pub r : Record
   pub c : List ℕ
   pub a : Alert
-  pub event : e ≡ took random d r
+  pub event : e ≡ took records random d r
   pub taken : Guarded h r
   pub genuine : Genuine (keysOf h) d r c
   pub w : Window

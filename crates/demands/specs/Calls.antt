@@ -24,18 +24,19 @@ use Rattle.message.specs.declared.alert.Description.{Description}
 use Rattle.message.specs.declared.alert.Graded.the-variants as G
 use Rattle.message.specs.declared.alert.Sorted.the-variants as D
 use Rattle.connection.specs.Calls.{freshOf, leaving}
-use Rattle.connection.specs.Handshake.{withState, reopened, blankHandshake, planted, keptReply}
+use Rattle.connection.specs.Handshake.{planted, keptReply}
+use Rattle.connection.specs.Connection as I
+use Rattle.connection.specs.Asked.{askedOf}
 use Rattle.connection.specs.Judge.{fragmentOf}
 use Rattle.connection.specs.Receive.{slotsOf}
 use Rattle.connection.specs.Reply.{replyTo}
-use Rattle.connection.specs.Send.{nextProtected, nextAlert, afterProtected, afterAlert, alertBody}
+use Rattle.connection.specs.Send.{nextProtected, nextAlert, senderOf, afterSend, alertBody}
 use Rattle.connection.specs.declared.state.State.{State}
 use Rattle.connection.specs.declared.state.State.the-variants.{Idle, Replied, Spec, Open, Closed, Barred}
 use Rattle.connection.specs.declared.refusal.Refusal.{Refusal}
 use Rattle.connection.specs.declared.refusal.Refusal.the-variants as X
 use Rattle.connection.specs.declared.answer.Answer.{Answer}
 use Rattle.connection.specs.declared.answer.Answer.the-variants as W
-use Rattle.connection.specs.declared.answer.Judged.{Judged}
 use Rattle.connection.specs.declared.connection.Connection.{Connection}
 use Rattle.connection.specs.declared.calls.Called.{Called}
 use Rattle.connection.specs.declared.calls.Outcome.{Outcome}
@@ -43,19 +44,22 @@ use Rattle.connection.specs.declared.calls.Outcome.the-variants as O
 use Rattle.connection.specs.declared.receive.Taken.{Taken}
 use Rattle.connection.specs.declared.receive.Taken.the-variants as T
 use Rattle.connection.specs.declared.handshake.Handshake.{Handshake}
-use Rattle.demands.specs.Runs.{Call, receive, send-data, send-alert, close, start, received, sent, called, Step, stepOf, freshWith}
-use Rattle.demands.specs.Table.{Row, ended}
+use Rattle.demands.specs.Runs.{Call, receive, send-data, send-alert, close, start, received, sent, called, Step, stepOf, freshOne}
+use Rattle.connection.specs.declared.asked.Whom.{Whom}
+use Rattle.connection.specs.declared.told.Told.{Told}
+use Rattle.demands.specs.Table.{ended}
+use Rattle.demands.specs.Asked.{Asks, Tells}
 
--- Records one after the other, each in the handshake that those before it left: an answer for each, and what the last
+-- Records one after the other, each in the connection that those before it left: an answer for each, and what the last
 -- one leaves. "One answer per record."
-pub data Chain (random d : List ℕ) : Handshake → List Record → List Answer → Handshake → Type 0 where
-  chain-end : {h : Handshake} → Chain random d h [] [] h
-  chain-more : {h : Handshake} {r : Record} {rs : List Record} {j : Judged} {answers : List Answer} {left : Handshake}
-      → Row h random d r j
-      → Chain random d (j .handshake) rs answers left → Chain random d h (r ∷ rs) (j .answer ∷ answers) left
+pub data Chain (random d : List ℕ) : Connection → List Record → List Answer → Connection → Type 0 where
+  chain-end : {c : Connection} → Chain random d c [] [] c
+  chain-more : {c : Connection} {r : Record} {rs : List Record} {t : Told} {answers : List Answer} {left : Connection}
+      → Tells c random d r t
+      → Chain random d (t .connection) rs answers left → Chain random d c (r ∷ rs) (t .answer ∷ answers) left
 
--- What a record sends, by its answer: a new reply is that of the session to this hello with our random; "the same reply
--- bytes" are those that are kept; nothing else sends.
+-- What a record sends, by the answer of the handshake h that is asked: a new reply is that of the session to this hello with our
+-- random; "the same reply bytes" are those that are kept; nothing else sends.
 abbrev pub SendsBy : Handshake → List ℕ → List ℕ → Answer → List ℕ → Type 0
 SendsBy h random m W.Nothing bytes = bytes ≡ []
 SendsBy h random m (W.Reply size) bytes =
@@ -72,13 +76,11 @@ SendsBy h random m (W.Barred description) bytes = bytes ≡ []
 SendsBy h random m (W.Refused refusal) bytes = bytes ≡ []
 
 -- What a datagram sends: what its first record sends. (A ClientHello "may stand only first in its datagram".)
-abbrev pub FirstSends : Handshake → List ℕ → List ℕ → List Record → List Answer → List ℕ → Type 0
-FirstSends h random d [] answers bytes = bytes ≡ []
-FirstSends h random d (r ∷ rs) [] bytes = ⊥
-FirstSends h random d (r ∷ rs) (a ∷ answers) bytes = SendsBy h random (fragmentOf d r) a bytes
-
-abbrev pub ofHandshake : Handshake → Connection
-ofHandshake h = record { handshake = h }
+abbrev pub FirstSends : Connection → List ℕ → List ℕ → List Record → List Answer → List ℕ → Type 0
+FirstSends c random d [] answers bytes = bytes ≡ []
+FirstSends c random d (r ∷ rs) [] bytes = ⊥
+FirstSends c random d (r ∷ rs) (a ∷ answers) bytes =
+    (w : Whom) × Asks c d r w × SendsBy (askedOf c w) random (fragmentOf d r) a bytes
 
 -- refused as a whole: "a refusal changes neither buffer nor connection"
 abbrev pub notTaken : Connection → List ℕ → Taken → Step
@@ -91,20 +93,20 @@ abbrev pub notCalled : Connection → Refusal → Step
 notCalled c refusal = record { result = called (O.Refused refusal); output = []; connection = c }
 
 -- "A success writes the counted bytes at the front and no others."
-abbrev pub taken : List ℕ → List Record → List Answer → List ℕ → Handshake → Step
+abbrev pub taken : List ℕ → List Record → List Answer → List ℕ → Connection → Step
 taken out rs answers reply left =
     record {
       result = received (T.Records (length rs)) (slotsOf answers) (length reply);
       output = laidOver out 0 reply;
-      connection = ofHandshake left;
+      connection = left;
     }
 
-abbrev pub wasSent : List ℕ → List ℕ → Handshake → Step
+abbrev pub wasSent : List ℕ → List ℕ → Connection → Step
 wasSent out bytes left =
-    record { result = sent O.Done (length bytes); output = laidOver out 0 bytes; connection = ofHandshake left }
+    record { result = sent O.Done (length bytes); output = laidOver out 0 bytes; connection = left }
 
-abbrev pub wasCalled : Handshake → Step
-wasCalled left = record { result = called O.Done; output = []; connection = ofHandshake left }
+abbrev pub wasCalled : Connection → Step
+wasCalled left = record { result = called O.Done; output = []; connection = left }
 
 -- "protected alerts in Replied, Spec and Open, clear ones in Replied and Spec"
 abbrev pub mayAlert : Bool → State → Bool
@@ -150,10 +152,10 @@ pub data CallRow (c : Connection) : Call → Step → Type 0 where
   receive-framing : {d random out : List ℕ} {fault : Fault} {at : ℕ} → length random ≡ 16 → 128 ≤ length out
       → framingOf d ≡ faulty fault at
       → CallRow c (receive d random out) (notTaken c out (T.Misframed (X.Framing fault) at))
-  receive-records : {d random out : List ℕ} {rs : List Record} {answers : List Answer} {left : Handshake} (reply : List ℕ)
+  receive-records : {d random out : List ℕ} {rs : List Record} {answers : List Answer} {left : Connection} (reply : List ℕ)
       → length random ≡ 16 → 128 ≤ length out
-      → framingOf d ≡ framed rs → Chain random d (c .handshake) rs answers left
-      → FirstSends (c .handshake) random d rs answers reply
+      → framingOf d ≡ framed rs → Chain random d c rs answers left
+      → FirstSends c random d rs answers reply
       → CallRow c (receive d random out) (taken out rs answers reply left)
   -- send data
   data-16 : {bytes out : List ℕ} → BadData bytes → CallRow c (send-data bytes out) (notSent c out X.Argument)
@@ -170,48 +172,48 @@ pub data CallRow (c : Connection) : Call → Step → Type 0 where
       → 3 + length bytes + codeFor true (c .handshake) ≤ length out
       → CallRow c (send-data bytes out)
       (wasSent out (nextProtected (c .handshake) C.Data bytes)
-      (afterProtected (c .handshake) (nextProtected (c .handshake) C.Data bytes)))
-  -- send an alert
+      (afterSend true c (nextProtected (c .handshake) C.Data bytes)))
+  -- send an alert, from the handshake that sends it: "clear alerts on the started one, each by its own sending numbers" (02, P6)
   alert-16 : {protected : Bool} {level description : ℕ} {answered out : List ℕ} → BadAlert level description answered
       → CallRow c (send-alert protected level description answered out) (notSent c out X.Argument)
   alert-7 : {protected : Bool} {level description : ℕ} {answered out : List ℕ} {l : Level} {k : Description}
       → GoodAlert level description answered l k
-      → ended (c .handshake .state) ≡ true
+      → ended (senderOf protected c .state) ≡ true
       → CallRow c (send-alert protected level description answered out) (notSent c out X.Ended)
   alert-8 : {protected : Bool} {level description : ℕ} {answered out : List ℕ} {l : Level} {k : Description}
       → GoodAlert level description answered l k
-      → ended (c .handshake .state) ≡ false → mayAlert protected (c .handshake .state) ≡ false
+      → ended (senderOf protected c .state) ≡ false → mayAlert protected (senderOf protected c .state) ≡ false
       → CallRow c (send-alert protected level description answered out) (notSent c out X.NotAllowed)
   alert-15 : {protected : Bool} {level description : ℕ} {answered out : List ℕ} {l : Level} {k : Description}
       → GoodAlert level description answered l k
-      → mayAlert protected (c .handshake .state) ≡ true → 65535 < numberFor protected (c .handshake)
+      → mayAlert protected (senderOf protected c .state) ≡ true → 65535 < numberFor protected (senderOf protected c)
       → CallRow c (send-alert protected level description answered out) (notSent c out X.Spent)
   alert-6 : {protected : Bool} {level description : ℕ} {answered out : List ℕ} {l : Level} {k : Description}
       → GoodAlert level description answered l k
-      → mayAlert protected (c .handshake .state) ≡ true → numberFor protected (c .handshake) ≤ 65535
-      → length out < 9 + codeFor protected (c .handshake)
+      → mayAlert protected (senderOf protected c .state) ≡ true → numberFor protected (senderOf protected c) ≤ 65535
+      → length out < 9 + codeFor protected (senderOf protected c)
       → CallRow c (send-alert protected level description answered out) (notSent c out X.Room)
   alert-sent : {protected : Bool} {level description : ℕ} {answered out : List ℕ} {l : Level} {k : Description}
       → GoodAlert level description answered l k
-      → mayAlert protected (c .handshake .state) ≡ true → numberFor protected (c .handshake) ≤ 65535
-      → 9 + codeFor protected (c .handshake) ≤ length out
+      → mayAlert protected (senderOf protected c .state) ≡ true → numberFor protected (senderOf protected c) ≤ 65535
+      → 9 + codeFor protected (senderOf protected c) ≤ length out
       → CallRow c (send-alert protected level description answered out)
-      (wasSent out (nextAlert protected (c .handshake) (alertBody l k answered))
-      (afterAlert protected (c .handshake) (nextAlert protected (c .handshake) (alertBody l k answered))))
+      (wasSent out (nextAlert protected (senderOf protected c) (alertBody l k answered))
+      (afterSend protected c (nextAlert protected (senderOf protected c) (alertBody l k answered))))
   -- close, and start again
   close-7 : c .handshake .state ≡ Barred → CallRow c close (notCalled c X.Ended)
-  close-done : c .handshake .state ≢ Barred → CallRow c close (wasCalled (withState (c .handshake) Closed))
+  close-done : c .handshake .state ≢ Barred → CallRow c close (wasCalled (I.ended c))
   start-7 : c .handshake .state ≡ Barred → CallRow c start (notCalled c X.Ended)
   start-8 : c .handshake .state ≢ Barred → c .handshake .state ≢ Closed → CallRow c start (notCalled c X.NotAllowed)
-  start-done : c .handshake .state ≡ Closed → CallRow c start (wasCalled (reopened (c .handshake)))
+  start-done : c .handshake .state ≡ Closed → CallRow c start (wasCalled (I.restarted c))
 
 -- "Fresh connection: 16 only": "identifier not 8, secret not 20", and 02, P1: "width outside 32 to 64". What stands
 -- beside the refusal is blank and Barred.
 pub data FreshRow (id secret : List ℕ) (width : ℕ) : Called → Type 0 where
   fresh-16 : (length id ≢ 8) ⊎ (length secret ≢ 20) ⊎ (width < 32) ⊎ (64 < width)
-      → FreshRow id secret width (leaving (O.Refused X.Argument) blankHandshake)
+      → FreshRow id secret width (leaving (O.Refused X.Argument) I.blankConnection)
   fresh-done : length id ≡ 8 → length secret ≡ 20 → Held width
-      → FreshRow id secret width (leaving O.Done (freshWith id secret width))
+      → FreshRow id secret width (leaving O.Done (freshOne id secret width))
 
 unfoldable pub FreshHolds : Type 0
 FreshHolds = (id secret : List ℕ) (width : ℕ) (s : Called) → (freshOf id secret width ≡ s) ↔ FreshRow id secret width s

@@ -19,9 +19,11 @@ use Rattle.connection.specs.declared.calls.Outcome.the-variants.{Done}
 use Rattle.connection.specs.declared.handshake.Handshake.{Handshake}
 use Rattle.connection.specs.declared.state.State.the-variants.{Replied, Open}
 use Rattle.demands.specs.Genuine.{keysOf}
-use Rattle.demands.specs.Events.{Event, took, Sound, AllSound, connectionOf, after}
+use Rattle.demands.specs.Events.{Event, took, Sound, AllSound, after}
 use Rattle.demands.specs.Past.{isData}
 use Rattle.demands.specs.Instances.{exampleFresh}
+use Rattle.connection.specs.Connection.{alone}
+use Rattle.connection.specs.Sent.{noRecords}
 
 -- a run from fresh that is Open under this MAC kind, and a record that is answered with data there
 pub record OpenWith (mac : Mac) : Type 0 where
@@ -32,8 +34,8 @@ pub record OpenWith (mac : Mac) : Type 0 where
   pub random : List ℕ
   pub d : List ℕ
   pub r : Record
-  pub here : Sound (took random d r)
-  pub handed : isData (judgedRecord (after exampleFresh es) random d r .answer) ≡ true
+  pub here : Sound (took noRecords random d r)
+  pub handed : isData (judgedRecord (after exampleFresh es) noRecords random d r .answer) ≡ true
 
 -- a protected record, with room for a code, that gets this answer where a run from fresh is Open
 pub record Answered (answer : Answer) : Type 0 where
@@ -43,10 +45,10 @@ pub record Answered (answer : Answer) : Type 0 where
   pub random : List ℕ
   pub d : List ℕ
   pub r : Record
-  pub here : Sound (took random d r)
+  pub here : Sound (took noRecords random d r)
   pub protected : r .protected ≡ true
   pub whole : sizeOf (keysOf (after exampleFresh es) .mac) ≤ r .size
-  pub answered : judgedRecord (after exampleFresh es) random d r .answer ≡ answer
+  pub answered : judgedRecord (after exampleFresh es) noRecords random d r .answer ≡ answer
 
 -- a record from before a key refresh, handed out where one from behind it was already accepted
 pub record Crossed : Type 0 where
@@ -62,7 +64,7 @@ pub record SentClear : Type 0 where
   pub sound : AllSound es
   pub is-replied : after exampleFresh es .state ≡ Replied
   pub out : List ℕ
-  pub done : alertSent (connectionOf (after exampleFresh es)) false 1 0 [] (length out) .outcome ≡ Done
+  pub done : alertSent (alone (after exampleFresh es)) false 1 0 [] (length out) .outcome ≡ Done
 
 pub record Cases : Type 0 where
   pub sha-80 : OpenWith Sha80

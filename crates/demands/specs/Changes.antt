@@ -1,7 +1,7 @@
 -- What a success changes, and nothing else. 01: "warning changes nothing beyond the mark of a protected one's number,
 -- critical closes the connection, fatal closes it and, if protected, bars the session"; "Sending one, at any level,
 -- changes only our number and our last sent record"; "Start again leads from Closed to Idle and forgets the window
--- and the kept hello. Close leads anywhere but Barred to Closed."
+-- and the kept hello. Close leads anywhere but Barred to Closed." 02, P6: "What closes .. the open one drops the started one too."
 use mathlib.Core.Path.{_≡_}
 use mathlib.Core.Bool.{Bool, true, false}
 use mathlib.Core.List.{List}
@@ -13,9 +13,11 @@ use Rattle.message.specs.Acceptance.{heardOf}
 use Rattle.message.specs.declared.acceptance.Plan.{Plan}
 use Rattle.message.specs.declared.acceptance.Heard.the-variants.{Accepted}
 use Rattle.record.specs.Protection.{countedOn}
-use Rattle.connection.specs.Send.{clearOn}
-use Rattle.connection.specs.Handshake.{withState, withWindow, withSent, forgetting, barred, planted}
-use Rattle.connection.specs.Sent.{sumOf}
+use Rattle.connection.specs.Send.{clearOn, senderOf, putBack}
+use Rattle.connection.specs.Handshake.{withState, withProtection, withWindow, forgetting, barred, planted, noneStarted}
+use Rattle.connection.specs.Connection.{connectionOf}
+use Rattle.connection.specs.Sent.{sumOf, withRecord, noRecords}
+use Rattle.record.specs.declared.protection.Protection.{Protection}
 use Rattle.connection.specs.Judge.{judgedRecord, fragmentOf}
 use Rattle.connection.specs.Reply.{answeredWith}
 use Rattle.connection.specs.Send.{dataSent, dataOutput, alertSent, alertOutput}
@@ -27,6 +29,7 @@ use Rattle.connection.specs.declared.connection.Connection.{Connection}
 use Rattle.connection.specs.declared.calls.Outcome.the-variants as O
 use Rattle.connection.specs.declared.handshake.Handshake.{Handshake}
 use Rattle.demands.specs.Refusals.{marked, refusedLeaves}
+use Rattle.connection.specs.declared.sent.SentRecords.{SentRecords}
 
 -- what each answer leaves, of the handshake h and a record with number s, protected or clear
 abbrev pub Leaves : Handshake → List ℕ → List ℕ → Bool → ℕ → Handshake → Answer → Type 0
@@ -49,39 +52,41 @@ Leaves h random m protected s then (Refused refusal) = then ≡ refusedLeaves h 
 
 unfoldable pub RecordChangesOnly : Type 0
 RecordChangesOnly =
-    (h : Handshake) (random d : List ℕ) (r : Record)
-    → Leaves h random (fragmentOf d r) (r .protected) (r .number) (judgedRecord h random d r .handshake)
-    (judgedRecord h random d r .answer)
+    (h : Handshake) (sent : SentRecords) (random d : List ℕ) (r : Record)
+    → Leaves h random (fragmentOf d r) (r .protected) (r .number) (judgedRecord h sent random d r .handshake)
+    (judgedRecord h sent random d r .answer)
 
--- our number, and one record more that we sent, as it stands at the front of the output
-abbrev pub afterSending : Bool → Handshake → List ℕ → Handshake
-afterSending true h bytes =
-    withSent h (countedOn (h .protection)) (sumOf bytes)
-afterSending false h bytes =
-    withSent h (clearOn (h .protection)) (sumOf bytes)
+-- our number, of the handshake that sends, and one record more that we sent, as it stands at the front of the output
+abbrev pub numberOn : Bool → Protection → Protection
+numberOn true p = countedOn p
+numberOn false p = clearOn p
+
+abbrev pub afterSending : Bool → Connection → List ℕ → Connection
+afterSending protected c bytes =
+    putBack protected c (withProtection (senderOf protected c) (numberOn protected (senderOf protected c .protection)))
+    (withRecord (c .sent) (sumOf bytes))
 
 unfoldable pub DataChangesOnly : Type 0
 DataChangesOnly =
     (c : Connection) (bytes out : List ℕ) → dataSent c bytes (length out) .outcome ≡ O.Done
-    → dataSent c bytes (length out) .connection .handshake
-    ≡ afterSending true (c .handshake) (take (dataSent c bytes (length out) .written) (dataOutput c bytes out))
+    → dataSent c bytes (length out) .connection
+    ≡ afterSending true c (take (dataSent c bytes (length out) .written) (dataOutput c bytes out))
 
 unfoldable pub AlertChangesOnly : Type 0
 AlertChangesOnly =
     (c : Connection) (protected : Bool) (level description : ℕ) (answered out : List ℕ)
     → alertSent c protected level description answered (length out) .outcome ≡ O.Done
-    → alertSent c protected level description answered (length out) .connection .handshake
-    ≡ afterSending protected (c .handshake)
+    → alertSent c protected level description answered (length out) .connection
+    ≡ afterSending protected c
     (take (alertSent c protected level description answered (length out) .written)
     (alertOutput c protected level description answered out))
 
 unfoldable pub CloseChangesOnly : Type 0
 CloseChangesOnly =
     (c : Connection) → closedOf c .outcome ≡ O.Done
-    → closedOf c .connection .handshake ≡ withState (c .handshake) S.Closed
+    → closedOf c .connection ≡ connectionOf (withState (c .handshake) S.Closed) noneStarted (c .sent)
 
 unfoldable pub StartChangesOnly : Type 0
 StartChangesOnly =
     (c : Connection) → startedOf c .outcome ≡ O.Done
-    → startedOf c .connection .handshake
-    ≡ withState (forgetting (c .handshake)) S.Idle
+    → startedOf c .connection ≡ connectionOf (withState (forgetting (c .handshake)) S.Idle) noneStarted noRecords

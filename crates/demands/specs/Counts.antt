@@ -32,7 +32,6 @@ isForged X.Checksum = false
 isForged X.Spent = false
 isForged X.Argument = false
 isForged X.WrongFinished = false
-isForged X.HelloWhileOpen = false
 
 abbrev pub isOld : Refusal → Bool
 isOld (X.Framing fault) = false
@@ -48,7 +47,6 @@ isOld X.Checksum = false
 isOld X.Spent = false
 isOld X.Argument = false
 isOld X.WrongFinished = false
-isOld X.HelloWhileOpen = false
 
 abbrev pub isRepeated : Refusal → Bool
 isRepeated (X.Framing fault) = false
@@ -64,7 +62,6 @@ isRepeated X.Checksum = false
 isRepeated X.Spent = false
 isRepeated X.Argument = false
 isRepeated X.WrongFinished = false
-isRepeated X.HelloWhileOpen = false
 
 abbrev pub refusedAs : (Refusal → Bool) → Answer → Bool
 refusedAs is Nothing = false

@@ -78,7 +78,7 @@ withRecord k expected course d r =
     course)
 
 abbrev pub withEvent : Keys → List ℕ → Course → Event → Course
-withEvent k expected course (took random d r) = withRecord k expected course d r
+withEvent k expected course (took sent random d r) = withRecord k expected course d r
 withEvent k expected course (sending bytes out) = course
 withEvent k expected course (alerting protected level description answered out) = course
 withEvent k expected course closing = record { width = course .width; numbers = course .numbers; shut = true }
@@ -91,7 +91,7 @@ courseOf k expected course (e ∷ es) = courseOf k expected (withEvent k expecte
 -- no start again that takes effect: it comes only where nothing closed, and is refused there
 abbrev pub Ongoing : Keys → List ℕ → Course → List Event → Type 0
 Ongoing k expected course [] = Unit
-Ongoing k expected course (took random d r ∷ es) = Ongoing k expected (withEvent k expected course (took random d r)) es
+Ongoing k expected course (took sent random d r ∷ es) = Ongoing k expected (withEvent k expected course (took sent random d r)) es
 Ongoing k expected course (sending bytes out ∷ es) = Ongoing k expected course es
 Ongoing k expected course (alerting protected level description answered out ∷ es) = Ongoing k expected course es
 Ongoing k expected course (closing ∷ es) = Ongoing k expected (withEvent k expected course closing) es

@@ -25,6 +25,7 @@ use Rattle.demands.specs.Runs.{freshWith}
 use Rattle.demands.specs.Genuine.{Genuine, RecordOf}
 use Rattle.demands.specs.Events.{Event, took, AllSound, Happened, next, after, history}
 use Rattle.demands.specs.Past.{keysIn, acceptedIn}
+use Rattle.connection.specs.declared.sent.SentRecords.{SentRecords}
 
 -- "Spec, Open | protected alert | by level"
 abbrev pub Alerted : State → Type 0
@@ -42,16 +43,16 @@ pub record FatalAt (width : ℕ) (session : Session) (past : List Happened) (d :
   pub recent : (n : ℕ) → accepted (acceptedIn past) n ≡ true → n < r .number + width
 
 -- at a record of a handshake h with this past
-pub record FatalExactly (width : ℕ) (session : Session) (past : List Happened) (h : Handshake) (random d : List ℕ)
-    (r : Record) : Type 0 where
+pub record FatalExactly (width : ℕ) (session : Session) (past : List Happened) (h : Handshake)
+    (sent : SentRecords) (random d : List ℕ) (r : Record) : Type 0 where
   pub bars : Alerted (h .state) → (c : List ℕ) (a : Alert) → FatalAt width session past d r c a
-      → (judgedRecord h random d r .answer ≡ W.Barred (a .description)) × (next h (took random d r) .state ≡ Barred)
-  pub only : h .state ≢ Barred → next h (took random d r) .state ≡ Barred
+      → (judgedRecord h sent random d r .answer ≡ W.Barred (a .description)) × (next h (took sent random d r) .state ≡ Barred)
+  pub only : h .state ≢ Barred → next h (took sent random d r) .state ≡ Barred
       → Alerted (h .state) × ((c : List ℕ) × (a : Alert) × FatalAt width session past d r c a)
 
 unfoldable pub FatalInRuns : Type 0
 FatalInRuns =
-    (id secret : List ℕ) (width : ℕ) → Held width → (es : List Event) → AllSound es → (random d : List ℕ) (r : Record)
+    (id secret : List ℕ) (width : ℕ) → Held width → (es : List Event) → AllSound es → (sent : SentRecords) (random d : List ℕ) (r : Record)
     → RecordOf d r
     → FatalExactly width (sessionOf id secret) (history (freshWith id secret width) es [])
-    (after (freshWith id secret width) es) random d r
+    (after (freshWith id secret width) es) sent random d r

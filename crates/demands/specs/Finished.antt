@@ -20,6 +20,7 @@ use Rattle.demands.specs.Events.{Event, took, Sound, AllSound, Happened,
 use Rattle.demands.specs.Past.{Greeting, greeting, lastReply, isReply, isData, shuts, keysIn}
 use Rattle.record.specs.Window.{Held}
 use Rattle.demands.specs.Runs.{freshWith}
+use Rattle.connection.specs.declared.sent.SentRecords.{SentRecords}
 
 -- no new reply, no closing and no start
 abbrev pub Quiet : List Happened → Type 0
@@ -52,6 +53,6 @@ pub record Verified (session : Session) (past : List Happened) : Type 0 where
 unfoldable pub OnlyAfterFinished : Type 0
 OnlyAfterFinished =
     (id secret : List ℕ) (width : ℕ) → Held width → (es : List Event) → AllSound es
-    → (random d : List ℕ) (r : Record) → Sound (took random d r)
-    → isData (judgedRecord (after (freshWith id secret width) es) random d r .answer) ≡ true
+    → (sent : SentRecords) (random d : List ℕ) (r : Record) → Sound (took sent random d r)
+    → isData (judgedRecord (after (freshWith id secret width) es) sent random d r .answer) ≡ true
     → Verified (sessionOf id secret) (history (freshWith id secret width) es [])

@@ -26,13 +26,13 @@ use Rattle.connection.specs.declared.tally.Tally.{Tally}
 use Rattle.demands.specs.Runs.{Call, receive, Result, received, Gateway, stepOf, finalOf}
 use Rattle.demands.specs.Calls.{Chain, FirstSends, CallRow}
 use Rattle.demands.specs.Refusals.{IsRefused}
-use Rattle.demands.specs.Events.{Event, took, AllSound, eventsOf, connectionOf, after, history}
+use Rattle.demands.specs.Acts.{Act, comes, SoundActs, actsOf, eventOf, behind}
 use Rattle.demands.specs.Past.{isData, keysIn}
 use Rattle.record.specs.Window.{Held}
-use Rattle.demands.specs.Runs.{freshWith}
-use Rattle.demands.specs.LeftOut.{LeavesOut, answersIn, talliedIn}
+use Rattle.demands.specs.Runs.{freshOne}
+use Rattle.demands.specs.LeftOut.{LeavesOut, answersIn, talliedIn, Unreplaced}
 use Rattle.demands.specs.Course.{Due}
-use Rattle.demands.specs.HandedOut.{courseFrom, OngoingFrom}
+use Rattle.demands.specs.HandedOut.{pastOf, courseFrom, OngoingFrom}
 use Rattle.demands.specs.Places.{answerOf}
 use Rattle.demands.specs.Counts.{OnConnection, Counting, tallyAfter, CountsRight}
 
@@ -44,9 +44,9 @@ AnswersByTable g =
     → framingOf d ≡ framed rs
     → (answers : List Answer) × (reply : List ℕ)
     × (g c (receive d random out) .result ≡ received (T.Records (length rs)) (slotsOf answers) (length reply))
-    × Chain random d (c .handshake) rs answers (g c (receive d random out) .connection .handshake)
+    × Chain random d c rs answers (g c (receive d random out) .connection)
     × (g c (receive d random out) .output ≡ laidOver out 0 reply)
-    × FirstSends (c .handshake) random d rs answers reply
+    × FirstSends c random d rs answers reply
 
 -- every call by its row; then its receives answer by the table
 unfoldable pub Demand2 : Gateway → Type 0
@@ -59,19 +59,21 @@ Demand2IsTable = (g : Gateway) → Demand2 g → AnswersByTable g
 unfoldable pub Demand2Settles : Type 0
 Demand2Settles = (g : Gateway) → Demand2 g → (c : Connection) (call : Call) → g c call ≡ stepOf c call
 
--- Demand 3, the handing out: from an open connection, with its past, by the calls of the gateway itself
+-- Demand 3, the handing out: from an open connection, with the past of its open handshake, by the calls of the gateway itself, up to
+-- a record that is right under the started keys
 unfoldable pub HandsOut : Gateway → Type 0
 HandsOut g =
-    (id secret : List ℕ) (width : ℕ) → Held width → (es : List Event) → AllSound es
-    → after (freshWith id secret width) es .state ≡ Open → (calls : List Call)
-    → OngoingFrom (sessionOf id secret) width (history (freshWith id secret width) es []) (eventsOf calls)
-    → (d random out : List ℕ) (before : List Record) (r : Record) (behind : List Record) → length random ≡ 16
+    (id secret : List ℕ) (width : ℕ) → Held width → (acts : List Act) → SoundActs acts
+    → behind (freshOne id secret width) acts .handshake .state ≡ Open → (calls : List Call)
+    → (d random out : List ℕ) (before : List Record) (r : Record) (after : List Record) → length random ≡ 16
     → 128 ≤ length out
-    → framingOf d ≡ framed (before ++ (r ∷ behind))
-    → let past = history (freshWith id secret width) es [] in
+    → framingOf d ≡ framed (before ++ (r ∷ after))
+    → Unreplaced (behind (freshOne id secret width) acts) (actsOf calls ++ map (comes random d) before)
+    → OngoingFrom (sessionOf id secret) width (pastOf id secret width acts) (map eventOf (actsOf calls ++ map (comes random d) before))
+    → let past = pastOf id secret width acts in
     let session = sessionOf id secret in
-    let course = courseFrom session width past (eventsOf calls ++ map (took random d) before) in
-    let answer = answerOf g (finalOf g (connectionOf (after (freshWith id secret width) es)) calls) d random out before in
+    let course = courseFrom session width past (map eventOf (actsOf calls ++ map (comes random d) before)) in
+    let answer = answerOf g (finalOf g (behind (freshOne id secret width) acts) calls) d random out before in
     ((isData answer ≡ true) ↔ ((c : List ℕ) × Due (keysIn session past) course d r c))
     × ((c : List ℕ) → Due (keysIn session past) course d r c → handedOf d answer ≡ c)
 

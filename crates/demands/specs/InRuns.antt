@@ -1,6 +1,6 @@
--- Refusals that turn on what happened before, in a run from fresh, by its history alone: 9 by the keys of the last new
--- reply, 10 and 11 by the numbers accepted since the last change cipher spec that was taken, 14 by the records
--- written since the last start, 17 by the very messages of the run. With `Table.TableHolds` and `Kept.KeptIsWhatHappened` behind it.
+-- Refusals that turn on what happened before, in a life from fresh, by its history alone: 9 by the keys of the last new
+-- reply, 10 and 11 by the numbers accepted since the last change cipher spec that was taken, 17 by the very messages of the life.
+-- (14, by the records that the connection sent: `Lives.ChecksumInRuns`.) With `Table.TableHolds` and `Kept.KeptIsWhatHappened` behind it.
 use mathlib.Core.Path.{_≡_}
 use mathlib.Core.Logic.{_↔_, _≢_}
 use mathlib.Core.Bool.{Bool, true, false}
@@ -9,26 +9,26 @@ use Prim.Native.Nat.{ℕ, _+_, _≤_, _<_}
 use Rattle.record.specs.History.{accepted}
 use Rattle.record.specs.declared.header.Content.the-variants as C
 use Rattle.record.specs.declared.reader.Record.{Record}
-use Rattle.message.specs.Alert.{alertOf}
 use Rattle.message.specs.Finished.{judgedOf}
-use Rattle.message.specs.declared.alert.Alert.{Alert}
-use Rattle.message.specs.declared.alert.Reading.the-variants as R
 use Rattle.message.specs.declared.finished.Verified.the-variants as F
 use Rattle.connection.specs.Calls.{sessionOf}
-use Rattle.connection.specs.Judge.{judgedRecord, fragmentOf}
+use Rattle.connection.specs.Judge.{judgedRecord}
 use Rattle.connection.specs.declared.state.State.the-variants.{Open}
 use Rattle.connection.specs.declared.refusal.Refusal.the-variants as X
 use Rattle.connection.specs.declared.answer.Answer.{Answer}
 use Rattle.connection.specs.declared.answer.Answer.the-variants.{Refused}
 use Rattle.connection.specs.declared.handshake.Handshake.{Handshake}
 use Rattle.connection.specs.declared.handshake.Session.{Session}
-use Rattle.demands.specs.Runs.{Call, stepOf, freshWith}
+use Rattle.demands.specs.Runs.{freshWith, freshOne}
 use Rattle.demands.specs.Genuine.{Genuine, RecordOf}
-use Rattle.demands.specs.Table.{Guarded, Hears}
-use Rattle.demands.specs.Events.{Event, AllSound, Happened, connectionOf, after, history}
-use Rattle.demands.specs.Past.{keysIn, expectedIn, acceptedIn, sentSince, MatchesNone}
-use Rattle.demands.specs.LeftOut.{LeftOut, SameWithout}
+use Rattle.demands.specs.Table.{Guarded}
+use Rattle.demands.specs.Events.{Event, AllSound, Happened, after, history}
+use Rattle.demands.specs.Past.{keysIn, expectedIn, acceptedIn}
+use Rattle.demands.specs.LeftOut.{Without, SameOpen, handedOver}
+use Rattle.demands.specs.Acts.{Act, SoundActs, behind}
+use Rattle.demands.specs.Lives.{noLives, livesOf}
 use Rattle.record.specs.Window.{Held}
+use Rattle.connection.specs.declared.sent.SentRecords.{SentRecords}
 
 -- "a number at most n - 32 is too old", with n an accepted number: less the width (02, P1)
 pub record TooOldFor (width : ℕ) (numbers : List ℕ) (s : ℕ) : Type 0 where
@@ -52,36 +52,28 @@ pub record ProtectedExactly (session : Session) (width : ℕ) (past : List Happe
 
 unfoldable pub ProtectedInRuns : Type 0
 ProtectedInRuns =
-    (id secret : List ℕ) (width : ℕ) → Held width → (es : List Event) → AllSound es → (random d : List ℕ) (r : Record) → RecordOf d r
+    (id secret : List ℕ) (width : ℕ) → Held width → (es : List Event) → AllSound es
+    → (sent : SentRecords) (random d : List ℕ) (r : Record) → RecordOf d r
     → Guarded (after (freshWith id secret width) es) r
     → ProtectedExactly (sessionOf id secret) width (history (freshWith id secret width) es []) d r
-    (judgedRecord (after (freshWith id secret width) es) random d r .answer)
-
--- 14: a clear alert is good "if it matches any of the last eight records that we sent since the last start, fewer if fewer
--- were sent" (02)
-unfoldable pub ChecksumInRuns : Type 0
-ChecksumInRuns =
-    (id secret : List ℕ) (width : ℕ) → Held width → (es : List Event) → AllSound es → (random d : List ℕ) (r : Record) (a : Alert)
-    → Hears (after (freshWith id secret width) es .state) → r .protected ≡ false → r .content ≡ C.Alert
-    → alertOf (fragmentOf d r) ≡ R.WellFormed a
-    → (judgedRecord (after (freshWith id secret width) es) random d r .answer ≡ Refused X.Checksum)
-    ↔ MatchesNone (a .checksum) (sentSince (sessionOf id secret) (history (freshWith id secret width) es []))
+    (judgedRecord (after (freshWith id secret width) es) sent random d r .answer)
 
 -- 17: a genuine Finished that is answered so has other contents than the PRF over the messages of this run
 unfoldable pub WrongFinishedInRuns : Type 0
 WrongFinishedInRuns =
-    (id secret : List ℕ) (width : ℕ) → Held width → (es : List Event) → AllSound es → (random d : List ℕ) (r : Record) → RecordOf d r
-    → judgedRecord (after (freshWith id secret width) es) random d r .answer ≡ Refused X.WrongFinished
+    (id secret : List ℕ) (width : ℕ) → Held width → (es : List Event) → AllSound es
+    → (sent : SentRecords) (random d : List ℕ) (r : Record) → RecordOf d r
+    → judgedRecord (after (freshWith id secret width) es) sent random d r .answer ≡ Refused X.WrongFinished
     → (c : List ℕ) × Genuine (keysIn (sessionOf id secret) (history (freshWith id secret width) es [])) d r c
     × (r .content ≡ C.Handshake)
     × (judgedOf c (expectedIn (sessionOf id secret) (history (freshWith id secret width) es [])) ≡ F.Wrong)
 
--- demand 3, first half, from an open place of a run: genuine under the keys of its last new reply
+-- demand 3, first half, from an open place of a run: genuine under the keys of the last new reply in the life of the open one
 unfoldable pub LeavesOutOfRuns : Type 0
 LeavesOutOfRuns =
-    (id secret : List ℕ) (width : ℕ) → Held width → (es : List Event) → AllSound es → after (freshWith id secret width) es .state ≡ Open
-    → (calls rest : List Call)
-    (out : LeftOut stepOf (keysIn (sessionOf id secret) (history (freshWith id secret width) es []))
-    (connectionOf (after (freshWith id secret width) es)) calls rest)
-    → SameWithout stepOf (keysIn (sessionOf id secret) (history (freshWith id secret width) es []))
-    (connectionOf (after (freshWith id secret width) es)) calls rest out
+    (id secret : List ℕ) (width : ℕ) → Held width → (acts : List Act) → SoundActs acts
+    → behind (freshOne id secret width) acts .handshake .state ≡ Open → (xs ys : List Act)
+    → let c = behind (freshOne id secret width) acts in
+    let past = history (freshWith id secret width) (livesOf (freshOne id secret width) noLives acts .own) [] in
+    Without (keysIn (sessionOf id secret) past) c c xs ys
+    → SameOpen (behind c xs) (behind c ys) × (handedOver c xs ≡ handedOver c ys)

@@ -17,11 +17,13 @@ use Rattle.connection.specs.declared.calls.Outcome.the-variants.{Done}
 use Rattle.connection.specs.declared.handshake.Handshake.{Handshake}
 use Rattle.demands.specs.Runs.{freshWith}
 use Rattle.demands.specs.Genuine.{keysOf}
-use Rattle.demands.specs.Events.{Event, took, Sound, AllSound, connectionOf, next, after}
+use Rattle.demands.specs.Events.{Event, took, Sound, AllSound, next, after}
 use Rattle.demands.specs.Past.{isData}
 use Rattle.demands.specs.LeftOut.{NoneGenuine}
 use Rattle.demands.specs.Traps.{JustOpen}
 use Rattle.demands.specs.Example.{exampleId, exampleSecret, exampleWidth, exampleHello, examplePlan}
+use Rattle.connection.specs.Connection.{alone}
+use Rattle.connection.specs.Sent.{noRecords}
 
 abbrev pub exampleFresh : Handshake
 exampleFresh = freshWith exampleId exampleSecret exampleWidth
@@ -31,17 +33,17 @@ pub record OpenRun : Type 0 where
   pub es : List Event
   pub sound : AllSound es
   pub is-open : after exampleFresh es .state ≡ Open
-  pub just-open : JustOpen (connectionOf (after exampleFresh es))
+  pub just-open : JustOpen (alone (after exampleFresh es))
   pub random : List ℕ
   pub d : List ℕ
   pub r : Record
-  pub here : Sound (took random d r)
-  pub handed : isData (judgedRecord (after exampleFresh es) random d r .answer) ≡ true
+  pub here : Sound (took noRecords random d r)
+  pub handed : isData (judgedRecord (after exampleFresh es) noRecords random d r .answer) ≡ true
   -- sends that are done there, protected
   pub bytes : List ℕ
   pub out : List ℕ
-  pub data-done : dataSent (connectionOf (after exampleFresh es)) bytes (length out) .outcome ≡ Done
-  pub alert-done : alertSent (connectionOf (after exampleFresh es)) true 1 0 [] (length out) .outcome ≡ Done
+  pub data-done : dataSent (alone (after exampleFresh es)) bytes (length out) .outcome ≡ Done
+  pub alert-done : alertSent (alone (after exampleFresh es)) true 1 0 [] (length out) .outcome ≡ Done
   -- a soundly framed datagram without a genuine record
   pub noise : List ℕ
   pub noise-records : List Record

@@ -1,21 +1,19 @@
--- What is kept is what happened: after any run from fresh, each field of the connection is what the history of the
--- run says. So that "the key", "the expected Finished", "the same reply" and "the window" elsewhere are no mere
--- fields.
+-- What is kept is what happened: after any life from fresh, each field of a handshake is what the history of its life says; with
+-- `Lives`, of both handshakes of a connection. (The records that we sent are the connection's: `Lives.SentIsWhatHappened`.) So that
+-- "the key", "the expected Finished", "the same reply" and "the window" elsewhere are no mere fields.
 use mathlib.Core.Path.{_≡_}
 use mathlib.Core.Bool.{Bool, true, false}
-use mathlib.Core.List.{List, [], map}
+use mathlib.Core.List.{List, []}
 use Prim.Native.Nat.{ℕ}
-use lib.ListN.{take}
 use Rattle.record.specs.History.{windowOf}
 use Rattle.demands.specs.Runs.{freshWith}
 use Rattle.connection.specs.Handshake.{noSession, nothingKept, keptHello, keptReply, planted}
-use Rattle.connection.specs.Sent.{recordsKept, sumOf, sumsOf}
 use Rattle.connection.specs.Calls.{sessionOf}
 use Rattle.connection.specs.declared.handshake.Handshake.{Handshake}
 use Rattle.connection.specs.declared.handshake.Session.{Session}
 use Rattle.connection.specs.declared.state.State.the-variants.{Barred}
 use Rattle.demands.specs.Events.{Event, Happened, after, history}
-use Rattle.demands.specs.Past.{lastReply, keptGreeting, agreedFor, helloAs, replyFor, protectedNext, nextClearNumber, sentSince, acceptedIn, barredIn, agreedOf, nothingAgreed, Agreed}
+use Rattle.demands.specs.Past.{lastReply, keptGreeting, agreedFor, helloAs, replyFor, protectedNext, nextClearNumber, acceptedIn, barredIn, agreedOf, nothingAgreed, Agreed}
 use Rattle.record.specs.Window.{Held}
 
 pub record KeptAs (session : Session) (width : ℕ) (past : List Happened) (h : Handshake) : Type 0 where
@@ -29,8 +27,6 @@ pub record KeptAs (session : Session) (width : ℕ) (past : List Happened) (h : 
   -- "After each new reply our data and protected alerts count on from 1, clear alerts from 2"
   pub protected-is : h .protection .protected ≡ protectedNext past
   pub clear-is : h .protection .clear ≡ nextClearNumber past
-  -- the checksums of "the last eight records that we sent since the last start, fewer if fewer were sent"
-  pub sent-is : sumsOf (h .sent) ≡ map sumOf (take recordsKept (sentSince session past))
   -- the window has the width that was given to fresh, 32 to 64, and holds exactly the numbers accepted since the last
   -- change cipher spec that was taken
   pub held : Held width

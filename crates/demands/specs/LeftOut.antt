@@ -1,30 +1,97 @@
 -- Demand 3: "Take an open connection, .. and any run of datagrams, up to the first genuine record that closes it or
 -- our own closing. .. Leave out every datagram without a genuine record: the data handed out, its order and the
--- connection are the same."
+-- connection are the same." 02, P6: it "speaks of the open connection until that replacement; when datagrams are left out, the
+-- started handshake, its keys and the kept list of records sent may differ. Genuine means under the open keys; both runs compared
+-- end at the first record that is right under the started keys in either."
 use mathlib.Core.Path.{_≡_}
 use mathlib.Core.Logic.{_≢_}
 use mathlib.Core.Bool.{Bool, true, false}
-use mathlib.Core.List.{List, [], _∷_, _++_}
+use mathlib.Core.List.{List, [], _∷_, _++_, map}
 use Prim.Native.Nat.{ℕ}
 use Rattle.digest.specs.Pick.{pick}
 use Rattle.record.specs.declared.reader.Record.{Record}
 use Rattle.connection.specs.Answer.{handedOf}
-use Rattle.connection.specs.Tally.{countedOf}
+use Rattle.connection.specs.Told.{toldRecord}
+use Rattle.connection.specs.Receive.{endOf}
+use Rattle.record.specs.Datagram.{framed, framingOf}
+use Rattle.connection.specs.Tally.{countedOf, countedAnswer}
 use Rattle.connection.specs.declared.answer.Slot.{Slot}
 use Rattle.connection.specs.declared.connection.Connection.{Connection}
 use Rattle.connection.specs.declared.state.State.{State}
 use Rattle.connection.specs.declared.state.State.the-variants.{Open, Closed}
 use Rattle.connection.specs.declared.tally.Tally.{Tally}
-use Rattle.demands.specs.Runs.{Call, receive, send-data, send-alert, close, start, Result, received, sent, called, Step, Gateway, stepsOf, finalOf}
+use Rattle.demands.specs.Runs.{Call, receive, send-data, send-alert, close, start, Result, received, sent, called, Gateway, finalOf}
 use Rattle.record.specs.declared.keys.Keys.{Keys}
-use Rattle.demands.specs.Genuine.{Genuine, keysOf}
+use Rattle.demands.specs.Genuine.{Genuine, RecordOf, keysOf}
+use Rattle.demands.specs.Asked.{RightBeside}
+use Rattle.demands.specs.Acts.{Act, comes, sends, alerts, closes, starts, leaves, behind, actsIn}
 use Rattle.demands.specs.Past.{isData}
 
 -- a datagram without a genuine record
 abbrev pub NoneGenuine : Keys → List ℕ → Type 0
 NoneGenuine k d = (r : Record) (c : List ℕ) → Genuine k d r c → ⊥
 
--- the calls of such a run, in a state: no start again that takes effect, which is one in Closed
+-- ---- record by record
+
+-- an act of such a run: no record that is right under the started keys, and no start again that takes effect, which is one in Closed
+abbrev pub GoesOn : Connection → Act → Type 0
+GoesOn c (comes random d r) = RightBeside c d r → ⊥
+GoesOn c (sends bytes out) = Unit
+GoesOn c (alerts protected level description answered out) = Unit
+GoesOn c closes = Unit
+GoesOn c starts = c .handshake .state ≢ Closed
+
+-- The second list is the first with some records left out, each not genuine under the open keys k; c and e are the connections that
+-- the two runs have left so far. They end before the first act that does not go on, in either.
+pub data Without (k : Keys) : Connection → Connection → List Act → List Act → Type 0 where
+  ends : {c e : Connection} → Without k c e [] []
+  both : {c e : Connection} {a : Act} {acts bs : List Act} → GoesOn c a → GoesOn e a
+      → Without k (leaves c a) (leaves e a) acts bs → Without k c e (a ∷ acts) (a ∷ bs)
+  but : {c e : Connection} {random d : List ℕ} {r : Record} {acts bs : List Act} → RecordOf d r → ((x : List ℕ) → Genuine k d r x → ⊥)
+      → GoesOn c (comes random d r) → Without k (leaves c (comes random d r)) e acts bs
+      → Without k c e (comes random d r ∷ acts) bs
+
+-- the byte strings that a run hands out, in order
+abbrev pub handedAt : Connection → Act → List (List ℕ)
+handedAt c (comes random d r) =
+    pick (isData (toldRecord c random d r .answer)) (handedOf d (toldRecord c random d r .answer) ∷ []) []
+handedAt c (sends bytes out) = []
+handedAt c (alerts protected level description answered out) = []
+handedAt c closes = []
+handedAt c starts = []
+
+unfoldable pub handedOver : Connection → List Act → List (List ℕ)
+handedOver c [] = []
+handedOver c (a ∷ acts) = handedAt c a ++ handedOver (leaves c a) acts
+
+-- the same open handshake: state, session, width, keys, window, kept hello and reply, sending numbers
+abbrev pub SameOpen : Connection → Connection → Type 0
+SameOpen c e = c .handshake ≡ e .handshake
+
+unfoldable pub LeavesOutRecords : Type 0
+LeavesOutRecords =
+    (c e : Connection) → SameOpen c e → c .handshake .state ≡ Open → (acts bs : List Act) → Without (keysOf (c .handshake)) c e acts bs
+    → SameOpen (behind c acts) (behind e bs) × (handedOver c acts ≡ handedOver e bs)
+
+-- "No datagram without a record genuine under the open keys, or right under the started ones, changes the open handshake."
+unfoldable pub Unreplaced : Connection → List Act → Type 0
+Unreplaced c [] = Unit
+Unreplaced c (comes random d r ∷ acts) = (RightBeside c d r → ⊥) × Unreplaced (leaves c (comes random d r)) acts
+Unreplaced c (sends bytes out ∷ acts) = Unreplaced (leaves c (sends bytes out)) acts
+Unreplaced c (alerts protected level description answered out ∷ acts) =
+    Unreplaced (leaves c (alerts protected level description answered out)) acts
+Unreplaced c (closes ∷ acts) = Unreplaced (leaves c closes) acts
+Unreplaced c (starts ∷ acts) = Unreplaced (leaves c starts) acts
+
+unfoldable pub OpenKept : Type 0
+OpenKept =
+    (c : Connection) → c .handshake .state ≡ Open → (random d : List ℕ) (rs : List Record) → framingOf d ≡ framed rs
+    → NoneGenuine (keysOf (c .handshake)) d → Unreplaced c (map (comes random d) rs)
+    → endOf c random d rs .handshake ≡ c .handshake
+
+-- ---- call by call, of any gateway
+
+-- the calls of such a run, in a state: no start again that takes effect
 abbrev pub Continues : State → Call → Type 0
 Continues s (receive d random out) = Unit
 Continues s (send-data bytes out) = Unit
@@ -32,23 +99,16 @@ Continues s (send-alert protected level description answered out) = Unit
 Continues s close = Unit
 Continues s start = s ≢ Closed
 
--- the second list is the first with some datagrams left out, each without a genuine record; c is the connection that the
--- calls which stay have left so far
-pub data LeftOut (g : Gateway) (k : Keys) : Connection → List Call → List Call → Type 0 where
-  end : {c : Connection} → LeftOut g k c [] []
-  stays : {c : Connection} {call : Call} {calls rest : List Call} → Continues (c .handshake .state) call
-      → LeftOut g k (g c call .connection) calls rest → LeftOut g k c (call ∷ calls) (call ∷ rest)
-  left : {c : Connection} {d random out : List ℕ} {calls rest : List Call} → NoneGenuine k d → LeftOut g k c calls rest
-      → LeftOut g k c (receive d random out ∷ calls) rest
-
--- the steps of the calls that stay
-unfoldable pub stepsLeft : {g : Gateway} {k : Keys} {c : Connection} {calls rest : List Call} → LeftOut g k c calls rest
-    → List Step → List Step
-stepsLeft end steps = []
-stepsLeft (stays go more) [] = []
-stepsLeft (stays go more) (step ∷ steps) = step ∷ stepsLeft more steps
-stepsLeft (left none more) [] = []
-stepsLeft (left none more) (step ∷ steps) = stepsLeft more steps
+-- the second list is the first with some datagrams left out, each without a genuine record; no record of either run is right under
+-- the started keys
+pub data LeftOut (g : Gateway) (k : Keys) : Connection → Connection → List Call → List Call → Type 0 where
+  end : {c e : Connection} → LeftOut g k c e [] []
+  stays : {c e : Connection} {call : Call} {calls rest : List Call} → Continues (c .handshake .state) call
+      → Unreplaced c (actsIn call) → Unreplaced e (actsIn call)
+      → LeftOut g k (g c call .connection) (g e call .connection) calls rest → LeftOut g k c e (call ∷ calls) (call ∷ rest)
+  left : {c e : Connection} {d random out : List ℕ} {calls rest : List Call} → NoneGenuine k d
+      → Unreplaced c (actsIn (receive d random out)) → LeftOut g k (g c (receive d random out) .connection) e calls rest
+      → LeftOut g k c e (receive d random out ∷ calls) rest
 
 -- the byte strings that a step hands out, in order
 unfoldable pub handedParts : List ℕ → List Slot → List (List ℕ)
@@ -89,17 +149,13 @@ pub record ButForged (t u : Tally) : Type 0 where
   pub old-same : t .old ≡ u .old
   pub repeated-same : t .repeated ≡ u .repeated
 
--- "the data handed out, its order and the connection are the same": the whole value; and each call that stays gives
--- the same result and writes the same bytes
-pub record SameWithout (g : Gateway) (k : Keys) (c : Connection) (calls rest : List Call)
-    (out : LeftOut g k c calls rest) : Type 0 where
-  pub same-connection : finalOf g c calls ≡ finalOf g c rest
-  pub same-handed : handedBy g c calls ≡ handedBy g c rest
-  pub same-steps : stepsLeft out (stepsOf g c calls) ≡ stepsOf g c rest
-  pub same-tally : (t : Tally) → ButForged (talliedBy g t c calls) (talliedBy g t c rest)
+-- "the data handed out, its order and the connection are the same": the open handshake
+pub record SameWithout (g : Gateway) (c e : Connection) (calls rest : List Call) : Type 0 where
+  pub same-open : SameOpen (finalOf g c calls) (finalOf g e rest)
+  pub same-handed : handedBy g c calls ≡ handedBy g e rest
+  pub same-tally : (t : Tally) → ButForged (talliedBy g t c calls) (talliedBy g t e rest)
 
 unfoldable pub LeavesOut : Gateway → Type 0
 LeavesOut g =
-    (c : Connection) → c .handshake .state ≡ Open
-    → (calls rest : List Call) (out : LeftOut g (keysOf (c .handshake)) c calls rest)
-    → SameWithout g (keysOf (c .handshake)) c calls rest out
+    (c e : Connection) → SameOpen c e → c .handshake .state ≡ Open → (calls rest : List Call)
+    → LeftOut g (keysOf (c .handshake)) c e calls rest → SameWithout g c e calls rest

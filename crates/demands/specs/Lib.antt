@@ -2,13 +2,17 @@
 pub mod Runs
 pub mod Genuine
 pub mod Table
+pub mod Asked
 pub mod Calls
 pub mod Refusals
 pub mod Changes
+pub mod Replaced
 pub mod Events
+pub mod Acts
 pub mod Past
 pub mod Kept
 pub mod Finished
+pub mod Lives
 pub mod LeftOut
 pub mod Course
 pub mod HandedOut

@@ -106,12 +106,13 @@ unfoldable pub MessagesRun : Type 0
 MessagesRun = (l : Link) (ps : List Posted) → SameRun l ps
 
 -- Demand 3 for short messages: two runs of messages on one open connection, whose gathered datagrams are the same but for some
--- without a genuine record, leave the same connection; and what they hand out is the same, in the same order.
+-- without a genuine record, leave the same open handshake; and what they hand out is the same, in the same order. As in `LeftOut`, no
+-- record of either is right under the started keys.
 unfoldable pub MessagesLeaveOut : Type 0
 MessagesLeaveOut =
     (c : Connection) → c .handshake .state ≡ Open
     → (g g′ : Gathering) (ps ps′ : List Posted)
-    → O.LeftOut stepOf (keysOf (c .handshake)) c (callsIn g ps) (callsIn g′ ps′)
-    → (linkEnd (record { connection = c; gathering = g }) ps .connection
-    ≡ linkEnd (record { connection = c; gathering = g′ }) ps′ .connection)
+    → O.LeftOut stepOf (keysOf (c .handshake)) c c (callsIn g ps) (callsIn g′ ps′)
+    → O.SameOpen (linkEnd (record { connection = c; gathering = g }) ps .connection)
+    (linkEnd (record { connection = c; gathering = g′ }) ps′ .connection)
     × (O.handedBy stepOf c (callsIn g ps) ≡ O.handedBy stepOf c (callsIn g′ ps′))

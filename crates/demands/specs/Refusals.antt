@@ -14,6 +14,7 @@ use Rattle.connection.specs.Answer.{replySize}
 use Rattle.connection.specs.Refusal.{refusalNumber}
 use Rattle.connection.specs.Handshake.{withState, withWindow}
 use Rattle.connection.specs.Judge.{judgedRecord}
+use Rattle.connection.specs.Told.{toldRecord}
 use Rattle.connection.specs.declared.state.State.the-variants.{Closed}
 use Rattle.connection.specs.declared.refusal.Refusal.{Refusal}
 use Rattle.connection.specs.declared.refusal.Refusal.the-variants as X
@@ -25,6 +26,7 @@ use Rattle.connection.specs.declared.receive.Taken.{Taken}
 use Rattle.connection.specs.declared.receive.Taken.the-variants as T
 use Rattle.connection.specs.declared.handshake.Handshake.{Handshake}
 use Rattle.demands.specs.Runs.{Call, receive, send-data, send-alert, close, start, Result, received, sent, called, Step, Gateway, stepOf}
+use Rattle.connection.specs.declared.sent.SentRecords.{SentRecords}
 
 -- the output that a call lends
 abbrev pub lentBy : Call → List ℕ
@@ -80,7 +82,6 @@ refusedLeaves h protected s X.Checksum = h
 refusedLeaves h protected s X.Spent = h
 refusedLeaves h protected s X.Argument = h
 refusedLeaves h protected s X.WrongFinished = withState (marked h s) Closed
-refusedLeaves h protected s X.HelloWhileOpen = h
 
 -- for each call
 unfoldable pub RefusedCallChangesNothing : Gateway → Type 0
@@ -91,17 +92,18 @@ RefusedCallChangesNothing g =
 -- for each record
 unfoldable pub RefusedRecordChangesNothing : Type 0
 RefusedRecordChangesNothing =
-    (h : Handshake) (random d : List ℕ) (r : Record) (x : Refusal) → judgedRecord h random d r .answer ≡ W.Refused x
-    → judgedRecord h random d r .handshake ≡ refusedLeaves h (r .protected) (r .number) x
+    (h : Handshake) (records : SentRecords) (random d : List ℕ) (r : Record) (x : Refusal)
+    → judgedRecord h records random d r .answer ≡ W.Refused x
+    → judgedRecord h records random d r .handshake ≡ refusedLeaves h (r .protected) (r .number) x
 
 -- a datagram whose first record gets no reply writes nothing: "a success writes the counted bytes at the front and no
 -- others"
 unfoldable pub NothingWrittenWithoutReply : Type 0
 NothingWrittenWithoutReply =
     (c : Connection) (d random out : List ℕ) (r : Record) (rs : List Record) → framingOf d ≡ framed (r ∷ rs)
-    → replySize (judgedRecord (c .handshake) random d r .answer) ≡ 0
+    → replySize (toldRecord c random d r .answer) ≡ 0
     → (stepOf c (receive d random out) .output ≡ out) × (writtenBy (stepOf c (receive d random out) .result) ≡ 0)
 
--- Demand 1: "Bad input is refused with a number from the list."
+-- Demand 1: "Bad input is refused with a number from the list." 02, P6: "18 is not given any more"
 unfoldable pub RefusedByTheList : Type 0
-RefusedByTheList = (x : Refusal) → (1 ≤ refusalNumber x) × (refusalNumber x ≤ 18)
+RefusedByTheList = (x : Refusal) → (1 ≤ refusalNumber x) × (refusalNumber x ≤ 17)

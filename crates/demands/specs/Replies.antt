@@ -11,14 +11,18 @@ use Rattle.message.specs.Acceptance.{heardOf}
 use Rattle.message.specs.declared.acceptance.Plan.{Plan}
 use Rattle.message.specs.declared.acceptance.Heard.the-variants.{Accepted}
 use Rattle.connection.specs.Calls.{sessionOf}
-use Rattle.connection.specs.Judge.{judgedRecord, fragmentOf}
+use Rattle.connection.specs.Judge.{fragmentOf}
+use Rattle.connection.specs.Asked.{whomOf}
+use Rattle.connection.specs.Told.{toldRecord}
 use Rattle.connection.specs.Reply.{replyTo}
 use Rattle.connection.specs.declared.answer.Answer.{Answer}
 use Rattle.connection.specs.declared.answer.Answer.the-variants.{Nothing, Reply, Resent, Spec, Open, Again, Data, Warning, Critical, Fatal, Barred, Refused}
 use Rattle.connection.specs.declared.handshake.Session.{Session}
 use Rattle.record.specs.Window.{Held}
-use Rattle.demands.specs.Runs.{receive, stepOf, freshWith}
-use Rattle.demands.specs.Events.{Event, Happened, connectionOf, after, history}
+use Rattle.demands.specs.Runs.{receive, stepOf, freshWith, freshOne}
+use Rattle.demands.specs.Events.{Happened, history}
+use Rattle.demands.specs.Acts.{Act, behind}
+use Rattle.demands.specs.Lives.{noLives, livesOf, lifeOf}
 use Rattle.demands.specs.Past.{keptGreeting, replyFor}
 use Rattle.demands.specs.Refusals.{writtenBy}
 
@@ -41,15 +45,15 @@ Sends session past random m bytes (Fatal description) = bytes ≡ []
 Sends session past random m bytes (Barred description) = bytes ≡ []
 Sends session past random m bytes (Refused refusal) = bytes ≡ []
 
--- in any run from fresh, what a receive writes
+-- in any run from fresh, what a receive writes, by the life of the handshake that is asked
 unfoldable pub RepliesRight : Type 0
 RepliesRight =
-    (id secret : List ℕ) (width : ℕ) → Held width → (es : List Event) (d random out : List ℕ) (r : Record) (rs : List Record)
+    (id secret : List ℕ) (width : ℕ) → Held width → (acts : List Act) (d random out : List ℕ) (r : Record) (rs : List Record)
     → length random ≡ 16 → 128 ≤ length out
     → framingOf d ≡ framed (r ∷ rs)
-    → let past = history (freshWith id secret width) es [] in
-    let h = after (freshWith id secret width) es in
-    let answer = judgedRecord h random d r .answer in
-    (bytes : List ℕ) × Sends (sessionOf id secret) past random (fragmentOf d r) bytes answer
-    × (stepOf (connectionOf h) (receive d random out) .output ≡ laidOver out 0 bytes)
-    × (writtenBy (stepOf (connectionOf h) (receive d random out) .result) ≡ length bytes)
+    → let c = behind (freshOne id secret width) acts in
+    let l = livesOf (freshOne id secret width) noLives acts in
+    let past = history (freshWith id secret width) (lifeOf l (whomOf c d r)) [] in
+    (bytes : List ℕ) × Sends (sessionOf id secret) past random (fragmentOf d r) bytes (toldRecord c random d r .answer)
+    × (stepOf c (receive d random out) .output ≡ laidOver out 0 bytes)
+    × (writtenBy (stepOf c (receive d random out) .result) ≡ length bytes)

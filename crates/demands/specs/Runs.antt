@@ -7,6 +7,7 @@ use lib.ListN.{length}
 use Rattle.connection.specs.Receive.{receivedOf, outputOf}
 use Rattle.connection.specs.Send.{dataSent, dataOutput, alertSent, alertOutput}
 use Rattle.connection.specs.Handshake.{newHandshake}
+use Rattle.connection.specs.Connection.{alone}
 use Rattle.connection.specs.Calls.{closedOf, startedOf, sessionOf}
 use Rattle.connection.specs.declared.answer.Slot.{Slot}
 use Rattle.connection.specs.declared.connection.Connection.{Connection}
@@ -72,6 +73,9 @@ unfoldable pub finalOf : Gateway → Connection → List Call → Connection
 finalOf g c [] = c
 finalOf g c (call ∷ calls) = finalOf g (g c call .connection) calls
 
--- a connection fresh from a planted session, with a window of this width
+-- a handshake and a connection fresh from a planted session, with a window of this width
 abbrev pub freshWith : List ℕ → List ℕ → ℕ → Handshake
 freshWith id secret width = newHandshake (sessionOf id secret) width Idle
+
+abbrev pub freshOne : List ℕ → List ℕ → ℕ → Connection
+freshOne id secret width = alone (freshWith id secret width)

@@ -24,10 +24,12 @@ use Rattle.message.specs.declared.alert.Graded.the-variants as G
 use Rattle.message.specs.declared.alert.Sorted.the-variants as D
 use Rattle.connection.specs.declared.calls.Outcome.the-variants as O
 use Rattle.record.specs.declared.keys.Keys.{Keys}
-use Rattle.demands.specs.Events.{Event, AllSound, Happened, connectionOf, after, history}
+use Rattle.demands.specs.Events.{Happened, history}
+use Rattle.demands.specs.Acts.{Act, SoundActs, behind}
+use Rattle.demands.specs.Lives.{noLives, livesOf, senderLife}
 use Rattle.demands.specs.Past.{keysIn, protectedNext, nextClearNumber}
 use Rattle.record.specs.Window.{Held}
-use Rattle.demands.specs.Runs.{freshWith}
+use Rattle.demands.specs.Runs.{freshWith, freshOne}
 
 -- our MAC secret for number s
 abbrev pub ourKey : Keys → ℕ → List ℕ
@@ -57,28 +59,29 @@ pub record ClearRecord (s : ℕ) (body bytes : List ℕ) : Type 0 where
   pub in-range : s ≤ 65535
   pub body-is : take (r .size) (drop (r .head) bytes) ≡ body
 
--- in any run from fresh, what a send writes at the front of the output
+-- in any run from fresh, what a send writes at the front of the output: data, by the life of the open handshake
 unfoldable pub DataSentRight : Type 0
 DataSentRight =
-    (id secret : List ℕ) (width : ℕ) → Held width → (es : List Event) → AllSound es → (bytes out : List ℕ)
-    → let c = connectionOf (after (freshWith id secret width) es) in
-    let past = history (freshWith id secret width) es [] in
+    (id secret : List ℕ) (width : ℕ) → Held width → (acts : List Act) → SoundActs acts → (bytes out : List ℕ)
+    → let c = behind (freshOne id secret width) acts in
+    let past = history (freshWith id secret width) (livesOf (freshOne id secret width) noLives acts .own) [] in
     dataSent c bytes (length out) .outcome ≡ O.Done
     → ProtectedRecord (keysIn (sessionOf id secret) past) C.Data (protectedNext past) bytes
     (take (dataSent c bytes (length out) .written) (dataOutput c bytes out))
 
--- an alert: clear or protected
+-- an alert: clear or protected, by the life of the handshake that sends it (02, P6: "each by its own sending numbers")
 abbrev pub AlertRecord : Bool → Keys → List Happened → List ℕ → List ℕ → Type 0
 AlertRecord true k past body bytes = ProtectedRecord k C.Alert (protectedNext past) body bytes
 AlertRecord false k past body bytes = ClearRecord (nextClearNumber past) body bytes
 
 unfoldable pub AlertSentRight : Type 0
 AlertSentRight =
-    (id secret : List ℕ) (width : ℕ) → Held width → (es : List Event) → AllSound es
+    (id secret : List ℕ) (width : ℕ) → Held width → (acts : List Act) → SoundActs acts
     → (protected : Bool) (level description : ℕ) (l : Level) (k : Description) (answered out : List ℕ)
     → levelOf level ≡ G.Is l → sortedOf description ≡ D.Assigned k
-    → let c = connectionOf (after (freshWith id secret width) es) in
-    let past = history (freshWith id secret width) es [] in
+    → let c = behind (freshOne id secret width) acts in
+    let lives = livesOf (freshOne id secret width) noLives acts in
+    let past = history (freshWith id secret width) (senderLife lives protected (c .handshake .state)) [] in
     alertSent c protected level description answered (length out) .outcome ≡ O.Done
     → AlertRecord protected (keysIn (sessionOf id secret) past) past (alertBody l k answered)
     (take (alertSent c protected level description answered (length out) .written)

@@ -12,6 +12,7 @@ use Rattle.message.specs.Blank.{blanked, entriesRanged, HeardAlike}
 use Rattle.connection.specs.Judge.{judgedRecord, fragmentOf}
 use Rattle.connection.specs.declared.handshake.Handshake.{Handshake}
 use Rattle.demands.specs.Table.{Greets}
+use Rattle.connection.specs.declared.sent.SentRecords.{SentRecords}
 
 -- the message that a record brings is the hello of these values
 pub record Brings (d : List ℕ) (r : Record) (v : Values) : Type 0 where
@@ -22,7 +23,7 @@ pub record Brings (d : List ℕ) (r : Record) (v : Values) : Type 0 where
 pub record AnsweredAlike : Type 0 where
   pub sound : (v w : Values) → blanked v ≡ blanked w → entriesRanged (w .client) ≡ true → entriesRanged (w .trusted) ≡ true
       → allowed v ≡ true → allowed w ≡ true
-  pub answered : (h : Handshake) (random d e : List ℕ) (r q : Record) (v w : Values)
+  pub answered : (h : Handshake) (sent : SentRecords) (random d e : List ℕ) (r q : Record) (v w : Values)
       → length random ≡ 16
       → length (h .id) ≡ 8
       → blanked v ≡ blanked w
@@ -30,7 +31,7 @@ pub record AnsweredAlike : Type 0 where
       → Brings e q w
       → Greets h d r
       → Greets h e q
-      → judgedRecord h random d r .answer ≡ judgedRecord h random e q .answer
+      → judgedRecord h sent random d r .answer ≡ judgedRecord h sent random e q .answer
 
 -- explicit sets, read and written exactly, and of no weight in what is accepted
 pub record Sets : Type 0 where

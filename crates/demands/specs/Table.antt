@@ -1,6 +1,6 @@
--- The state table of 01, "Handshake", and the refusals of a record, "Refusal numbers": each row as a rule from the
--- state and the bytes of a record to its answer and to what it leaves. "Per record: 7; then place and state (18, 8);
--- then code and window; then content 12, then 13, 14 or 17."
+-- The state table of 01, "Handshake", and the refusals of a record, "Refusal numbers", of one handshake: each row as a rule
+-- from its state and the bytes of a record to its answer and to what it leaves. "Per record: 7; then place and state (8);
+-- then code and window; then content 12, then 13, 14 or 17." Which handshake of a connection a record is for: `Asked`.
 use mathlib.Core.Path.{_≡_}
 use mathlib.Core.Logic.{_↔_, _⊎_, _≢_}
 use mathlib.Core.Bool.{Bool, true, false}
@@ -27,7 +27,8 @@ use Rattle.message.specs.declared.alert.Alert.{Alert}
 use Rattle.message.specs.declared.alert.Level.the-variants as L
 use Rattle.message.specs.declared.alert.Reading.the-variants as R
 use Rattle.message.specs.declared.finished.Verified.the-variants as F
-use Rattle.connection.specs.Handshake.{withState, withWindow, barred, keptHello, keptReply, planted, wasSent}
+use Rattle.connection.specs.Handshake.{withState, withWindow, barred, keptHello, keptReply, planted}
+use Rattle.connection.specs.Sent.{matchesOf}
 use Rattle.connection.specs.Answer.{judged, refusing}
 use Rattle.connection.specs.Reply.{replyTo, answeredWith}
 use Rattle.connection.specs.Judge.{judgedRecord, fragmentOf}
@@ -38,6 +39,7 @@ use Rattle.connection.specs.declared.answer.Answer.the-variants as W
 use Rattle.connection.specs.declared.answer.Judged.{Judged}
 use Rattle.connection.specs.declared.handshake.Handshake.{Handshake}
 use Rattle.demands.specs.Genuine.{Protected, keysOf}
+use Rattle.connection.specs.declared.sent.SentRecords.{SentRecords}
 
 -- 7: "Barred, or Closed except for start again and close"
 abbrev pub ended : State → Bool
@@ -61,20 +63,8 @@ helloFor C.Data protected one = false
 abbrev pub isHello : List ℕ → Record → Bool
 isHello d r = helloFor (r .content) (r .protected) (beginsHello d r)
 
--- "In Open any clear ClientHello is refused 18."
-abbrev pub openIs : State → Bool
-openIs Idle = false
-openIs Replied = false
-openIs Spec = false
-openIs Open = true
-openIs Closed = false
-openIs Barred = false
-
-abbrev pub helloWhileOpen : State → List ℕ → Record → Bool
-helloWhileOpen s d r = pick (openIs s) (isHello d r) false
-
 -- The clear records of the table: ClientHello in Idle, Replied and Spec; change cipher spec in Replied; alert in
--- Replied and Spec. "Everything else is refused. In Open .. other clear records 8."
+-- Replied and Spec. "Everything else is refused." An open handshake knows one clear record, the hello that made it: `Returns`.
 abbrev pub clearAllowed : State → Content → Bool → Bool
 clearAllowed Idle C.ChangeCipherSpec one = false
 clearAllowed Idle C.Alert one = false
@@ -131,6 +121,13 @@ pub record Greets (h : Handshake) (d : List ℕ) (r : Record) : Type 0 where
   -- "Idle"; "Replied, Spec: another ..."
   pub another : (h .state ≡ Idle) ⊎ (Hears (h .state) × (fragmentOf d r ≢ keptHello h))
 
+-- 02, P6: "The hello that made the open connection gets its reply bytes again and starts nothing."
+pub record Returns (h : Handshake) (d : List ℕ) (r : Record) : Type 0 where
+  pub is-open : h .state ≡ Open
+  pub hello : isHello d r ≡ true
+  pub first : r .start ≡ 0
+  pub same : fragmentOf d r ≡ keptHello h
+
 -- 12 under protection: "empty data", an alert or a Finished that is none, "change cipher spec or a message other than
 -- Finished under protection"
 abbrev pub MalformedAs : Content → List ℕ → List ℕ → Type 0
@@ -139,93 +136,94 @@ MalformedAs C.Alert c expected = alertOf c ≡ R.Malformed
 MalformedAs C.Handshake c expected = judgedOf c expected ≡ F.Malformed
 MalformedAs C.Data c expected = length c ≡ 0
 
--- The rows: the record r of the datagram d, in the handshake h, with our random, gives this answer and leaves this
--- handshake.
-pub data Row (h : Handshake) (random d : List ℕ) (r : Record) : Judged → Type 0 where
+-- The rows: the record r of the datagram d, in the handshake h, with our random and the records that we sent, gives this
+-- answer and leaves this handshake.
+pub data Row (h : Handshake) (sent : SentRecords) (random d : List ℕ) (r : Record) : Judged → Type 0 where
   -- 7
-  row-ended : ended (h .state) ≡ true → Row h random d r (refusing X.Ended h)
-  -- 18: "clear ClientHello while Open"
-  row-hello-while-open : helloWhileOpen (h .state) d r ≡ true → Row h random d r (refusing X.HelloWhileOpen h)
+  row-ended : ended (h .state) ≡ true → Row h sent random d r (refusing X.Ended h)
   -- 8: "record .. not allowed in this state or place"; a ClientHello "may stand only first in its datagram"
-  row-not-allowed : ended (h .state) ≡ false → helloWhileOpen (h .state) d r ≡ false → allowed (h .state) d r ≡ false
-      → Row h random d r (refusing X.NotAllowed h)
+  row-not-allowed : ended (h .state) ≡ false → allowed (h .state) d r ≡ false → (Returns h d r → ⊥)
+      → Row h sent random d r (refusing X.NotAllowed h)
   row-not-first : allowed (h .state) d r ≡ true → isHello d r ≡ true → (r .start ≡ 0 → ⊥)
-      → Row h random d r (refusing X.NotAllowed h)
+      → Row h sent random d r (refusing X.NotAllowed h)
   -- "Idle | clear ClientHello | reply; Replied" and "Replied, Spec | another acceptable ClientHello | new reply;
   -- Replied"
   row-reply : (plan : Plan) → Greets h d r → heardOf (fragmentOf d r) (h .id) ≡ H.Accepted plan
-      → Row h random d r
+      → Row h sent random d r
       (judged (W.Reply (length (replyTo (planted h) random (fragmentOf d r) plan)))
       (answeredWith h random (fragmentOf d r) plan))
   -- 12 and 13 of a hello
   row-hello-malformed : (fault : Field) → Greets h d r → heardOf (fragmentOf d r) (h .id) ≡ H.Malformed fault
-      → Row h random d r (refusing X.Malformed h)
+      → Row h sent random d r (refusing X.Malformed h)
   row-unacceptable : (condition : Condition) → Greets h d r
       → heardOf (fragmentOf d r) (h .id) ≡ H.Unacceptable condition
-      → Row h random d r (refusing X.Unacceptable h)
+      → Row h sent random d r (refusing X.Unacceptable h)
   -- "Replied, Spec | the same ClientHello message | the same reply bytes; no change"
   row-resent : Hears (h .state) → isHello d r ≡ true → r .start ≡ 0 → fragmentOf d r ≡ keptHello h
-      → Row h random d r (judged (W.Resent (length (keptReply h))) h)
+      → Row h sent random d r (judged (W.Resent (length (keptReply h))) h)
+  -- Open: "gets its reply bytes again" (02, P6)
+  row-returned : Returns h d r → Row h sent random d r (judged (W.Resent (length (keptReply h))) h)
   -- "Replied | clear change cipher spec (one byte 1) | Spec, window empty"; 12: "clear change cipher spec other than
   -- one byte 1"
   row-change : h .state ≡ Replied → r .protected ≡ false → r .content ≡ C.ChangeCipherSpec
       → isChange (fragmentOf d r) ≡ true
-      → Row h random d r (judged W.Spec (withState (withWindow h (emptied (h .protection .window))) Spec))
+      → Row h sent random d r (judged W.Spec (withState (withWindow h (emptied (h .protection .window))) Spec))
   row-change-malformed : h .state ≡ Replied → r .protected ≡ false → r .content ≡ C.ChangeCipherSpec
       → isChange (fragmentOf d r) ≡ false
-      → Row h random d r (refusing X.Malformed h)
+      → Row h sent random d r (refusing X.Malformed h)
   -- "Replied, Spec | clear alert | by level"; 12, then 14: "clear alert with another checksum"
   row-clear-malformed : Hears (h .state) → r .protected ≡ false → r .content ≡ C.Alert
       → alertOf (fragmentOf d r) ≡ R.Malformed
-      → Row h random d r (refusing X.Malformed h)
+      → Row h sent random d r (refusing X.Malformed h)
   row-checksum : (a : Alert) → Hears (h .state) → r .protected ≡ false → r .content ≡ C.Alert
-      → alertOf (fragmentOf d r) ≡ R.WellFormed a → wasSent h (a .checksum) ≡ false
-      → Row h random d r (refusing X.Checksum h)
+      → alertOf (fragmentOf d r) ≡ R.WellFormed a → matchesOf sent (a .checksum) ≡ false
+      → Row h sent random d r (refusing X.Checksum h)
   row-clear-warning : (a : Alert) → Hears (h .state) → r .protected ≡ false → r .content ≡ C.Alert
-      → alertOf (fragmentOf d r) ≡ R.WellFormed a → wasSent h (a .checksum) ≡ true → a .level ≡ L.Warning
-      → Row h random d r (judged (W.Warning (a .description)) h)
+      → alertOf (fragmentOf d r) ≡ R.WellFormed a → matchesOf sent (a .checksum) ≡ true → a .level ≡ L.Warning
+      → Row h sent random d r (judged (W.Warning (a .description)) h)
   row-clear-critical : (a : Alert) → Hears (h .state) → r .protected ≡ false → r .content ≡ C.Alert
-      → alertOf (fragmentOf d r) ≡ R.WellFormed a → wasSent h (a .checksum) ≡ true → a .level ≡ L.Critical
-      → Row h random d r (judged (W.Critical (a .description)) (withState h Closed))
+      → alertOf (fragmentOf d r) ≡ R.WellFormed a → matchesOf sent (a .checksum) ≡ true → a .level ≡ L.Critical
+      → Row h sent random d r (judged (W.Critical (a .description)) (withState h Closed))
   row-clear-fatal : (a : Alert) → Hears (h .state) → r .protected ≡ false → r .content ≡ C.Alert
-      → alertOf (fragmentOf d r) ≡ R.WellFormed a → wasSent h (a .checksum) ≡ true → a .level ≡ L.Fatal
-      → Row h random d r (judged (W.Fatal (a .description)) (withState h Closed))
+      → alertOf (fragmentOf d r) ≡ R.WellFormed a → matchesOf sent (a .checksum) ≡ true → a .level ≡ L.Fatal
+      → Row h sent random d r (judged (W.Fatal (a .description)) (withState h Closed))
   -- 9: "code not right"; 10: "too old"; 11: "repeated"
-  row-forged : Guarded h r → ((c : List ℕ) → Protected (keysOf h) d r c → ⊥) → Row h random d r (refusing X.Forged h)
+  row-forged : Guarded h r → ((c : List ℕ) → Protected (keysOf h) d r c → ⊥) → Row h sent random d r (refusing X.Forged h)
   row-old : (c : List ℕ) → Guarded h r → Protected (keysOf h) d r c → acceptOf (h .protection .window) (r .number) ≡ A.TooOld
-      → Row h random d r (refusing X.TooOld h)
+      → Row h sent random d r (refusing X.TooOld h)
   row-repeated : (c : List ℕ) → Guarded h r → Protected (keysOf h) d r c → acceptOf (h .protection .window) (r .number) ≡ A.Repeated
-      → Row h random d r (refusing X.Repeated h)
+      → Row h sent random d r (refusing X.Repeated h)
   -- "A genuine new record marks its number even if its content is then refused."
   row-malformed : (c : List ℕ) (w : Window) → New h d r c w → MalformedAs (r .content) c (h .expected)
-      → Row h random d r (refusing X.Malformed (withWindow h w))
+      → Row h sent random d r (refusing X.Malformed (withWindow h w))
   -- "Open | protected data | handed out, as a part of the datagram"
   row-data : (c : List ℕ) (w : Window) → New h d r c w → r .content ≡ C.Data → 0 < length c
-      → Row h random d r (judged (W.Data (r .number) (r .start + r .head) (length c)) (withWindow h w))
+      → Row h sent random d r (judged (W.Data (r .number) (r .start + r .head) (length c)) (withWindow h w))
   -- "Spec, Open | protected alert | by level"
   row-warning : (c : List ℕ) (w : Window) (a : Alert) → New h d r c w → r .content ≡ C.Alert
       → alertOf c ≡ R.WellFormed a → a .level ≡ L.Warning
-      → Row h random d r (judged (W.Warning (a .description)) (withWindow h w))
+      → Row h sent random d r (judged (W.Warning (a .description)) (withWindow h w))
   row-critical : (c : List ℕ) (w : Window) (a : Alert) → New h d r c w → r .content ≡ C.Alert
       → alertOf c ≡ R.WellFormed a → a .level ≡ L.Critical
-      → Row h random d r (judged (W.Critical (a .description)) (withState (withWindow h w) Closed))
+      → Row h sent random d r (judged (W.Critical (a .description)) (withState (withWindow h w) Closed))
   row-barred : (c : List ℕ) (w : Window) (a : Alert) → New h d r c w → r .content ≡ C.Alert
       → alertOf c ≡ R.WellFormed a → a .level ≡ L.Fatal
-      → Row h random d r (judged (W.Barred (a .description)) (barred (withWindow h w)))
+      → Row h sent random d r (judged (W.Barred (a .description)) (barred (withWindow h w)))
   -- "Spec | protected Finished, right contents | Open"
   row-open : (c : List ℕ) (w : Window) → New h d r c w → h .state ≡ Spec → r .content ≡ C.Handshake
       → judgedOf c (h .expected) ≡ F.Right
-      → Row h random d r (judged W.Open (withState (withWindow h w) Open))
+      → Row h sent random d r (judged W.Open (withState (withWindow h w) Open))
   -- "Open | protected Finished under a new number, right contents | "again", Open kept"
   row-again : (c : List ℕ) (w : Window) → New h d r c w → h .state ≡ Open → r .content ≡ C.Handshake
       → judgedOf c (h .expected) ≡ F.Right
-      → Row h random d r (judged W.Again (withWindow h w))
+      → Row h sent random d r (judged W.Again (withWindow h w))
   -- 17: "genuine Finished with wrong contents", which also closes
   row-wrong-finished : (c : List ℕ) (w : Window) → New h d r c w → r .content ≡ C.Handshake
       → judgedOf c (h .expected) ≡ F.Wrong
-      → Row h random d r (judged (W.Refused X.WrongFinished) (withState (withWindow h w) Closed))
+      → Row h sent random d r (judged (W.Refused X.WrongFinished) (withState (withWindow h w) Closed))
 
 -- The table holds, and nothing else does: a record is answered so exactly if there is a row that says so.
 unfoldable pub TableHolds : Type 0
 TableHolds =
-    (h : Handshake) (random d : List ℕ) (r : Record) (j : Judged) → (judgedRecord h random d r ≡ j) ↔ Row h random d r j
+    (h : Handshake) (sent : SentRecords) (random d : List ℕ) (r : Record) (j : Judged)
+    → (judgedRecord h sent random d r ≡ j) ↔ Row h sent random d r j

@@ -36,7 +36,7 @@ use Rattle.lent.specs.Calls.{dataResult, dataState, dataLoads, dataOut, alertRe
 use Rattle.lent.specs.Calls.{receiveResult, receiveState, receiveLoads, receiveTally, receiveAnswers, receiveOut}
 use Rattle.lent.proofs.TallyHolds.{tally-held}
 use Rattle.demands.specs.Runs as R
-use Rattle.demands.specs.Runs.{Call, Result, Step, stepOf, stepsOf, finalOf, freshWith}
+use Rattle.demands.specs.Runs.{Call, Result, Step, stepOf, stepsOf, finalOf, freshOne}
 use Rattle.demands.specs.Calls.{CallRow, receive-16, receive-6, receive-framing, receive-records, fresh-done, FreshHolds}
 use Rattle.demands.specs.Refusals.{NotDone, IsRefused, RefusedCallChangesNothing}
 use Rattle.demands.specs.LeftOut.{talliedIn, talliedBy}
@@ -436,7 +436,7 @@ fresh-picked false state c o t d = let z : _≡_ {A = ℕ} 0 1 = cc in absurd (o
 pub fresh-is-layer-4 : FreshIsLayer4
 unfolding FreshIsLayer4 freshLoads FreshHolds
 fresh-is-layer-4 id secret width state size eight twenty held kept =
-    let made = fresh-holds id secret width (leaving O.Done (freshWith id secret width)) .1 (fresh-done eight twenty held) in
+    let made = fresh-holds id secret width (leaving O.Done (freshOne id secret width)) .1 (fresh-done eight twenty held) in
     kept
     ∙ fresh-picked (eqb (length state) stateSize) state (freshOf id secret width .connection) (freshOf id secret width .outcome) (eq-eqb (length state) stateSize size)
     (ap (λ x. x .outcome) made)

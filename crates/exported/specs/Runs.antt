@@ -17,8 +17,7 @@ use Rattle.lent.specs.Calls.{freshState, freshLoads, closeResult, closeState, c
 use Rattle.lent.specs.Calls.{dataResult, dataState, dataLoads, dataOut, alertResult, alertState, alertLoads, alertOut}
 use Rattle.lent.specs.Calls.{receiveResult, receiveState, receiveLoads, receiveTally, receiveAnswers, receiveOut}
 use Rattle.demands.specs.Runs as R
-use Rattle.demands.specs.Runs.{Call, Result, Step, stepOf, stepsOf, finalOf, freshWith}
-use Rattle.demands.specs.Events.{connectionOf}
+use Rattle.demands.specs.Runs.{Call, Result, Step, stepOf, stepsOf, finalOf, freshOne}
 use Rattle.demands.specs.LeftOut.{talliedBy}
 
 -- an exported call on a connection: its arguments, and the bytes that are lent beside those of the connection and of the
@@ -189,7 +188,7 @@ unfoldable pub FreshIsLayer4 : Type 0
 FreshIsLayer4 =
     (id secret : List ℕ) (width : ℕ) (state : List ℕ) → length state ≡ stateSize → length id ≡ 8 → length secret ≡ 20
     → Held width → loaded (freshState id secret width state) ≡ freshLoads id secret width state
-    → loaded (freshState id secret width state) ≡ Is (connectionOf (freshWith id secret width))
+    → loaded (freshState id secret width state) ≡ Is (freshOne id secret width)
 
 -- 16 before layer 4's call: every lent byte is as it was.
 pub record Refused16 (state tally : List ℕ) (call : Exported) : Type 0 where

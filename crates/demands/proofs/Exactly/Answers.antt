@@ -13,7 +13,8 @@ use Rattle.record.specs.Reader.{readOf}
 use Rattle.record.proofs.Covering.{covers}
 use Rattle.record.proofs.Standing.{Stands, stands}
 use Rattle.record.specs.declared.reader.Record.{Record}
-use Rattle.connection.specs.Judge.{judgedRecord}
+use Rattle.connection.specs.Told.{toldRecord}
+use Rattle.connection.specs.Asked.{askedOf}
 use Rattle.connection.specs.Receive.{receivedOf, runOf, endOf, answersOf, slot, slotsOf}
 use Rattle.connection.proofs.Running.{length-answers}
 use Rattle.connection.specs.declared.answer.Answer.{Answer}
@@ -32,6 +33,7 @@ use Rattle.demands.proofs.Exactly.Calls.{exactly-start, exactly-close, 
 use Rattle.demands.proofs.Exactly.Reading.{head-is, size-is}
 use Rattle.demands.proofs.Exactly.Whole.{exactly-receive}
 use Rattle.demands.proofs.Exactly.Record.{exactly-record}
+use Rattle.demands.proofs.Asked.{asks-is, told-by}
 
 -- ---- where record i begins
 
@@ -56,13 +58,12 @@ starts d rs f i h = let z : 0 + i ≡ i = omega arith in start-at rs i 0 d (cove
 
 -- ---- answer i is that of record i
 
-answer-at : (rs : List Record) (i : ℕ) (h : Handshake) (random d : List ℕ) → i < length rs
-    → getD (answersOf h random d rs) i Nothing ≡ judgedRecord (endOf h random d (take i rs)) random d
-    (getD rs i blank) .answer
+answer-at : (rs : List Record) (i : ℕ) (c : Connection) (random d : List ℕ) → i < length rs
+    → getD (answersOf c random d rs) i Nothing ≡ toldRecord (endOf c random d (take i rs)) random d (getD rs i blank) .answer
 unfolding answersOf endOf
-answer-at [] i h random d l = absurd (omega arith)
-answer-at (r ∷ rs) zero h random d l = refl
-answer-at (r ∷ rs) (suc i) h random d l = answer-at rs i (judgedRecord h random d r .handshake) random d (omega arith)
+answer-at [] i c random d l = absurd (omega arith)
+answer-at (r ∷ rs) zero c random d l = refl
+answer-at (r ∷ rs) (suc i) c random d l = answer-at rs i (toldRecord c random d r .connection) random d (omega arith)
 
 slot-map : (l : List Answer) (i : ℕ) → i < length l → getD (map slot l) i (slot Nothing) ≡ slot (getD l i Nothing)
 slot-map [] i h = absurd (omega arith)
@@ -86,23 +87,22 @@ answered : (c : Connection) (d random out : List ℕ) (rs : List Record) → Cal
     → framingOf d ≡ framed rs
     → (i : ℕ) → i < length rs
     → answerGiven (stepOf c (receive d random out) .result) i
-    ≡ judgedRecord (endOf (c .handshake) random d (take i rs)) random d (getD rs i blank) .answer
+    ≡ toldRecord (endOf c random d (take i rs)) random d (getD rs i blank) .answer
 unfolding stepOf receivedOf runOf
 answered c d random out rs (sixteen, room) f i h =
     rw (eq-eqb (length random) 16 sixteen, le-ltb (length out) 128 room, f)
-    (slot-at (answersOf (c .handshake) random d rs) i (omega (arith, length-answers (c .handshake) random d rs))
-    ∙ answer-at rs i (c .handshake) random d h)
+    (slot-at (answersOf c random d rs) i (omega (arith, length-answers c random d rs)) ∙ answer-at rs i c random d h)
 
 pub exactly-answers : ExactlyAnswers stepOf
 unfolding ExactlyAnswers ExactlyRecord
-exactly-answers c d random out rs bytes fits f i h numbers window x =
+exactly-answers c d random out rs bytes fits f i h w asks numbers window x =
     let r : Record = getD rs i blank in
-    let left : Handshake = endOf (c .handshake) random d (take i rs) in
+    let left : Connection = endOf c random d (take i rs) in
     let here : r .start ≡ startOf d i = starts d rs f i h in
-    let e = answered c d random out rs fits f i h in
-    let both = exactly-record left numbers random d r bytes (in-place d rs f i h) window x in (
-      λ a. subst (λ k. WhyRecord left numbers (seenAt d k) x) here (both .0 (sym e ∙ a)),
-      λ w. e ∙ both .1 (subst (λ k. WhyRecord left numbers (seenAt d k) x) (sym here) w),
+    let e = answered c d random out rs fits f i h ∙ ap (λ t. t .answer) (told-by left random d r w (asks-is left d r asks)) in
+    let both = exactly-record (askedOf left w) (left .sent) numbers random d r bytes (in-place d rs f i h) window x in (
+      λ a. subst (λ k. WhyRecord (askedOf left w) (left .sent) numbers (seenAt d k) x) here (both .0 (sym e ∙ a)),
+      λ y. e ∙ both .1 (subst (λ k. WhyRecord (askedOf left w) (left .sent) numbers (seenAt d k) x) (sym here) y),
     )
 
 pub given-exactly-when : GivenExactlyWhen stepOf

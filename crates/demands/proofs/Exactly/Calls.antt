@@ -29,7 +29,7 @@ called-is o p = (λ e. cc, ap called)
 
 -- ---- start again
 
-start-holds : (h : Handshake) (s : State) → Holds (WhyStart s) (s ≡ S.Closed) (startedIn h s .outcome)
+start-holds : (h : Connection) (s : State) → Holds (WhyStart s) (s ≡ S.Closed) (startedIn h s .outcome)
 start-holds h S.Idle = inl refl
 start-holds h S.Replied = inr (inl refl)
 start-holds h S.Spec = inr (inr (inl refl))
@@ -37,7 +37,7 @@ start-holds h S.Open = inr (inr (inr refl))
 start-holds h S.Closed = refl
 start-holds h S.Barred = refl
 
-start-because : (h : Handshake) (s : State) (x : Refusal) → WhyStart s x → startedIn h s .outcome ≡ Refused x
+start-because : (h : Connection) (s : State) (x : Refusal) → WhyStart s x → startedIn h s .outcome ≡ Refused x
 start-because h s X.Ended e = ap (λ y. startedIn h y .outcome) e
 start-because h s X.NotAllowed (inl e) = ap (λ y. startedIn h y .outcome) e
 start-because h s X.NotAllowed (inr (inl e)) = ap (λ y. startedIn h y .outcome) e
@@ -54,27 +54,26 @@ start-because h s X.Checksum w = absurd w
 start-because h s X.Spent w = absurd w
 start-because h s X.Argument w = absurd w
 start-because h s X.WrongFinished w = absurd w
-start-because h s X.HelloWhileOpen w = absurd w
 
 pub exactly-start : ExactlyStart stepOf
 unfolding stepOf
 exactly-start =
     record {
       refused = λ c x.
-          let h : Handshake = c .handshake in
-          through (called-is (startedIn h (h .state) .outcome) (Refused x))
-          (refused-when (WhyStart (h .state)) (h .state ≡ S.Closed) (startedIn h (h .state) .outcome)
-          (start-holds h (h .state)) (start-because h (h .state)) x);
+          let h : State = c .handshake .state in
+          through (called-is (startedIn c h .outcome) (Refused x))
+          (refused-when (WhyStart h) (h ≡ S.Closed) (startedIn c h .outcome)
+          (start-holds c h) (start-because c h) x);
       goes = λ c.
-          let h : Handshake = c .handshake in
-          through (called-is (startedIn h (h .state) .outcome) Done)
-          (done-when (WhyStart (h .state)) (h .state ≡ S.Closed) (startedIn h (h .state) .outcome)
-          (start-holds h (h .state)) (ap (λ y. startedIn h y .outcome)));
+          let h : State = c .handshake .state in
+          through (called-is (startedIn c h .outcome) Done)
+          (done-when (WhyStart h) (h ≡ S.Closed) (startedIn c h .outcome)
+          (start-holds c h) (ap (λ y. startedIn c y .outcome)));
     }
 
 -- ---- close
 
-close-holds : (h : Handshake) (s : State) → Holds (WhyClose s) (s ≢ S.Barred) (closedIn h s .outcome)
+close-holds : (h : Connection) (s : State) → Holds (WhyClose s) (s ≢ S.Barred) (closedIn h s .outcome)
 close-holds h S.Idle = λ e. let z : _≡_ {A = ℕ} 0 1 = cc in omega arith
 close-holds h S.Replied = λ e. let z : _≡_ {A = ℕ} 0 1 = cc in omega arith
 close-holds h S.Spec = λ e. let z : _≡_ {A = ℕ} 0 1 = cc in omega arith
@@ -82,7 +81,7 @@ close-holds h S.Open = λ e. let z : _≡_ {A = ℕ} 0 1 = cc in omega arith
 close-holds h S.Closed = λ e. let z : _≡_ {A = ℕ} 0 1 = cc in omega arith
 close-holds h S.Barred = refl
 
-close-because : (h : Handshake) (s : State) (x : Refusal) → WhyClose s x → closedIn h s .outcome ≡ Refused x
+close-because : (h : Connection) (s : State) (x : Refusal) → WhyClose s x → closedIn h s .outcome ≡ Refused x
 close-because h s X.Ended e = ap (λ y. closedIn h y .outcome) e
 close-because h s (X.Framing fault) w = absurd w
 close-because h s X.Room w = absurd w
@@ -96,9 +95,8 @@ close-because h s X.Checksum w = absurd w
 close-because h s X.Spent w = absurd w
 close-because h s X.Argument w = absurd w
 close-because h s X.WrongFinished w = absurd w
-close-because h s X.HelloWhileOpen w = absurd w
 
-close-goes : (h : Handshake) (s : State) → s ≢ S.Barred → closedIn h s .outcome ≡ Done
+close-goes : (h : Connection) (s : State) → s ≢ S.Barred → closedIn h s .outcome ≡ Done
 close-goes h S.Idle n = refl
 close-goes h S.Replied n = refl
 close-goes h S.Spec n = refl
@@ -111,15 +109,15 @@ unfolding stepOf
 exactly-close =
     record {
       refused = λ c x.
-          let h : Handshake = c .handshake in
-          through (called-is (closedIn h (h .state) .outcome) (Refused x))
-          (refused-when (WhyClose (h .state)) (h .state ≢ S.Barred) (closedIn h (h .state) .outcome)
-          (close-holds h (h .state)) (close-because h (h .state)) x);
+          let h : State = c .handshake .state in
+          through (called-is (closedIn c h .outcome) (Refused x))
+          (refused-when (WhyClose h) (h ≢ S.Barred) (closedIn c h .outcome)
+          (close-holds c h) (close-because c h) x);
       goes = λ c.
-          let h : Handshake = c .handshake in
-          through (called-is (closedIn h (h .state) .outcome) Done)
-          (done-when (WhyClose (h .state)) (h .state ≢ S.Barred) (closedIn h (h .state) .outcome)
-          (close-holds h (h .state)) (close-goes h (h .state)));
+          let h : State = c .handshake .state in
+          through (called-is (closedIn c h .outcome) Done)
+          (done-when (WhyClose h) (h ≢ S.Barred) (closedIn c h .outcome)
+          (close-holds c h) (close-goes c h));
     }
 
 -- ---- fresh connection
@@ -156,7 +154,6 @@ module _ (id secret : List ℕ) (width : ℕ) where
   fresh-because X.Checksum w = absurd w
   fresh-because X.Spent w = absurd w
   fresh-because X.WrongFinished w = absurd w
-  fresh-because X.HelloWhileOpen w = absurd w
 
 pub exactly-fresh : ExactlyFresh
 exactly-fresh =

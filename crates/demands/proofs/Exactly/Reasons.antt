@@ -31,7 +31,6 @@ numbered =
       fifteen = refl;
       sixteen = refl;
       seventeen = refl;
-      eighteen = refl;
     }
 
 -- true is not false

@@ -47,8 +47,8 @@ use Rattle.message.specs.declared.alert.Reading.the-variants as R
 use Rattle.message.specs.declared.finished.Verified.{Verified}
 use Rattle.message.specs.declared.finished.Verified.the-variants as F
 use Rattle.connection.specs.Answer.{judged, refusing}
-use Rattle.connection.specs.Clear.{heardTo, greetedBy, greetedAgain, isKept, changedBy, byLevel, heardBy, heardAlert}
-use Rattle.connection.specs.Handshake.{withState, withWindow, keptHello, wasSent}
+use Rattle.connection.specs.Clear.{heardTo, greetedBy, greetedAgain, isKept, changedBy, byLevel, heardBy, heardAlert, resentBy}
+use Rattle.connection.specs.Handshake.{withState, withWindow, keptHello}
 use Rattle.connection.specs.Judge.{judgedRecord, ruledBy, fragmentOf}
 use Rattle.connection.specs.Protected.{finishedIn, verifiedTo, verifiedBy, protectedLevel, alertedTo, alertedBy, contentBy, openedRecord}
 use Rattle.connection.proofs.OpeningRecords.{windowedTo, genuineIn, contentIn, opened-record-is}
@@ -69,13 +69,15 @@ use Rattle.demands.specs.Genuine.{unitKey, keysOf, RecordOf}
 use Rattle.demands.specs.Exactly.Numbers.{Over}
 use Rattle.demands.specs.Exactly.Whole.{typeAt, headAt, sizeAt}
 use Rattle.demands.specs.Table.{Hears}
-use Rattle.demands.specs.Exactly.Record.{HoldsNumbers, ExactlyRecord, Seen, seenAt, IsHello, GuardedAs, Allowed, hello, change, alert, guarded, CodedAs, NewAs, IsAlert, IsFinished, WellFormedHello, Acceptable, GreetsAs, WhyMalformed, bad-hello, bad-change, bad-alert, bad-protected-change, bad-protected-alert, bad-message, empty-data, WhyRecord, Bytes}
+use Rattle.demands.specs.Exactly.Record.{HoldsNumbers, ExactlyRecord, Seen, seenAt, IsHello, GuardedAs, Allowed, hello, change, alert, guarded, CodedAs, NewAs, IsAlert, IsFinished, WellFormedHello, Acceptable, GreetsAs, ReturnsAs, WhyMalformed, bad-hello, bad-change, bad-alert, bad-protected-change, bad-protected-alert, bad-message, empty-data, WhyRecord, Bytes}
 use Rattle.demands.proofs.Exactly.Coded.{content-before}
 use Rattle.demands.proofs.Exactly.Reasons.{clash, decide}
 use Rattle.demands.proofs.Exactly.Reading.{byte-is, wrong-type, by-type, head-is, size-is, number-is}
 use Rattle.demands.proofs.Exactly.Content.{change-is, change-not, not-change, AlertHolds, alert-holds, not-alert, is-alert, FinishedHolds, finished-holds, not-finished, wrong-finished}
 use Rattle.demands.proofs.Exactly.Hello.{bytes-take, bytes-drop, HeardHolds, heard-holds, not-hello, not-acceptable}
-use Rattle.demands.proofs.Exactly.Rules.{seenOf, kindBy, kind-by, protectedKind, kind-protected, number-one, number-two, number-three, number-four, over-rule, open-rule, idle-rule, hears-rule, change-rule, alert-rule, guarded-rule, RuleHolds, rule-holds}
+use Rattle.demands.proofs.Exactly.Rules.{seenOf, kindBy, kind-by, protectedKind, kind-protected, number-one, number-two, number-three, number-four, over-rule, idle-rule, hears-rule, change-rule, alert-rule, guarded-rule, RuleHolds, rule-holds}
+use Rattle.connection.specs.declared.sent.SentRecords.{SentRecords}
+use Rattle.connection.specs.Sent.{matchesOf}
 
 -- an answer that refuses has its reason
 abbrev pub AnswerHolds : (Refusal → Type 0) → Answer → Type 0
@@ -112,8 +114,20 @@ finished-in : (Why : Refusal → Type 0) (h : Handshake) (s : State) (n : ℕ) �
 finished-in Why h s n e (inl (z, k)) = subst (λ x. AnswerHolds Why (finishedIn h x .answer)) (sym (e ∙ z)) tt
 finished-in Why h s n e (inr z) = subst (λ x. AnswerHolds Why (finishedIn h x .answer)) (sym (e ∙ z)) tt
 
-module _ (h : Handshake) (numbers random : List ℕ) (window : HoldsNumbers h numbers) (byte number place at : ℕ)
+module _ (h : Handshake) (sent : SentRecords) (numbers random : List ℕ) (window : HoldsNumbers h numbers) (r : Record)
     (f : List ℕ) (bytes : Bytes f) where
+  abbrev byte : ℕ
+  byte = r .byte
+
+  abbrev number : ℕ
+  number = r .number
+
+  abbrev at : ℕ
+  at = r .start
+
+  abbrev place : ℕ
+  place = r .start + r .head
+
   -- the window answers as the history does
   by-history : acceptOf (h .protection .window) number ≡ judgedBy (h .protection .window .width) numbers number
   by-history = ap (λ w. acceptOf w number) (window .means) ∙ meaning (h .protection .window .width) (window .held) numbers number
@@ -137,7 +151,7 @@ module _ (h : Handshake) (numbers random : List ℕ) (window : HoldsNumbers h nu
     seen content = seenOf byte p content number f at
 
     abbrev Why : Content → Refusal → Type 0
-    Why content = WhyRecord h numbers (seen content)
+    Why content = WhyRecord h sent numbers (seen content)
 
     -- ---- each way out has its reason
 
@@ -170,16 +184,16 @@ module _ (h : Handshake) (numbers random : List ℕ) (window : HoldsNumbers h nu
     change-a content s c n = decide (isChange f) (λ e. rw e tt) (λ e. rw e (bad-change s c n (change-not f e)))
 
     hear-a : (content : Content) → Hears (h .state) → p ≡ false → numberOf content ≡ 2
-        → AnswerHolds (Why content) (heardAlert h f .answer)
+        → AnswerHolds (Why content) (heardAlert h sent f .answer)
     unfolding heardAlert
     hear-a content s c n = go (alertOf f) (alert-holds f)
       where
-        go : (x : Reading) → AlertHolds f x → AnswerHolds (Why content) (heardBy h x .answer)
+        go : (x : Reading) → AlertHolds f x → AnswerHolds (Why content) (heardBy h sent x .answer)
         go R.Malformed w = bad-alert s c n w
         go (R.WellFormed a) w =
-            decide (wasSent h (a .checksum))
+            decide (matchesOf sent (a .checksum))
             (λ e. rw e (clear-level (Why content) h (a .level) (a .description)))
-            (λ e. rw e (s, c, n, w .0, ap (wasSent h) (sym (w .1)) ∙ e))
+            (λ e. rw e (s, c, n, w .0, ap (matchesOf sent) (sym (w .1)) ∙ e))
 
     -- the content of a genuine new record, in the handshake g with its mark
     content-a : (content : Content) (g : Handshake) (c : List ℕ) → g .state ≡ h .state → g .expected ≡ h .expected
@@ -243,21 +257,42 @@ module _ (h : Handshake) (numbers random : List ℕ) (window : HoldsNumbers h nu
 
     late : (content : Content) → (h .state ≡ S.Idle) ⊎ Hears (h .state) → IsHello (seen content) → at ≢ 0
         → Why content X.NotAllowed
-    late content s i z = (awaits-not s, λ o j. awaits-closed s o, late-not content i z)
+    late content s i z = (awaits-not s, late-not content i z, λ q. awaits-closed s (q .is-open))
+
+    -- a ClientHello in Open that is not the one that is kept, or not first
+    open-over : h .state ≡ S.Open → Over (h .state) → ⊥
+    open-over o (inl b) = let n : _≡_ {A = ℕ} 0 1 = cc in omega arith
+    open-over o (inr b) = let n : _≡_ {A = ℕ} 0 1 = cc in omega arith
+
+    open-allowed : (content : Content) → h .state ≡ S.Open → IsHello (seen content) → Allowed (h .state) (seen content) → ⊥
+    open-allowed content o i (hello s j e) = awaits-closed s o
+    open-allowed content o i (change s c n) = awaits-closed (inr (inl s)) o
+    open-allowed content o i (alert s c n) = awaits-closed (inr s) o
+    open-allowed content o i (guarded g) = clash (sym (g .protection) ∙ i .clear)
+
+    open-8 : (content : Content) → h .state ≡ S.Open → IsHello (seen content) → (at ≡ 0 → f ≡ keptHello h → ⊥) → Why content X.NotAllowed
+    open-8 content o i n = (open-over o, open-allowed content o i, λ q. n (q .first) (q .same))
+
+    back-a : (content : Content) → h .state ≡ S.Open → IsHello (seen content) → AnswerHolds (Why content) (resentBy h f .answer)
+    unfolding resentBy
+    back-a content o i =
+        decide (isKept (h .kept) f) (λ e. rw e tt)
+        (λ e. rw e (open-8 content o i (λ z k. clash (sym (equal-same f (keptHello h) k) ∙ e))))
 
     module _ (content : Content) (one : Bool) (first : eqb (getD f 0 0) 1 ≡ one) where
       abbrev kind : Kind
       kind = kindBy content p one
 
       abbrev ruled : Rule → Judged
-      ruled rule = ruledBy h random rule kind byte number at place f
+      ruled rule = ruledBy h sent random rule kind r f
 
       rule-a : (rule : Rule) → RuleHolds byte number f at (h .state) content p one first rule
           → AnswerHolds (Why content) (ruled rule .answer)
       unfolding ruledBy
       rule-a T.Ended w = w
-      rule-a T.NotAllowed w = w
-      rule-a T.HelloWhileOpen w = w
+      rule-a T.NotAllowed (ended, opened, none) = (ended, none, λ q. opened (q .is-open) (q .hello))
+      rule-a T.Resend (s, i) =
+          decide (eqb at 0) (λ e. rw e (back-a content s i)) (λ e. rw e (open-8 content s i (λ z k. eqb-false at 0 e z)))
       rule-a T.Greet (s, i) =
           decide (eqb at 0)
           (λ e. rw e (greet-a content (record { hello = i; first = eqb-true at 0 e; another = inl s })))
@@ -285,15 +320,20 @@ module _ (h : Handshake) (numbers random : List ℕ) (window : HoldsNumbers h nu
 
       -- 8
       not-allowed-b : Why content X.NotAllowed → verdict .answer ≡ W.Refused X.NotAllowed
-      unfolding ruledBy
-      not-allowed-b (ended, opened, none) = go (ruleOf (h .state) kind)
+      unfolding ruledBy resentBy
+      not-allowed-b (ended, none, unreturned) = go (ruleOf (h .state) kind)
           (rule-holds byte number f at (h .state) content p one first)
         where
           go : (rule : Rule) → RuleHolds byte number f at (h .state) content p one first rule
               → ruled rule .answer ≡ W.Refused X.NotAllowed
           go T.Ended w = absurd (ended w)
           go T.NotAllowed w = refl
-          go T.HelloWhileOpen (s, i) = absurd (opened s i)
+          go T.Resend (s, i) =
+              decide (eqb at 0)
+              (λ e. rw e (decide (isKept (h .kept) f)
+              (λ k. absurd (unreturned (record { is-open = s; hello = i; first = eqb-true at 0 e; same = same-equal f (keptHello h) k })))
+              (λ k. rw k refl)))
+              (λ e. rw e refl)
           go T.Greet (s, i) =
               decide (eqb at 0) (λ e. absurd (none (hello (inl s) i (eqb-true at 0 e)))) (λ e. rw e refl)
           go T.GreetAgain (s, i) =
@@ -360,7 +400,7 @@ module _ (h : Handshake) (numbers random : List ℕ) (window : HoldsNumbers h nu
           ∙ rw (not-change f w) refl
       malformed-b (bad-alert s c n w) =
           ap (λ j. j .answer) (by-rule T.Hear (alert-rule byte number f at (h .state) content p one first s c n))
-          ∙ ap (λ x. heardBy h x .answer) (not-alert f w)
+          ∙ ap (λ x. heardBy h sent x .answer) (not-alert f w)
       malformed-b (bad-protected-change c w n) =
           ap (λ j. j .answer) (fresh-b c w)
           ∙ ap (λ x. contentBy marked (protectedKind x) number place c .answer) (number-one content n)
@@ -381,8 +421,6 @@ module _ (h : Handshake) (numbers random : List ℕ) (window : HoldsNumbers h nu
       unfolding ruledBy greetedBy heardAlert contentBy verifiedBy
       because X.Ended w = ap (λ j. j .answer) (by-rule T.Ended
           (over-rule byte number f at (h .state) content p one first w))
-      because X.HelloWhileOpen (s, i) =
-          ap (λ j. j .answer) (by-rule T.HelloWhileOpen (open-rule byte number f at (h .state) content p one first s i))
       because X.NotAllowed w = not-allowed-b w
       because X.Forged (g, n) = ap (λ j. j .answer) (forged-b g n)
       because X.TooOld (g, (c, k), l) =
@@ -398,8 +436,8 @@ module _ (h : Handshake) (numbers random : List ℕ) (window : HoldsNumbers h nu
       because X.Checksum (s, c, n, i, k) =
           let (a, e, m) = is-alert f i in
           ap (λ j. j .answer) (by-rule T.Hear (alert-rule byte number f at (h .state) content p one first s c n))
-          ∙ ap (λ x. heardBy h x .answer) e
-          ∙ rw (ap (wasSent h) m ∙ k) refl
+          ∙ ap (λ x. heardBy h sent x .answer) e
+          ∙ rw (ap (matchesOf sent) m ∙ k) refl
       because X.WrongFinished (c, w, n, i, d) =
           ap (λ j. j .answer) (fresh-b c w)
           ∙ ap (λ x. contentBy marked (protectedKind x) number place c .answer) (number-three content n)
@@ -462,33 +500,32 @@ seen-is d r o =
       at = at;
     }
 
-judged-by : (h : Handshake) (random d : List ℕ) (r : Record)
-    → judgedRecord h random d r
-    ≡ ruledBy h random (ruleOf (h .state) (kindBy (r .content) (r .protected) (eqb (getD (fragmentOf d r) 0 0) 1)))
+judged-by : (h : Handshake) (sent : SentRecords) (random d : List ℕ) (r : Record)
+    → judgedRecord h sent random d r
+    ≡ ruledBy h sent random (ruleOf (h .state) (kindBy (r .content) (r .protected) (eqb (getD (fragmentOf d r) 0 0) 1)))
     (kindBy (r .content) (r .protected) (eqb (getD (fragmentOf d r) 0 0) 1))
-    (r .byte) (r .number) (r .start) (r .start + r .head) (fragmentOf d r)
+    r (fragmentOf d r)
 unfolding judgedRecord
-judged-by h random d r =
-    ap (λ k. ruledBy h random (ruleOf (h .state) k) k (r .byte) (r .number) (r .start) (r .start + r .head)
-    (fragmentOf d r))
+judged-by h sent random d r =
+    ap (λ k. ruledBy h sent random (ruleOf (h .state) k) k r (fragmentOf d r))
     (kind-by (r .content) (r .protected) (getD (fragmentOf d r) 0 0))
 
 pub exactly-record : ExactlyRecord
 unfolding ExactlyRecord
-exactly-record h numbers random d r all o window x =
+exactly-record h sent numbers random d r all o window x =
     let f : List ℕ = fragmentOf d r in
     let one : Bool = eqb (getD f 0 0) 1 in
     let b : Bytes f = bytes-take (r .size) (drop (r .start + r .head) d) (bytes-drop (r .start + r .head) d all) in
-    let same = ap (λ j. j .answer) (judged-by h random d r) in
+    let same = ap (λ j. j .answer) (judged-by h sent random d r) in
     let q = seenOf (r .byte) (r .protected) (r .content) (r .number) f (r .start) in (
       λ e.
-          subst (λ s. WhyRecord h numbers s x) (seen-is d r o)
-          (subst (AnswerHolds (WhyRecord h numbers q)) (sym same ∙ e)
-          (verdict-holds h numbers random window (r .byte) (r .number) (r .start + r .head) (r .start) f b
+          subst (λ s. WhyRecord h sent numbers s x) (seen-is d r o)
+          (subst (AnswerHolds (WhyRecord h sent numbers q)) (sym same ∙ e)
+          (verdict-holds h sent numbers random window r f b
           (r .protected) (r .content) one refl)),
       λ w.
           same
-          ∙ because h numbers random window (r .byte) (r .number) (r .start + r .head) (r .start) f b (r .protected)
+          ∙ because h sent numbers random window r f b (r .protected)
           (r .content) one refl x
-          (subst (λ s. WhyRecord h numbers s x) (sym (seen-is d r o)) w),
+          (subst (λ s. WhyRecord h sent numbers s x) (sym (seen-is d r o)) w),
     )

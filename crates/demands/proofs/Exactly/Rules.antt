@@ -129,7 +129,7 @@ module _ (byte number : ℕ) (f : List ℕ) (at : ℕ) where
     over-rule (inl e) = ap (λ s. ruleOf s (kindBy content p one)) e
     over-rule (inr e) = ap (λ s. ruleOf s (kindBy content p one)) e
 
-    pub open-rule : state ≡ S.Open → IsHello q → rule ≡ T.HelloWhileOpen
+    pub open-rule : state ≡ S.Open → IsHello q → rule ≡ T.Resend
     open-rule e i = λ j. ruleOf (e j) (hello-kind i j)
 
     pub idle-rule : state ≡ S.Idle → IsHello q → rule ≡ T.Greet
@@ -159,7 +159,7 @@ module _ (byte number : ℕ) (f : List ℕ) (at : ℕ) where
     abbrev pub RuleHolds : Rule → Type 0
     RuleHolds T.Ended = Over state
     RuleHolds T.NotAllowed = (Over state → ⊥) × (state ≡ S.Open → IsHello q → ⊥) × (Allowed state q → ⊥)
-    RuleHolds T.HelloWhileOpen = (state ≡ S.Open) × IsHello q
+    RuleHolds T.Resend = (state ≡ S.Open) × IsHello q
     RuleHolds T.Greet = (state ≡ S.Idle) × IsHello q
     RuleHolds T.GreetAgain = Hears state × IsHello q
     RuleHolds T.Change = (state ≡ S.Replied) × (p ≡ false) × (numberOf content ≡ 1)
@@ -181,7 +181,7 @@ module _ (byte number : ℕ) (f : List ℕ) (at : ℕ) where
     none-of : rule ≡ T.NotAllowed → RuleHolds T.NotAllowed
     none-of e = (
       λ o. let t : T.NotAllowed ≡ T.Ended = sym e ∙ over-rule o in let z : _≡_ {A = ℕ} 0 1 = cc in omega arith,
-      λ s i. let t : T.NotAllowed ≡ T.HelloWhileOpen = sym e
+      λ s i. let t : T.NotAllowed ≡ T.Resend = sym e
           ∙ open-rule s i in let z : _≡_ {A = ℕ} 0 1 = cc in omega arith,
       not-allowed e,
     )

@@ -19,7 +19,7 @@ use Rattle.message.specs.declared.alert.Graded.{Graded}
 use Rattle.message.specs.declared.alert.Graded.the-variants as G
 use Rattle.message.specs.declared.alert.Sorted.{Sorted}
 use Rattle.message.specs.declared.alert.Sorted.the-variants as D
-use Rattle.connection.specs.Send.{andThen, mayData, mayProtect, mayClear, numberedBy, dataRefused, alertRefused, sentTo, done, dataOutcome, dataSent, alertBody, alertOutcome, nextAlert, afterAlert, alertSent, alertSentAs, nextProtected, afterProtected}
+use Rattle.connection.specs.Send.{andThen, mayData, mayProtect, mayClear, numberedBy, dataRefused, alertRefused, sentTo, done, dataOutcome, dataSent, alertBody, alertOutcome, nextAlert, alertSent, alertSentAs, nextProtected, senderOf, afterSend}
 use Rattle.connection.proofs.Sending.{next-size, clear-size}
 use Rattle.connection.specs.declared.connection.Connection.{Connection}
 use Rattle.connection.specs.declared.calls.Outcome.{Outcome}
@@ -36,12 +36,12 @@ use Rattle.demands.proofs.Exactly.Reasons.{decide, Holds, refused-when,
 
 -- ---- what comes back of a send is its outcome
 
-sent-refused : (c : Connection) (h : Handshake) (next out : List ℕ) (o : Outcome) (x : Refusal)
+sent-refused : (c h : Connection) (next out : List ℕ) (o : Outcome) (x : Refusal)
     → (sentAs (sentTo c (done next h) o) out .result ≡ sent (Refused x) 0) ↔ (o ≡ Refused x)
 sent-refused c h next out Done x = (λ e. cc, λ e. let z : _≡_ {A = ℕ} 0 1 = cc in absurd (omega arith))
 sent-refused c h next out (Refused y) x = (λ e. cc, λ e. ap (λ z. sent z 0) e)
 
-sent-done : (c : Connection) (h : Handshake) (next out : List ℕ) (o : Outcome) (n : ℕ) → length next ≡ n
+sent-done : (c h : Connection) (next out : List ℕ) (o : Outcome) (n : ℕ) → length next ≡ n
     → (sentAs (sentTo c (done next h) o) out .result ≡ sent Done n) ↔ (o ≡ Done)
 sent-done c h next out Done n l = (λ e. refl, λ e. ap (sent Done) l)
 sent-done c h next out (Refused y) n l = (λ e. cc, λ e. let z : _≡_ {A = ℕ} 0 1 = cc in absurd (omega arith))
@@ -119,7 +119,6 @@ module _ (state : State) (size number code room : ℕ) where
   data-because X.Unacceptable w = absurd w
   data-because X.Checksum w = absurd w
   data-because X.WrongFinished w = absurd w
-  data-because X.HelloWhileOpen w = absurd w
 
   data-goes : Goes → dataRefused state size number code room ≡ Done
   data-goes (f, e, n, l) = data-in S.Open e f ∙ goes-out number (3 + size + code) room n l
@@ -153,7 +152,7 @@ exactly-data =
           let next : List ℕ = nextProtected h C.Data bytes in
           let n : ℕ = h .protection .protected in
           let z : ℕ = sizeOf (h .protection .keys .mac) in
-          through (sent-refused c (afterProtected h next) next out (dataOutcome h (length bytes) (length out)) x)
+          through (sent-refused c (afterSend true c next) next out (dataOutcome h (length bytes) (length out)) x)
           (refused-when (WhyData (h .state) (length bytes) n z (length out))
           (DataGoes (h .state) (length bytes) n z (length out)) (dataOutcome h (length bytes) (length out))
           (data-holds (h .state) (length bytes) n z (length out))
@@ -163,7 +162,7 @@ exactly-data =
           let next : List ℕ = nextProtected h C.Data bytes in
           let n : ℕ = h .protection .protected in
           let z : ℕ = sizeOf (h .protection .keys .mac) in
-          through (sent-done c (afterProtected h next) next out (dataOutcome h (length bytes) (length out))
+          through (sent-done c (afterSend true c next) next out (dataOutcome h (length bytes) (length out))
           (3 + length bytes + z) (next-size h C.Data bytes))
           (done-when (WhyData (h .state) (length bytes) n z (length out))
           (DataGoes (h .state) (length bytes) n z (length out)) (dataOutcome h (length bytes) (length out))
@@ -212,11 +211,11 @@ alertOutcomeIn protected h lent room G.Unassigned D.Unassigned = Refused X.Argum
 
 alert-refused : (c : Connection) (protected : Bool) (answered out : List ℕ) (g : Graded) (s : Sorted) (x : Refusal)
     → (sentAs (alertSentAs c protected answered (length out) g s) out .result ≡ sent (Refused x) 0)
-    ↔ (alertOutcomeIn protected (c .handshake) (length answered) (length out) g s ≡ Refused x)
+    ↔ (alertOutcomeIn protected (senderOf protected c) (length answered) (length out) g s ≡ Refused x)
 alert-refused c protected answered out (G.Is level) (D.Assigned description) x =
-    let next : List ℕ = nextAlert protected (c .handshake) (alertBody level description answered) in
-    sent-refused c (afterAlert protected (c .handshake) next) next out
-    (alertOutcome protected (c .handshake) (length answered) (length out)) x
+    let next : List ℕ = nextAlert protected (senderOf protected c) (alertBody level description answered) in
+    sent-refused c (afterSend protected c next) next out
+    (alertOutcome protected (senderOf protected c) (length answered) (length out)) x
 alert-refused c protected answered out (G.Is level) D.Unassigned x = (λ e. cc, λ e. ap (λ z. sent z 0) e)
 alert-refused c protected answered out G.Unassigned (D.Assigned description) x = (λ e. cc, λ e. ap (λ z. sent z 0) e)
 alert-refused c protected answered out G.Unassigned D.Unassigned x = (λ e. cc, λ e. ap (λ z. sent z 0) e)
@@ -228,13 +227,13 @@ alert-size false h level description answered = clear-size h (alertBody level de
 
 alert-done : (c : Connection) (protected : Bool) (answered out : List ℕ) (g : Graded) (s : Sorted)
     → (sentAs (alertSentAs c protected answered (length out) g s) out .result ≡ sent Done
-    (9 + alertCodeOf protected (c .handshake)))
-    ↔ (alertOutcomeIn protected (c .handshake) (length answered) (length out) g s ≡ Done)
+    (9 + alertCodeOf protected (senderOf protected c)))
+    ↔ (alertOutcomeIn protected (senderOf protected c) (length answered) (length out) g s ≡ Done)
 alert-done c protected answered out (G.Is level) (D.Assigned description) =
-    let next : List ℕ = nextAlert protected (c .handshake) (alertBody level description answered) in
-    sent-done c (afterAlert protected (c .handshake) next) next out
-    (alertOutcome protected (c .handshake) (length answered) (length out)) (9 + alertCodeOf protected (c .handshake))
-    (alert-size protected (c .handshake) level description answered)
+    let next : List ℕ = nextAlert protected (senderOf protected c) (alertBody level description answered) in
+    sent-done c (afterSend protected c next) next out
+    (alertOutcome protected (senderOf protected c) (length answered) (length out)) (9 + alertCodeOf protected (senderOf protected c))
+    (alert-size protected (senderOf protected c) level description answered)
 alert-done c protected answered out (G.Is level) D.Unassigned =
     (λ e. cc, λ e. let z : _≡_ {A = ℕ} 0 1 = cc in absurd (omega arith))
 alert-done c protected answered out G.Unassigned (D.Assigned description) =
@@ -313,7 +312,6 @@ module _ (protected : Bool) (state : State) (level description lent number code 
   alert-because X.Unacceptable a b k w = absurd w
   alert-because X.Checksum a b k w = absurd w
   alert-because X.WrongFinished a b k w = absurd w
-  alert-because X.HelloWhileOpen a b k w = absurd w
 
   alert-goes : GoesA → outcome ≡ Done
   alert-goes (f, m, n, l) = alert-in state Done refl (may-done protected m) (f .3) ∙ goes-out number (9 + code) room n l
@@ -333,7 +331,6 @@ module _ (protected : Bool) (state : State) (level description lent number code 
   alert-unknown X.Unacceptable bad w = absurd w
   alert-unknown X.Checksum bad w = absurd w
   alert-unknown X.WrongFinished bad w = absurd w
-  alert-unknown X.HelloWhileOpen bad w = absurd w
 
   alert-numbered : (f : AlertFits level description lent) → AlertMay protected state
       → Holds WhyA GoesA (numberedBy number (9 + code) room)
@@ -438,7 +435,7 @@ unfolding stepOf alertSent
 exactly-alert =
     record {
       refused = λ c protected level description answered out x.
-          let h : Handshake = c .handshake in
+          let h : Handshake = senderOf protected c in
           let n : ℕ = length answered in
           let room : ℕ = length out in
           through (alert-refused c protected answered out (levelOf level) (sortedOf description) x)
@@ -449,7 +446,7 @@ exactly-alert =
           (in-because protected h level description n room (levelOf level) (sortedOf description) (level-holds level)
           (sorted-holds description)) x);
       goes = λ c protected level description answered out.
-          let h : Handshake = c .handshake in
+          let h : Handshake = senderOf protected c in
           let n : ℕ = length answered in
           let room : ℕ = length out in
           through (alert-done c protected answered out (levelOf level) (sortedOf description))

@@ -274,7 +274,6 @@ module _ (c : Connection) (d random out : List ℕ) where
   whole-because X.Checksum w = absurd w
   whole-because X.Spent w = absurd w
   whole-because X.WrongFinished w = absurd w
-  whole-because X.HelloWhileOpen w = absurd w
 
   by-fault : (f : Fault) (at : ℕ) → resultBy (faulty f at) ≡ received (T.Misframed (X.Framing f) at) (slotsOf []) 0
   unfolding wholeOf
@@ -295,7 +294,6 @@ module _ (c : Connection) (d random out : List ℕ) where
   misframed-because X.Spent at fits w = absurd w
   misframed-because X.Argument at fits w = absurd w
   misframed-because X.WrongFinished at fits w = absurd w
-  misframed-because X.HelloWhileOpen at fits w = absurd w
 
   by-records : (rs : List Record) → framedTo c random d (framed rs) .taken ≡ T.Records (length rs)
   unfolding runOf

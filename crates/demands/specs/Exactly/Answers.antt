@@ -1,6 +1,6 @@
 -- 01, "Refusal numbers": "Receive: .. then one answer per record." The answer to record i of a datagram that is
 -- taken, from the call down to the bytes: it refuses exactly for the reason that the bytes from the start of record i
--- on give, in the handshake that the records before it left.
+-- on give, in the handshake that it is for (`Asked`), as the records before it left it.
 use mathlib.Core.Path.{_≡_}
 use mathlib.Core.Logic.{_↔_}
 use mathlib.Core.List.{List}
@@ -16,6 +16,10 @@ use Rattle.connection.specs.declared.refusal.Refusal.{Refusal}
 use Rattle.demands.specs.Runs.{receive, Result, received, sent, called, Gateway}
 use Rattle.demands.specs.Exactly.Whole.{CallFits, startOf}
 use Rattle.demands.specs.Exactly.Record.{HoldsNumbers, Bytes, seenAt, WhyRecord}
+use Rattle.connection.specs.Asked.{askedOf}
+use Rattle.connection.specs.declared.asked.Whom.{Whom}
+use Rattle.demands.specs.Asked.{Asks}
+use Rattle.record.specs.Datagram.{blank}
 
 -- answer i of a receive
 abbrev pub answerGiven : Result → ℕ → Answer
@@ -23,11 +27,15 @@ answerGiven (received taken answers written) i = getD answers i (slot Nothing) .
 answerGiven (sent outcome written) i = Nothing
 answerGiven (called outcome) i = Nothing
 
+-- the connection in which record i is judged
+abbrev pub placeOf : Connection → List ℕ → List ℕ → List Record → ℕ → Connection
+placeOf c random d rs i = endOf c random d (take i rs)
+
 unfoldable pub ExactlyAnswers : Gateway → Type 0
 ExactlyAnswers g =
     (c : Connection) (d random out : List ℕ) (rs : List Record) → Bytes d → CallFits (length random) (length out)
     → framingOf d ≡ framed rs
-    → (i : ℕ) → i < length rs → (numbers : List ℕ)
-    → HoldsNumbers (endOf (c .handshake) random d (take i rs)) numbers → (x : Refusal)
+    → (i : ℕ) → i < length rs → (w : Whom) → Asks (placeOf c random d rs i) d (getD rs i blank) w → (numbers : List ℕ)
+    → HoldsNumbers (askedOf (placeOf c random d rs i) w) numbers → (x : Refusal)
     → (answerGiven (g c (receive d random out) .result) i ≡ Refused x)
-    ↔ WhyRecord (endOf (c .handshake) random d (take i rs)) numbers (seenAt d (startOf d i)) x
+    ↔ WhyRecord (askedOf (placeOf c random d rs i) w) (placeOf c random d rs i .sent) numbers (seenAt d (startOf d i)) x

@@ -30,7 +30,6 @@ WhyStart state X.Checksum = ⊥
 WhyStart state X.Spent = ⊥
 WhyStart state X.Argument = ⊥
 WhyStart state X.WrongFinished = ⊥
-WhyStart state X.HelloWhileOpen = ⊥
 
 pub record ExactlyStart (g : Gateway) : Type 0 where
   pub refused : (c : Connection) (x : Refusal) → (g c start .result ≡ called (Refused x))
@@ -52,7 +51,6 @@ WhyClose state X.Checksum = ⊥
 WhyClose state X.Spent = ⊥
 WhyClose state X.Argument = ⊥
 WhyClose state X.WrongFinished = ⊥
-WhyClose state X.HelloWhileOpen = ⊥
 
 pub record ExactlyClose (g : Gateway) : Type 0 where
   pub refused : (c : Connection) (x : Refusal) → (g c close .result ≡ called (Refused x))
@@ -74,7 +72,6 @@ WhyFresh id secret width X.Unacceptable = ⊥
 WhyFresh id secret width X.Checksum = ⊥
 WhyFresh id secret width X.Spent = ⊥
 WhyFresh id secret width X.WrongFinished = ⊥
-WhyFresh id secret width X.HelloWhileOpen = ⊥
 
 pub record ExactlyFresh : Type 0 where
   pub refused : (id secret : List ℕ) (width : ℕ) (x : Refusal) → (freshOf id secret width .outcome ≡ Refused x)

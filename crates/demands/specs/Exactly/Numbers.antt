@@ -1,4 +1,5 @@
--- The eighteen numbers of 01, "Refusal numbers", by the name that the answers have for each; and words that several
+-- The seventeen numbers of 01, "Refusal numbers", by the name that the answers have for each (02, P6: "18 is not given any more");
+-- and words that several
 -- rows share.
 use mathlib.Core.Path.{_≡_}
 use mathlib.Core.Logic.{_⊎_}
@@ -31,7 +32,6 @@ pub record Numbered : Type 0 where
   pub fifteen : refusalNumber X.Spent ≡ 15
   pub sixteen : refusalNumber X.Argument ≡ 16
   pub seventeen : refusalNumber X.WrongFinished ≡ 17
-  pub eighteen : refusalNumber X.HelloWhileOpen ≡ 18
 
 -- 7: "Barred, or Closed"
 abbrev pub Over : State → Type 0

@@ -1,5 +1,6 @@
--- 01, "Refusal numbers", of a record: "Per record: 7; then place and state (18, 8); then code and window; then
--- content 12, then 13, 14 or 17." Said over the bytes of the datagram, the state, and the numbers accepted before.
+-- 01, "Refusal numbers", of a record and the handshake that it is for: "Per record: 7; then place and state (8); then code and
+-- window; then content 12, then 13, 14 or 17." (02, P6: "18 is not given any more".) Said over the bytes of the datagram, the state,
+-- the numbers accepted before and the records sent.
 use mathlib.Core.Path.{_≡_}
 use mathlib.Core.Logic.{_↔_, _⊎_, _≢_}
 use mathlib.Core.Bool.{Bool, true, false}
@@ -15,7 +16,7 @@ use Rattle.record.specs.History.{accepted, highestOf, windowOf}
 use Rattle.record.specs.Reader.{pairAt}
 use Rattle.record.specs.declared.reader.Record.{Record}
 use Rattle.message.specs.Values.{Values, allowed, helloOf}
-use Rattle.connection.specs.Handshake.{keptHello, planted, wasSent}
+use Rattle.connection.specs.Handshake.{keptHello, planted}
 use Rattle.connection.specs.Judge.{judgedRecord}
 use Rattle.connection.specs.declared.answer.Answer.the-variants as W
 use Rattle.connection.specs.declared.handshake.Handshake.{Handshake}
@@ -29,6 +30,8 @@ use Rattle.demands.specs.Genuine.{unitKey, keysOf, RecordOf}
 use Rattle.demands.specs.Exactly.Numbers.{Over, isAmong, isAssigned}
 use Rattle.demands.specs.Exactly.Whole.{typeAt, headAt, sizeAt}
 use Rattle.record.specs.Window.{Held}
+use Rattle.connection.specs.Sent.{matchesOf}
+use Rattle.connection.specs.declared.sent.SentRecords.{SentRecords}
 
 -- ---- what the bytes of a record say
 
@@ -76,6 +79,13 @@ pub data Allowed (state : State) (q : Seen) : Type 0 where
   change : state ≡ Replied → q .protected ≡ false → q .content ≡ 1 → Allowed state q
   alert : Hears state → q .protected ≡ false → q .content ≡ 2 → Allowed state q
   guarded : GuardedAs state q → Allowed state q
+
+-- an open handshake: "the hello that made the open connection" (02, P6)
+pub record ReturnsAs (h : Handshake) (q : Seen) : Type 0 where
+  pub is-open : h .state ≡ Open
+  pub hello : IsHello q
+  pub first : q .at ≡ 0
+  pub same : q .fragment ≡ keptHello h
 
 -- ---- code and window
 
@@ -143,40 +153,38 @@ pub data WhyMalformed (h : Handshake) (numbers : List ℕ) (q : Seen) : Type 0 w
 
 -- ---- the reasons
 
-abbrev pub WhyRecord : Handshake → List ℕ → Seen → Refusal → Type 0
+abbrev pub WhyRecord : Handshake → SentRecords → List ℕ → Seen → Refusal → Type 0
 -- 7: "Barred, or Closed"
-WhyRecord h numbers q X.Ended = Over (h .state)
--- 18: "clear ClientHello while Open"
-WhyRecord h numbers q X.HelloWhileOpen = (h .state ≡ Open) × IsHello q
+WhyRecord h sent numbers q X.Ended = Over (h .state)
 -- 8: "record not allowed in this state or place"
-WhyRecord h numbers q X.NotAllowed =
-    (Over (h .state) → ⊥) × (h .state ≡ Open → IsHello q → ⊥) × (Allowed (h .state) q → ⊥)
+WhyRecord h sent numbers q X.NotAllowed =
+    (Over (h .state) → ⊥) × (Allowed (h .state) q → ⊥) × (ReturnsAs h q → ⊥)
 -- 9: "code not right"
-WhyRecord h numbers q X.Forged = GuardedAs (h .state) q × ((c : List ℕ) → CodedAs (keysOf h) q c → ⊥)
+WhyRecord h sent numbers q X.Forged = GuardedAs (h .state) q × ((c : List ℕ) → CodedAs (keysOf h) q c → ⊥)
 -- 10: "too old": "with n the highest number accepted, a number at most n - 32", less the width
-WhyRecord h numbers q X.TooOld =
+WhyRecord h sent numbers q X.TooOld =
     GuardedAs (h .state) q × ((c : List ℕ) × CodedAs (keysOf h) q c) × (q .number + h .protection .window .width ≤ highestOf numbers)
 -- 11: "repeated": "a number accepted before"
-WhyRecord h numbers q X.Repeated =
+WhyRecord h sent numbers q X.Repeated =
     GuardedAs (h .state) q × ((c : List ℕ) × CodedAs (keysOf h) q c) × (highestOf numbers < q .number + h .protection .window .width) ×
     (accepted numbers (q .number) ≡ true)
 -- 12: "malformed content"
-WhyRecord h numbers q X.Malformed = WhyMalformed h numbers q
+WhyRecord h sent numbers q X.Malformed = WhyMalformed h numbers q
 -- 13: "hello well formed, not acceptable"
-WhyRecord h numbers q X.Unacceptable =
+WhyRecord h sent numbers q X.Unacceptable =
     GreetsAs h q × ((w : WellFormedHello (q .fragment)) × (Acceptable (w .values) (h .id) → ⊥))
 -- 14: "clear alert with another checksum"
-WhyRecord h numbers q X.Checksum =
+WhyRecord h sent numbers q X.Checksum =
     Hears (h .state) × (q .protected ≡ false) × (q .content ≡ 2) × IsAlert (q .fragment) ×
-    (wasSent h (wordAt (q .fragment) 2) ≡ false)
+    (matchesOf sent (wordAt (q .fragment) 2) ≡ false)
 -- 17: "genuine Finished with wrong contents"
-WhyRecord h numbers q X.WrongFinished =
+WhyRecord h sent numbers q X.WrongFinished =
     (c : List ℕ) × NewAs h numbers q c × (q .content ≡ 3) × IsFinished c × (drop 3 c ≢ h .expected)
 -- no other
-WhyRecord h numbers q (X.Framing fault) = ⊥
-WhyRecord h numbers q X.Room = ⊥
-WhyRecord h numbers q X.Spent = ⊥
-WhyRecord h numbers q X.Argument = ⊥
+WhyRecord h sent numbers q (X.Framing fault) = ⊥
+WhyRecord h sent numbers q X.Room = ⊥
+WhyRecord h sent numbers q X.Spent = ⊥
+WhyRecord h sent numbers q X.Argument = ⊥
 
 -- the bytes of a datagram are bytes: what a slice of them holds
 abbrev pub Bytes : List ℕ → Type 0
@@ -191,6 +199,6 @@ pub record HoldsNumbers (h : Handshake) (numbers : List ℕ) : Type 0 where
 -- every run from fresh), is refused so exactly if there is that reason.
 unfoldable pub ExactlyRecord : Type 0
 ExactlyRecord =
-    (h : Handshake) (numbers random d : List ℕ) (r : Record) → Bytes d → RecordOf d r → HoldsNumbers h numbers
+    (h : Handshake) (sent : SentRecords) (numbers random d : List ℕ) (r : Record) → Bytes d → RecordOf d r → HoldsNumbers h numbers
     → (x : Refusal)
-    → (judgedRecord h random d r .answer ≡ W.Refused x) ↔ WhyRecord h numbers (seenAt d (r .start)) x
+    → (judgedRecord h sent random d r .answer ≡ W.Refused x) ↔ WhyRecord h sent numbers (seenAt d (r .start)) x

@@ -16,6 +16,7 @@ use Rattle.connection.specs.declared.state.State.{State}
 use Rattle.connection.specs.declared.state.State.the-variants.{Idle, Replied, Spec, Open}
 use Rattle.demands.specs.Runs.{send-data, send-alert, sent, Gateway}
 use Rattle.demands.specs.Exactly.Numbers.{Over, isAssigned}
+use Rattle.connection.specs.Send.{senderOf}
 
 -- ---- send data: `size` bytes, our next protected number, the size of our code, and the room lent
 
@@ -45,7 +46,6 @@ WhyData state size number code room X.Malformed = ⊥
 WhyData state size number code room X.Unacceptable = ⊥
 WhyData state size number code room X.Checksum = ⊥
 WhyData state size number code room X.WrongFinished = ⊥
-WhyData state size number code room X.HelloWhileOpen = ⊥
 
 -- where none of these holds
 abbrev pub DataGoes : State → ℕ → ℕ → ℕ → ℕ → Type 0
@@ -111,19 +111,21 @@ WhyAlert protected state level description lent number code room X.Malformed = �
 WhyAlert protected state level description lent number code room X.Unacceptable = ⊥
 WhyAlert protected state level description lent number code room X.Checksum = ⊥
 WhyAlert protected state level description lent number code room X.WrongFinished = ⊥
-WhyAlert protected state level description lent number code room X.HelloWhileOpen = ⊥
 
 abbrev pub AlertGoes : Bool → State → ℕ → ℕ → ℕ → ℕ → ℕ → ℕ → Type 0
 AlertGoes protected state level description lent number code room =
     AlertFits level description lent × AlertMay protected state × (number ≤ 65535) × (9 + code ≤ room)
 
+-- of the handshake that sends: "clear alerts on the started one, each by its own sending numbers" (02, P6)
 pub record ExactlyAlert (g : Gateway) : Type 0 where
   pub refused : (c : Connection) (protected : Bool) (level description : ℕ) (answered out : List ℕ) (x : Refusal)
       → (g c (send-alert protected level description answered out) .result ≡ sent (Refused x) 0)
-      ↔ WhyAlert protected (c .handshake .state) level description (length answered) (alertNumberOf protected (c .handshake))
-      (alertCodeOf protected (c .handshake)) (length out) x
+      ↔ WhyAlert protected (senderOf protected c .state) level description (length answered)
+      (alertNumberOf protected (senderOf protected c))
+      (alertCodeOf protected (senderOf protected c)) (length out) x
   pub goes : (c : Connection) (protected : Bool) (level description : ℕ) (answered out : List ℕ)
       → (g c (send-alert protected level description answered out) .result ≡ sent Done
-      (9 + alertCodeOf protected (c .handshake)))
-      ↔ AlertGoes protected (c .handshake .state) level description (length answered) (alertNumberOf protected (c .handshake))
-      (alertCodeOf protected (c .handshake)) (length out)
+      (9 + alertCodeOf protected (senderOf protected c)))
+      ↔ AlertGoes protected (senderOf protected c .state) level description (length answered)
+      (alertNumberOf protected (senderOf protected c))
+      (alertCodeOf protected (senderOf protected c)) (length out)

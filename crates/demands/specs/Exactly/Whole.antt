@@ -120,7 +120,6 @@ WhyMisframed d X.Checksum at = ⊥
 WhyMisframed d X.Spent at = ⊥
 WhyMisframed d X.Argument at = ⊥
 WhyMisframed d X.WrongFinished at = ⊥
-WhyMisframed d X.HelloWhileOpen at = ⊥
 
 -- 16: "random not 16"; 6: "output buffer too short: under 128 for receive"
 abbrev pub WhyWhole : ℕ → ℕ → Refusal → Type 0
@@ -137,7 +136,6 @@ WhyWhole random room X.Unacceptable = ⊥
 WhyWhole random room X.Checksum = ⊥
 WhyWhole random room X.Spent = ⊥
 WhyWhole random room X.WrongFinished = ⊥
-WhyWhole random room X.HelloWhileOpen = ⊥
 
 -- neither 16 nor 6
 abbrev pub CallFits : ℕ → ℕ → Type 0
