@@ -82,9 +82,6 @@ impl Key {
         ensures exact { λ _. ⌜ now (out .exit) ≡ expansion (codeUnder self) (now (label .entry) ++ (now (first .entry) ++ now (second .entry) ++ now (third .entry))) (length (now (out .entry))) ⌝ }
         ensures meaning { λ _. ⌜ ((k : List ℕ) → self ≡ keyOf k → now (out .exit) ≡ Expansion.prf k (now (label .entry)) (now (first .entry) ++ now (second .entry) ++ now (third .entry)) (length (now (out .entry)))) ⌝ }
     {
-        if out.len() == 0 {
-            return;
-        }
         let n = short_seed(
             out.len(),
             label.len(),
@@ -96,19 +93,7 @@ impl Key {
             one_term(self, label, first, second, third, out);
             return;
         }
-        let last = (out.len() - 1) / 20;
-        let mut a = seeded(self, &[], label, first, second, third);
-        let mut i: usize = 0;
-        while i < last {
-            let whole = term(self, a, label, first, second, third);
-            lay(out, 20 * i, &whole);
-            let after = next(self, a);
-            a = after;
-            i += 1;
-        }
-        let cut = term(self, a, label, first, second, third);
-        let at = 20 * last;
-        lay(out, at, &cut[..out.len() - at]);
+        all_terms(self, label, first, second, third, out);
     }
 }
 
@@ -144,6 +129,28 @@ fn term(key: Key, a: [u8; 20], label: &[u8], first: &[u8], second: &[u8], third:
     ensures { λ r. ⌜ r ≡ codeUnder key (a ++ (now (label .entry) ++ (now (first .entry) ++ now (second .entry) ++ now (third .entry)))) ⌝ }
 {
     seeded(key, &a, label, first, second, third)
+}
+
+// The expansion of any length, term by term.
+fn all_terms(key: Key, label: &[u8], first: &[u8], second: &[u8], third: &[u8], out: &mut [u8])
+    ensures { λ _. ⌜ now (out .exit) ≡ expansion (codeUnder key) (now (label .entry) ++ (now (first .entry) ++ now (second .entry) ++ now (third .entry))) (length (now (out .entry))) ⌝ }
+{
+    if out.len() == 0 {
+        return;
+    }
+    let last = (out.len() - 1) / 20;
+    let mut a = seeded(key, &[], label, first, second, third);
+    let mut i: usize = 0;
+    while i < last {
+        let whole = term(key, a, label, first, second, third);
+        lay(out, 20 * i, &whole);
+        let after = next(key, a);
+        a = after;
+        i += 1;
+    }
+    let cut = term(key, a, label, first, second, third);
+    let at = 20 * last;
+    lay(out, at, &cut[..out.len() - at]);
 }
 
 // An expansion of one term, with a seed so short that A(1) and the term each take two blocks at most.
@@ -188,8 +195,11 @@ fn short_code(key: Key, d: &mut [u8], n: usize) -> [u8; 20]
 
 // The sizes of the label and of the seed's pieces together, where these are below 100 and the output takes one term; else 100.
 fn short_seed(out: usize, label: usize, first: usize, second: usize, third: usize) -> usize
-    ensures { λ r. ⌜ (r < 100 → (out ≤ 20) × (label + first + second + third ≡ r)) ⌝ }
+    ensures { λ r. ⌜ (r < 100 → (0 < out) × (out ≤ 20) × (label + first + second + third ≡ r)) ⌝ }
 {
+    if out == 0 {
+        return 100;
+    }
     if 20 < out {
         return 100;
     }

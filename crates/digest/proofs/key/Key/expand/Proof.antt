@@ -1,171 +1,39 @@
--- `Key::expand`: after i turns the first i terms stand in the output, and `a` is A(i + 1); the last term is cut.
+-- `Key::expand`: one short term, or all of them.
 use borrow.Author.Needs.{needs}
 use native.Mathlib.Omega.{arith}
-use Prim.Native.Nat.{_+_, _≤_, _<_, _-_, _*_, _/_}
-use mathlib.Core.Path.{_≡_, refl, sym, ap, _∙_}
-use mathlib.Core.List.{[], _++_}
-use lib.ListN.{length, take}
-use lib.Seq.{length-take-le}
-use Rattle.digest.specs.Hmac.{codeUnder}
-use Rattle.digest.specs.Expansion.{chain, terms, expansion}
-use Rattle.digest.proofs.Codes.{length-code}
-use Rattle.digest.proofs.Lay.{length-laid}
-use Rattle.digest.proofs.Terms.{terms-more, chain-first, chain-more, expansion-by, expansion-none, both-expanded}
-use mathlib.Core.Path.{_≡_, refl, sym, ap}
-use mathlib.Core.List.{_++_}
+use Rattle.digest.proofs.Terms.{both-expanded}
 use Rattle.digest.proofs.key.Key.expand.Statement.{statement}
 use Rattle.digest.proofs.key.Key.expand.Tie as tie
 
-abbrev Inv-loop : tie.InvT-loop
-Inv-loop self label first second third out₀ n last a₀ i₀ out a i = (i ≤ last) × (0 < length out₀) × (last ≡ (length out₀ - 1) / 20) × (length out ≡ length out₀) × (length a ≡ 20) × (a ≡ chain (codeUnder self) (label ++ (first ++ second ++ third)) (i + 1)) × (take (20 * i) out ≡ terms (codeUnder self) (label ++ (first ++ second ++ third)) i)
-
-abbrev μ-loop : tie.MeasureT-loop
-μ-loop self label first second third out₀ n last a₀ i₀ out a i = last - i
-
-returns : tie.Need-returns Inv-loop μ-loop
-returns c = let args = c .before .before .before .before .before .before .args in
-    both-expanded (args .self) _ _ _ _ (expansion-none _ _ (args .out .now) (c .if1 .taken))
-
-short-seed-requires : tie.Need-short-seed-requires Inv-loop μ-loop
+short-seed-requires : tie.Need-short-seed-requires
 short-seed-requires c κs = search needs
 
-one-term-requires : tie.Need-one-term-requires Inv-loop μ-loop
-one-term-requires c κs = let fits = c .before .before .short-seed .ensures (c .before .if2 .taken) in (omega (arith, c .before .before .before .if1 .left), fits .0, omega (arith, fits .1, c .before .if2 .taken))
+one-term-requires : tie.Need-one-term-requires
+one-term-requires c κs = let fits = c .before .before .short-seed .ensures (c .before .if1 .taken) in (fits .0, fits .1, omega (arith, fits .2, c .before .if1 .taken))
 
-same-length : tie.Need-same-length Inv-loop μ-loop
+same-length : tie.Need-same-length
 same-length c = search needs
 
-returns-2 : tie.Need-returns-2 Inv-loop μ-loop
-returns-2 c = both-expanded (c .before .before .before .before .before .before .before .before .before .before .before .before .args .self) _ _ _ _ (c .before .before .one-term .ensures)
+returns : tie.Need-returns
+returns c = both-expanded (c .before .before .before .before .before .before .before .before .before .before .before .args .self) _ _ _ _ (c .before .before .one-term .ensures)
 
-sub-last : tie.Need-sub-last Inv-loop μ-loop
-sub-last c = search needs
+all-terms-requires : tie.Need-all-terms-requires
+all-terms-requires c κs = search needs
 
-slice-aggregate-seeded : tie.Need-slice-aggregate-seeded Inv-loop μ-loop
-slice-aggregate-seeded c = search needs
+same-length-2 : tie.Need-same-length-2
+same-length-2 c = search needs
 
-seeded-requires : tie.Need-seeded-requires Inv-loop μ-loop
-seeded-requires c κs = search needs
-
-loop-holds : tie.Need-loop-holds Inv-loop μ-loop
-unfolding terms
-loop-holds c = let args = c .before .before .before .before .before .before .before .before .before .before .args in
-    let mac = codeUnder (args .self) in
-    let seed = args .label .now ++ (args .first .now ++ args .second .now ++ args .third .now) in
-    let first-is = c .seeded .ensures in
-    (omega arith, omega (arith, c .before .before .before .before .if1 .left), refl, refl, ap length first-is ∙ length-code (args .self) seed, chain-first mac (length-code (args .self)) seed _ first-is, refl)
-
-term-requires : tie.Need-term-requires Inv-loop μ-loop
-term-requires c κs = search needs
-
-mul-lay : tie.Need-mul-lay Inv-loop μ-loop
-mul-lay c = omega (arith, c .before .before .before .loop .inv .0, c .before .before .before .before .before .before .before .before .before .before .before .before .before .before .good)
-
-slice-aggregate-lay : tie.Need-slice-aggregate-lay Inv-loop μ-loop
-slice-aggregate-lay c = search needs
-
-lay-requires : tie.Need-lay-requires Inv-loop μ-loop
-lay-requires c κs = omega (arith, c .before .before .before .loop-test .taken, c .before .before .before .before .loop .inv, ap length (c .before .before .term .ensures), length-code (c .before .before .before .before .before .before .before .before .before .before .before .before .before .before .before .args .self) (c .before .before .before .before .loop .a ++ (c .before .before .before .before .before .before .before .before .before .before .before .before .before .before .before .args .label .now ++ (c .before .before .before .before .before .before .before .before .before .before .before .before .before .before .before .args .first .now ++ c .before .before .before .before .before .before .before .before .before .before .before .before .before .before .before .args .second .now ++ c .before .before .before .before .before .before .before .before .before .before .before .before .before .before .before .args .third .now))))
-
-next-requires : tie.Need-next-requires Inv-loop μ-loop
-next-requires c κs = search needs
-
-add-i : tie.Need-add-i Inv-loop μ-loop
-add-i c = omega (arith, c .before .before .before .before .before .before .before .loop-test .taken, c .before .before .before .before .before .before .before .before .before .before .before .before .before .before .before .before .before .before .before .good)
-
-loop-less : tie.Need-loop-less Inv-loop μ-loop
-loop-less c = omega (arith, c .before .before .before .before .before .before .before .loop-test .taken)
-
-loop-again : tie.Need-loop-again Inv-loop μ-loop
-loop-again c = let at = c .before .before .before .before .before .before .before .before .loop in
-    let args = c .before .before .before .before .before .before .before .before .before .before .before .before .before .before .before .before .before .before .before .args in
-    let mac = codeUnder (args .self) in
-    let size = length-code (args .self) in
-    let seed = args .label .now ++ (args .first .now ++ args .second .now ++ args .third .now) in
-    let test = c .before .before .before .before .before .before .before .loop-test .taken in
-    let whole = c .before .before .before .before .before .before .term .ensures in
-    let long : length (c .before .before .before .before .before .before .term .result) ≡ 20 = ap length whole ∙ size (at .a ++ seed) in
-    let laid = c .before .before .before .lay .ensures in (
-      omega arith,
-      at .inv .1,
-      refl,
-      ap length laid ∙ length-laid (at .out) (20 * at .i) _ (omega arith) ∙ at .inv .3,
-      ap length (c .next .ensures) ∙ size (at .a),
-      chain-more mac size seed (at .a) _ (at .i) (c .next .ensures) (at .inv .5),
-      ap (take (20 * (at .i + 1))) laid ∙ terms-more mac size seed (at .out) (at .a) _ (at .i) (omega arith) (at .inv .5) whole (at .inv .6),
-    )
-
-term-requires-2 : tie.Need-term-requires-2 Inv-loop μ-loop
-term-requires-2 c κs = search needs
-
-mul-at : tie.Need-mul-at Inv-loop μ-loop
-mul-at c = omega (arith, c .before .before .before .before .before .before .before .before .before .before .before .before .before .good)
-
-sub-cut : tie.Need-sub-cut Inv-loop μ-loop
-sub-cut c = omega (arith, c .before .before .before .loop .inv)
-
-array-share-prefix-cut : tie.Need-array-share-prefix-cut Inv-loop μ-loop
-array-share-prefix-cut c = omega (arith, c .before .before .before .loop .inv)
-
-slice-aggregate-lay-2 : tie.Need-slice-aggregate-lay-2 Inv-loop μ-loop
-slice-aggregate-lay-2 c = let at = c .before .before .before .before .loop in
-    let args = c .before .before .before .before .before .before .before .before .before .before .before .before .before .before .before .args in
-    let long = ap length (c .before .before .term2 .ensures) ∙ length-code (args .self) _ in
-    sym (length-take-le _ (c .before .before .term2 .result) (omega (arith, at .inv, long)))
-
-lay-requires-2 : tie.Need-lay-requires-2 Inv-loop μ-loop
-lay-requires-2 c κs = let at = c .before .before .before .before .loop in
-    let args = c .before .before .before .before .before .before .before .before .before .before .before .before .before .before .before .args in
-    let long = ap length (c .before .before .term2 .ensures) ∙ length-code (args .self) _ in
-    let cut = length-take-le (length (at .out) - 20 * ((length (args .out .now) - 1) / 20)) (c .before .before .term2 .result) (omega (arith, at .inv, long)) in
-    omega (arith, at .inv, cut)
-
-same-length-2 : tie.Need-same-length-2 Inv-loop μ-loop
-same-length-2 c = c .before .before .lay2 .kept .0 ∙ c .before .before .before .before .before .before .before .loop .inv .3
-
-returns-3 : tie.Need-returns-3 Inv-loop μ-loop
-returns-3 c = let at = c .before .before .before .before .before .before .before .loop in
-    let args = c .before .before .before .before .before .before .before .before .before .before .before .before .before .before .before .before .before .before .args in
-    let mac = codeUnder (args .self) in
-    let size = length-code (args .self) in
-    let seed = args .label .now ++ (args .first .now ++ args .second .now ++ args .third .now) in
-    let last = (length (args .out .now) - 1) / 20 in
-    let same : length (at .out) ≡ length (args .out .now) = at .inv .3 in
-    let done : at .i ≡ last = omega (arith, c .before .before .before .before .before .before .loop-test .left, at .inv .0) in
-    both-expanded (args .self) _ (args .label .now) (args .first .now ++ args .second .now ++ args .third .now) (length (args .out .now))
-    (expansion-by mac size seed (at .out) (c .before .before .lay2 .last .0) (at .a) (c .before .before .before .before .before .term2 .result) last
-    (omega (arith, at .inv .1, same)) (ap (λ n. (n - 1) / 20) (sym same)) (at .inv .5 ∙ ap (λ n. chain mac seed (n + 1)) done) (c .before .before .before .before .before .term2 .ensures)
-    (ap (λ n. take (20 * n) (at .out)) (sym done) ∙ at .inv .6 ∙ ap (terms mac seed) done) (c .before .before .lay2 .ensures)
-    ∙ ap (expansion mac seed) same)
+returns-2 : tie.Need-returns-2
+returns-2 c = both-expanded (c .before .before .before .before .before .before .before .before .before .before .before .args .self) _ _ _ _ (c .before .before .all-terms .ensures)
 
 pub expand-spec : {M : Type 1} → statement M
 expand-spec =
     tie.close
     (tie.spec
-    Inv-loop
-    μ-loop
-    returns
     short-seed-requires
     one-term-requires
     same-length
-    returns-2
-    sub-last
-    slice-aggregate-seeded
-    seeded-requires
-    loop-holds
-    term-requires
-    mul-lay
-    slice-aggregate-lay
-    lay-requires
-    next-requires
-    add-i
-    loop-less
-    loop-again
-    term-requires-2
-    mul-at
-    sub-cut
-    array-share-prefix-cut
-    slice-aggregate-lay-2
-    lay-requires-2
+    returns
+    all-terms-requires
     same-length-2
-    returns-3)
+    returns-2)
