@@ -11,7 +11,7 @@ use std::sync::mpsc::{sync_channel, Receiver, SyncSender};
 use std::thread;
 
 use crate::console::Console;
-use crate::day;
+use crate::day::{self, Spent};
 use crate::report::{Counts, Difference, Report};
 use crate::rng::Rng;
 use crate::shrink;
@@ -21,7 +21,8 @@ use crate::shrink;
 pub struct Plan {
     pub seed: u64,
     pub calls: u64,
-    /// Days on which the sending numbers run out, by turns the protected and the clear ones.
+    /// Days on which sending numbers run out, by turns the protected ones, the clear ones, and the
+    /// clear ones of a started handshake.
     pub spent: u64,
     /// Where to leave the few lines that make a difference.
     pub keep: Option<PathBuf>,
@@ -52,7 +53,7 @@ impl Plan {
                     return Some(Plan {
                         seed: seed?,
                         calls,
-                        spent: spent.unwrap_or(2 * (calls / 200_000)),
+                        spent: spent.unwrap_or(3 * (calls / 200_000)),
                         keep,
                         program: std::iter::once(program.to_string()).chain(rest).collect(),
                     });
@@ -123,7 +124,8 @@ fn make_days(plan: &Plan, expect: SyncSender<Expected>, write: SyncSender<Vec<u8
             break;
         }
         days += 1;
-        day::spent(seeds.draw(), turn % 2 == 0, &mut model, &mut |line, lines| {
+        let which = Spent::ALL[turn as usize % Spent::ALL.len()];
+        day::spent(seeds.draw(), which, &mut model, &mut |line, lines| {
             gone = !hand_on(days, line, lines);
             calls += 1;
             !gone
@@ -266,7 +268,7 @@ mod tests {
     fn plans() {
         let plan =
             Plan::read(&["--seed", "7", "--calls", "400000", "--console", "x", "y"]).unwrap();
-        assert_eq!((plan.seed, plan.calls, plan.spent), (7, 400_000, 4));
+        assert_eq!((plan.seed, plan.calls, plan.spent), (7, 400_000, 6));
         assert_eq!(plan.program, ["x", "y"]);
         assert_eq!(Plan::read(&["--seed", "7", "--console", "x"]), None);
         assert_eq!(Plan::read(&["--seed", "x", "--calls", "1", "--console", "x"]), None);

@@ -4,7 +4,8 @@ use std::io::{self, BufWriter, Read, Write};
 use std::process::ExitCode;
 
 use peer::{
-    console, dayconsole, dayfiles, days, handshakes, lists, parts, rng, setlines, stored, wire,
+    console, dayconsole, dayfiles, days, handshakes, lists, parts, rng, rows, setlines, stored,
+    wire,
 };
 
 const USAGE: &str = "\
@@ -20,8 +21,9 @@ peer setlines --seed S --count N    lines for the console: N calls, explicit set
                                    in hellos, sound and wrong
 peer days --seed S --calls N [--spent K] [--keep FILE] --console PROGRAM [ARGUMENT ..]
                                    random days through PROGRAM, each line compared; K days on
-                                   which sending numbers run out (else 2 to each 200,000 calls);
+                                   which sending numbers run out (else 3 to each 200,000 calls);
                                    FILE gets the few lines that make a difference
+peer rows --seed S --days N          how often random days meet each row of Open; 1 if one is missing
 peer lists --seed S --count N --lister PROGRAM [ARGUMENT ..]
                                    random datagrams through a frame lister
 peer parts --seed S --count N --gatherer PROGRAM [ARGUMENT ..]
@@ -42,6 +44,9 @@ fn main() -> ExitCode {
         ["daycuts", "--seed", seed, "--count", count] => day_files(seed, count, dayfiles::cuts),
         ["setlines", "--seed", seed, "--count", count] => set_lines(seed, count),
         ["days", ..] => return run_days(&words[1..]),
+        ["rows", "--seed", seed, "--days", days] => {
+            return run_rows(seed.parse().ok(), days.parse().ok())
+        }
         ["lists", "--seed", seed, "--count", count, "--lister", ..] => {
             return run_many(lists::run, seed.parse().ok(), count.parse().ok(), &words[6..])
         }
@@ -132,4 +137,14 @@ fn run_many(run: Run, seed: Option<u64>, count: Option<u64>, program: &[&str]) -
             ExitCode::FAILURE
         }
     }
+}
+
+fn run_rows(seed: Option<u64>, days: Option<u64>) -> ExitCode {
+    let (Some(seed), Some(days)) = (seed, days) else {
+        eprint!("{USAGE}");
+        return ExitCode::from(2);
+    };
+    let rows = rows::of_days(seed, days);
+    print!("{rows}");
+    ExitCode::from(u8::from(!rows.missing().is_empty()))
 }
