@@ -23,12 +23,11 @@ pub enum Refusal {
     Spent = 15,
     Argument = 16,
     WrongFinished = 17,
-    HelloWhileOpen = 18,
 }
 
 use Refusal::*;
 
-const ALL: [Refusal; 18] = [
+const ALL: [Refusal; 17] = [
     Size,
     Header,
     Type,
@@ -46,11 +45,11 @@ const ALL: [Refusal; 18] = [
     Spent,
     Argument,
     WrongFinished,
-    HelloWhileOpen,
 ];
 
 impl Refusal {
-    /// The number in the list of the rules, 1 to 18.
+    /// The number in the list of the rules, 1 to 17. (18 was a hello while open. It is not given any more, and the number is not used
+    /// again.)
     pub fn number(self) -> u8 {
         self as u8
     }
@@ -80,7 +79,6 @@ impl Refusal {
             Spent => "sending number spent",
             Argument => "argument out of range; also: the bytes lent are no saved connection",
             WrongFinished => "genuine Finished with wrong contents",
-            HelloWhileOpen => "clear ClientHello while Open",
         }
     }
 }

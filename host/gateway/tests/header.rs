@@ -40,12 +40,12 @@ fn sizes() {
     assert_eq!(size("NAME_ROOM"), gateway::NAME_ROOM);
 }
 
-/// `NotAllowed` is GATEWAY_NOT_ALLOWED, and prints as `refused 8: ` and the words of the header; so all eighteen.
+/// `NotAllowed` is GATEWAY_NOT_ALLOWED, and prints as `refused 8: ` and the words of the header; so all seventeen. 18 is reserved.
 #[test]
 fn refusals_by_name_number_and_meaning() {
     let refusals = refusals();
     assert_eq!(refusals[0], ("GATEWAY_DONE".to_string(), 0, String::new()));
-    assert_eq!(refusals.len(), 19);
+    assert_eq!(refusals.len(), 18);
     for (place, (name, number, comment)) in refusals.iter().enumerate().skip(1) {
         let refusal = Refusal::numbered(*number).expect(name);
         assert_eq!((usize::from(refusal.number()), *number as usize), (place, place));
@@ -59,5 +59,5 @@ fn refusals_by_name_number_and_meaning() {
         assert_eq!(refusal.meaning(), comment);
     }
     assert_eq!(Refusal::numbered(0), None);
-    assert_eq!(Refusal::numbered(19), None);
+    assert_eq!(Refusal::numbered(18), None);
 }

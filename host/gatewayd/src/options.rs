@@ -25,8 +25,6 @@ gatewayd: the shore end of the link, over UDP. One connection for each planted s
                            and barred sessions stay
     --listen ADDRESS:PORT  where to listen  [127.0.0.1:9202]; not asked if a socket was handed over
                            (LISTEN_FDS, as systemd does it)
-    --reopen-after SECONDS a hello is answered beside an open connection that has been silent for so
-                           long  [5]
     --warn-every SECONDS   at most one warning 57 to a ship in this time  [60]
     --hint-every SECONDS   a datagram that no ship takes is answered by no_connection, at most once
                            to a host in this time  [never]
@@ -54,7 +52,6 @@ pub struct Options {
     pub store: Where,
     pub start: Start,
     pub listen: SocketAddr,
-    pub reopen_after: Duration,
     pub warn_every: Duration,
     pub hint_every: Option<Duration>,
     pub log_every: Duration,
@@ -67,7 +64,6 @@ struct Said {
     store: Option<String>,
     start: Start,
     listen: SocketAddr,
-    reopen_after: Duration,
     warn_every: Duration,
     hint_every: Option<Duration>,
     log_every: Duration,
@@ -80,7 +76,6 @@ pub fn read(mut words: impl Iterator<Item = OsString>) -> Result<Command, String
         store: None,
         start: Start::AsItWas,
         listen: SocketAddr::from(([127, 0, 0, 1], 9202)),
-        reopen_after: Duration::from_secs(5),
         warn_every: Duration::from_secs(60),
         hint_every: None,
         log_every: Duration::from_secs(10),
@@ -100,7 +95,6 @@ pub fn read(mut words: impl Iterator<Item = OsString>) -> Result<Command, String
         store: Where::said(said.state, said.store)?,
         start: said.start,
         listen: said.listen,
-        reopen_after: said.reopen_after,
         warn_every: said.warn_every,
         hint_every: said.hint_every,
         log_every: said.log_every,
@@ -125,7 +119,6 @@ impl Said {
                 self.listen =
                     value.parse().map_err(|_| format!("--listen: {value} is no ADDRESS:PORT"))?;
             }
-            "--reopen-after" => self.reopen_after = seconds(word, value()?)?,
             "--warn-every" => self.warn_every = seconds(word, value()?)?,
             "--hint-every" => self.hint_every = Some(seconds(word, value()?)?),
             "--log-every" => self.log_every = seconds(word, value()?)?,
@@ -161,11 +154,10 @@ mod tests {
         let Ok(Command::Run(options)) = words("--state s --sessions f") else { panic!() };
         assert_eq!(options.listen.to_string(), "127.0.0.1:9202");
         assert_eq!(options.store, Where::Directory("s".into()));
-        assert_eq!(options.reopen_after, Duration::from_secs(5));
         assert_eq!(options.hint_every, None);
-        let line = "--state s --sessions f --reopen-after 0.5 --hint-every 7";
+        let line = "--state s --sessions f --warn-every 0.5 --hint-every 7";
         let Ok(Command::Run(options)) = words(line) else { panic!() };
-        assert_eq!(options.reopen_after, Duration::from_millis(500));
+        assert_eq!(options.warn_every, Duration::from_millis(500));
         assert_eq!(options.hint_every, Some(Duration::from_secs(7)));
         assert_eq!(words("--help"), Ok(Command::Help));
         for line in [
@@ -176,6 +168,7 @@ mod tests {
             "--state",
             "--listen x",
             "--warn-every -1",
+            "--state s --sessions f --reopen-after 5",
             "--log-every nan",
             "x",
         ] {

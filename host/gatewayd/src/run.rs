@@ -66,11 +66,7 @@ pub fn run(options: &Options) -> Result<Ended, Failure> {
     let randoms = Randoms::open().map_err(failure(6))?;
 
     let Opened { store, ships } = opened;
-    let rules = Rules {
-        reopen_after: options.reopen_after,
-        warn_every: options.warn_every,
-        hint_every: options.hint_every,
-    };
+    let rules = Rules { warn_every: options.warn_every, hint_every: options.hint_every };
     let shore = Shore::new(Fleet::new(ships, rules), store, randoms);
     let inbox = Inbox::open(&socket).map_err(listen)?;
     let version = env!("CARGO_PKG_VERSION");

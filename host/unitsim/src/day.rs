@@ -22,14 +22,19 @@ pub struct Day<'a> {
     confirmed: bool,
     unconfirmed: usize,
     pub sent: usize,
+    pub reboots: usize,
 }
 
 /// A hello is said again as it is so many times, then another one is said.
 const SAME_HELLOS: usize = 5;
 const MOST_HELLOS: usize = 200;
+/// A unit that lost its power takes so long to be there again.
+const BOOT: Duration = Duration::from_millis(300);
 /// After so many reports without the warning 57 the handshake may have failed: another hello.
 const DOUBT_AFTER: usize = 32;
 
+/// The type byte of a hello as the unit writes it.
+const CLEAR_HELLO: u8 = 0x43;
 const CRITICAL: u8 = 2;
 const CONNECTION_CLOSE_NOTIFY: u8 = 0;
 
@@ -45,6 +50,7 @@ impl Day<'_> {
             confirmed: false,
             unconfirmed: 0,
             sent: 0,
+            reboots: 0,
             options,
         })
     }
@@ -52,6 +58,9 @@ impl Day<'_> {
     pub fn run(&mut self) -> Result<(), String> {
         self.shake_hands()?;
         for index in 0..self.options.reports {
+            if self.loses_power_before(index) {
+                self.reboot()?;
+            }
             self.report(index)?;
         }
         for datagram in self.out.empty() {
@@ -66,6 +75,31 @@ impl Day<'_> {
         Ok(())
     }
 
+    /// At even distances over the day.
+    fn loses_power_before(&self, index: usize) -> bool {
+        let Options { reports, reboots, .. } = self.options;
+        (1..=*reboots).any(|nth| index == nth * reports / (reboots + 1))
+    }
+
+    fn reboot(&mut self) -> Result<(), String> {
+        self.reboots += 1;
+        self.lose_power();
+        if self.reboots % 2 == 0 {
+            self.shake_hands()?;
+            self.lose_power();
+        }
+        self.shake_hands()
+    }
+
+    /// Keys and numbers are gone, and so are the hellos that the modem still held. Reports that are
+    /// on their way arrive.
+    fn lose_power(&mut self) {
+        self.unit = Unit::new(&self.options.session, &self.options.secret);
+        self.out.drop_those(|datagram| datagram[0] == CLEAR_HELLO);
+        (self.number, self.confirmed, self.unconfirmed) = (1, false, 0);
+        thread::sleep(BOOT);
+    }
+
     fn shake_hands(&mut self) -> Result<(), String> {
         let mut message = Vec::new();
         for said in 0..MOST_HELLOS {
@@ -75,10 +109,20 @@ impl Day<'_> {
             let datagram = self.unit.say_hello(&message);
             self.send(datagram)?;
             if self.listen()? {
-                return Ok(());
+                return self.strangers();
             }
         }
         Err(format!("no reply to {MOST_HELLOS} hellos"))
+    }
+
+    /// Others say hello in the ship's name. That is nothing to it.
+    fn strangers(&mut self) -> Result<(), String> {
+        for _ in 0..self.options.strangers {
+            let message = self.hello();
+            let hello = self.unit.clear(Content::Handshake, false, 0, &message);
+            self.gateway.strange(&hello)?;
+        }
+        Ok(())
     }
 
     fn hello(&mut self) -> Vec<u8> {

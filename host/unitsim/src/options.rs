@@ -21,6 +21,10 @@ unitsim: a ship's unit behind a bad link, for trying a gateway.
                          up to 40 datagrams, lets the next ones pass, changes a byte of  [0]
     --forward P          per cent of the reports that take the store-and-forward routing and come forty
                          places late, once the gateway has our Finished  [0]
+    --reboots N          so many times in the middle of the day the unit loses its power, forgets all and says
+                         hello anew; each second time once more, as soon as it has heard the reply  [0]
+    --strangers N        so many hellos in the ship's name, from another host, after each reply that the
+                         ship heard and before its Finished  [0]
     --every MILLISECONDS pause behind each datagram  [1]
     --mac sha80|sha      [sha80]
     --refresh N          the key refresh  [4]
@@ -43,6 +47,8 @@ pub struct Options {
     pub reports: usize,
     pub seed: u64,
     pub rates: Rates,
+    pub reboots: usize,
+    pub strangers: usize,
     pub every: Duration,
     pub kind: Kind,
     pub refresh: u8,
@@ -66,6 +72,7 @@ pub fn read(mut words: impl Iterator<Item = String>) -> Result<Option<Options>, 
     let (mut to, mut sessions, mut ship) = (None, None, None);
     let (mut expected, mut capture, mut close) = (None, None, false);
     let (mut reports, mut seed, mut every) = (300, 1, 1);
+    let (mut reboots, mut strangers) = (0, 0);
     let mut rates = Rates::default();
     let (mut kind, mut refresh) = (Kind::Sha80, 4);
     while let Some(word) = words.next() {
@@ -91,6 +98,8 @@ pub fn read(mut words: impl Iterator<Item = String>) -> Result<Option<Options>, 
             "--reorder" => rates.reorder = percent(&word, &value)?,
             "--damage" => rates.damage = percent(&word, &value)?,
             "--forward" => rates.forward = percent(&word, &value)?,
+            "--reboots" => reboots = number(&word, &value)?,
+            "--strangers" => strangers = number(&word, &value)?,
             "--every" => every = number(&word, &value)?,
             "--refresh" => refresh = number(&word, &value)?,
             "--mac" if value == "sha80" => kind = Kind::Sha80,
@@ -112,6 +121,8 @@ pub fn read(mut words: impl Iterator<Item = String>) -> Result<Option<Options>, 
         reports,
         seed,
         rates,
+        reboots,
+        strangers,
         every,
         kind,
         refresh,
