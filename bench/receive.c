@@ -137,7 +137,7 @@ static void shore_open(struct shore *s, int made_by, unsigned refresh) {
     if (s->secret_key.context == NULL) s->secret_key.context = HMAC_CTX_new(), s->record_key.context = HMAC_CTX_new();
 }
 
-/* ---- Ours: the same connection, in its 490 bytes (the places are in crates/lent/specs/Saved.antt). */
+/* ---- Ours: the same connection, in its 940 bytes (the places are in crates/lent/specs/Saved.antt). */
 
 static uint8_t state[GATEWAY_STATE_SIZE], tally[GATEWAY_TALLY_SIZE], answers[GATEWAY_ANSWERS_SIZE], out[128], fresh_random[16];
 
@@ -145,10 +145,10 @@ static void ours_open(unsigned refresh) {
     uint8_t id[GATEWAY_ID_SIZE] = {0}, secret[GATEWAY_SECRET_SIZE];
     memset(secret, 0x31, sizeof secret);
     gateway_fresh(id, sizeof id, secret, sizeof secret, 32, state, sizeof state);
-    state[4] = GATEWAY_OPEN;
-    memset(state + 33, 0x80, 16), memset(state + 49, 0x10, 16);
-    state[65] = 2;
-    state[66] = (uint8_t)refresh;
+    state[40] = GATEWAY_OPEN;
+    memset(state + 69, 0x80, 16), memset(state + 85, 0x10, 16);
+    state[101] = 2;
+    state[102] = (uint8_t)refresh;
 }
 
 static size_t ours_receive(const uint8_t *d, size_t n) {

@@ -23,7 +23,7 @@ extern "C" {
 #endif
 
 /* The sizes of what is lent, in bytes. */
-#define GATEWAY_STATE_SIZE 490   /* a connection; the places are listed in crates/lent/specs/Saved.antt */
+#define GATEWAY_STATE_SIZE 940   /* a connection; the places are listed in crates/lent/specs/Saved.antt */
 #define GATEWAY_TALLY_SIZE 16    /* a tally: handed out, forged, too old, repeated; four bytes each, high byte first */
 #define GATEWAY_ANSWERS_SIZE 192 /* the answers of a receive: eight of 24 bytes each */
 #define GATEWAY_ANSWER_SIZE 24
@@ -109,7 +109,7 @@ struct gateway_answer {
 };
 
 /* A fresh connection of a planted session: an identifier of 8 bytes, a master secret of 20, the width of its window, 32 to 64, and
-   490 bytes for the connection, whatever they hold. A record is too old if its number is at most the highest accepted less the
+   940 bytes for the connection, whatever they hold. A record is too old if its number is at most the highest accepted less the
    width: 32 serves a link that keeps the order nearly, 64 one that stores and forwards. The width stays what it is here, over
    close and start again.
    Done: they hold a connection in Idle. Refused: 16, where one of the three has another length, or the width is none. */

@@ -17,15 +17,17 @@ use Rattle.message.specs.declared.alert.Level.the-variants as L
 use Rattle.message.specs.declared.alert.Description.{Description}
 use Rattle.message.specs.declared.alert.Reading.{Reading}
 use Rattle.message.specs.declared.alert.Reading.the-variants as R
-use Rattle.connection.specs.Handshake.{planted, withState, withWindow, wasSent}
+use Rattle.connection.specs.Handshake.{planted, withState, withWindow}
+use Rattle.connection.specs.Sent.{matchesOf}
 use Rattle.connection.specs.Answer.{judged, refusing}
 use Rattle.connection.specs.Reply.{replyTo, answeredWith}
 use Rattle.connection.specs.declared.state.State.the-variants as S
-use Rattle.connection.specs.declared.refusal.Refusal.the-variants.{Malformed, Unacceptable, Checksum}
+use Rattle.connection.specs.declared.refusal.Refusal.the-variants.{NotAllowed, Malformed, Unacceptable, Checksum}
 use Rattle.connection.specs.declared.answer.Answer.the-variants.{Reply, Resent, Spec, Warning, Critical, Fatal}
 use Rattle.connection.specs.declared.answer.Judged.{Judged}
 use Rattle.connection.specs.declared.handshake.Handshake.{Handshake}
 use Rattle.connection.specs.declared.handshake.Kept.{Kept}
+use Rattle.connection.specs.declared.sent.SentRecords.{SentRecords}
 
 -- "Idle, clear ClientHello: reply; Replied". A hello that is malformed is 12, one that is not acceptable 13.
 abbrev pub heardTo : Handshake → List ℕ → List ℕ → Heard → Judged
@@ -47,6 +49,10 @@ keptSize kept = length (take (kept .size) (kept .reply))
 unfoldable pub greetedAgain : Handshake → List ℕ → List ℕ → Judged
 greetedAgain h random m = pick (isKept (h .kept) m) (judged (Resent (keptSize (h .kept))) h) (greetedBy h random m)
 
+-- Open: "The hello that made the open connection gets its reply bytes again and starts nothing." (02, "A unit that rebooted")
+unfoldable pub resentBy : Handshake → List ℕ → Judged
+resentBy h m = pick (isKept (h .kept) m) (judged (Resent (keptSize (h .kept))) h) (refusing NotAllowed h)
+
 -- "Replied: clear change cipher spec (one byte 1): Spec, window empty"
 unfoldable pub changedBy : Handshake → List ℕ → Judged
 changedBy h fragment =
@@ -60,10 +66,10 @@ byLevel h L.Critical description = judged (Critical description) (withState h S.
 byLevel h L.Fatal description = judged (Fatal description) (withState h S.Closed)
 
 -- 12, then 14: a clear alert "is now good if it matches any of the last eight records that we sent since the last start" (02)
-abbrev pub heardBy : Handshake → Reading → Judged
-heardBy h R.Malformed = refusing Malformed h
-heardBy h (R.WellFormed a) =
-    pick (wasSent h (a .checksum)) (byLevel h (a .level) (a .description)) (refusing Checksum h)
+abbrev pub heardBy : Handshake → SentRecords → Reading → Judged
+heardBy h sent R.Malformed = refusing Malformed h
+heardBy h sent (R.WellFormed a) =
+    pick (matchesOf sent (a .checksum)) (byLevel h (a .level) (a .description)) (refusing Checksum h)
 
-unfoldable pub heardAlert : Handshake → List ℕ → Judged
-heardAlert h fragment = heardBy h (alertOf fragment)
+unfoldable pub heardAlert : Handshake → SentRecords → List ℕ → Judged
+heardAlert h sent fragment = heardBy h sent (alertOf fragment)

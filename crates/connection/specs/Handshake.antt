@@ -1,5 +1,4 @@
 -- One handshake and its changes (01, "Handshake" and "Alerts"; 002 10.2.2).
-use mathlib.Core.Bool.{Bool}
 use mathlib.Core.List.{List}
 use Prim.Native.Nat.{ℕ}
 use lib.ListN.{take, replicate}
@@ -10,14 +9,13 @@ use Rattle.record.specs.Protection as P
 use Rattle.record.specs.declared.keys.Keys.{Keys}
 use Rattle.record.specs.declared.window.Window.{Window}
 use Rattle.record.specs.declared.protection.Protection.{Protection}
-use Rattle.connection.specs.Sent.{noRecords, withRecord, matchesOf}
 use Rattle.connection.specs.declared.state.State.{State}
 use Rattle.connection.specs.declared.state.State.the-variants.{Idle, Barred}
 use Rattle.connection.specs.declared.handshake.Session.{Session}
 use Rattle.connection.specs.declared.handshake.Kept.{Kept}
 use Rattle.connection.specs.declared.handshake.Handshake.{Handshake}
 
--- nothing planted, nothing agreed, nothing kept, nothing sent
+-- nothing planted, nothing agreed, nothing kept
 unfoldable pub noSession : Session
 noSession = record { id = replicate 8 0; secret = replicate 20 0 }
 
@@ -43,7 +41,6 @@ newHandshake session width state =
       id = session .id;
       expected = nothingExpected;
       kept = nothingKept;
-      sent = noRecords;
       protection = newProtection (session .secret) width;
     }
 
@@ -51,35 +48,32 @@ newHandshake session width state =
 abbrev pub blankHandshake : Handshake
 blankHandshake = newHandshake noSession windowWidth Barred
 
+-- what stands in the place of a started handshake where there is none
+abbrev pub noneStarted : Handshake
+noneStarted = newHandshake noSession windowWidth Idle
+
 -- the session of a handshake: its identifier, and the secret that its keys are made of
 abbrev pub planted : Handshake → Session
 planted h = record { id = h .id; secret = h .protection .keys .secret }
 
+-- a handshake beside another in which nothing has happened: of the same session, with a window of the same width
+abbrev pub newcomerTo : Handshake → Handshake
+newcomerTo h = newHandshake (planted h) (h .protection .window .width) Idle
+
 -- one change each
 abbrev pub withState : Handshake → State → Handshake
 withState h state =
-    record { state = state; id = h .id; expected = h .expected; kept = h .kept; sent = h .sent; protection = h .protection }
+    record { state = state; id = h .id; expected = h .expected; kept = h .kept; protection = h .protection }
 
 abbrev pub withProtection : Handshake → Protection → Handshake
 withProtection h protection =
-    record { state = h .state; id = h .id; expected = h .expected; kept = h .kept; sent = h .sent; protection = protection }
+    record { state = h .state; id = h .id; expected = h .expected; kept = h .kept; protection = protection }
 
 abbrev pub withWindow : Handshake → Window → Handshake
 withWindow h window = withProtection h (P.withWindow (h .protection) window)
 
-abbrev pub withSent : Handshake → Protection → ℕ → Handshake
-withSent h protection sum =
-    record {
-      state = h .state;
-      id = h .id;
-      expected = h .expected;
-      kept = h .kept;
-      sent = withRecord (h .sent) sum;
-      protection = protection;
-    }
-
--- "Start again leads from Closed to Idle and forgets the window and the kept hello." It forgets the records sent (02: "since
--- the last start"); the sending numbers stay until the next reply.
+-- "Start again leads from Closed to Idle and forgets the window and the kept hello." The sending numbers stay until the next
+-- reply.
 abbrev pub forgetting : Handshake → Handshake
 forgetting h =
     record {
@@ -87,15 +81,14 @@ forgetting h =
       id = h .id;
       expected = h .expected;
       kept = nothingKept;
-      sent = noRecords;
       protection = P.withWindow (h .protection) (emptied (h .protection .window));
     }
 
 abbrev pub reopened : Handshake → Handshake
 reopened h = withState (forgetting h) Idle
 
--- Barred: "required to forget any session identifiers, keys, and secrets" (002 10.2.2). The window, the sending numbers
--- and the records sent stay, and so do the MAC kind and the refresh, which are no secrets.
+-- Barred: "required to forget any session identifiers, keys, and secrets" (002 10.2.2). The window and the sending
+-- numbers stay, and so do the MAC kind and the refresh, which are no secrets.
 abbrev pub unkeyed : Protection → Protection
 unkeyed p =
     record {
@@ -112,7 +105,6 @@ barred h =
       id = replicate 8 0;
       expected = nothingExpected;
       kept = nothingKept;
-      sent = h .sent;
       protection = unkeyed (h .protection);
     }
 
@@ -122,7 +114,3 @@ keptHello h = take (h .kept .heard) (h .kept .hello)
 
 abbrev pub keptReply : Handshake → List ℕ
 keptReply h = take (h .kept .size) (h .kept .reply)
-
--- whether a record with this checksum is one of those that we sent, as far as they are kept
-abbrev pub wasSent : Handshake → ℕ → Bool
-wasSent h sum = matchesOf (h .sent) sum

@@ -3,11 +3,14 @@ pub mod Refusal
 pub mod State
 pub mod Sent
 pub mod Handshake
+pub mod Connection
 pub mod Answer
 pub mod Reply
 pub mod Clear
-pub mod Sealed
+pub mod Protected
 pub mod Judge
+pub mod Asked
+pub mod Told
 pub mod Receive
 pub mod Send
 pub mod Calls

@@ -10,28 +10,27 @@ use Rattle.record.specs.Datagram.{Framing, framed, faulty, framingOf}
 use Rattle.record.specs.declared.reader.Record.{Record}
 use Rattle.connection.specs.Refusal.{refusalNumber}
 use Rattle.connection.specs.Answer.{replySize}
-use Rattle.connection.specs.Judge.{judgedRecord}
+use Rattle.connection.specs.Told.{toldRecord, keptBy}
 use Rattle.connection.specs.declared.refusal.Refusal.the-variants.{Framing as Framed, Room, Argument}
 use Rattle.connection.specs.declared.answer.Answer.{Answer}
 use Rattle.connection.specs.declared.answer.Answer.the-variants.{Nothing}
-use Rattle.connection.specs.declared.answer.Judged.{Judged}
 use Rattle.connection.specs.declared.answer.Slot.{Slot}
-use Rattle.connection.specs.declared.handshake.Handshake.{Handshake}
 use Rattle.connection.specs.declared.handshake.Kept.{Kept}
-use Rattle.connection.specs.declared.calls.Connection.{Connection}
+use Rattle.connection.specs.declared.connection.Connection.{Connection}
+use Rattle.connection.specs.declared.told.Told.{Told}
 use Rattle.connection.specs.declared.receive.Taken.{Taken}
 use Rattle.connection.specs.declared.receive.Taken.the-variants.{Records, Refused, Misframed}
 use Rattle.connection.specs.declared.receive.Received.{Received}
 
--- each record is judged in the state that the records before it left: the handshake at the end, and the answers
-unfoldable pub endOf : Handshake → List ℕ → List ℕ → List Record → Handshake
-endOf h random d [] = h
-endOf h random d (r ∷ rs) = endOf (judgedRecord h random d r .handshake) random d rs
+-- each record is judged in the state that the records before it left: the connection at the end, and the answers
+unfoldable pub endOf : Connection → List ℕ → List ℕ → List Record → Connection
+endOf c random d [] = c
+endOf c random d (r ∷ rs) = endOf (toldRecord c random d r .connection) random d rs
 
-unfoldable pub answersOf : Handshake → List ℕ → List ℕ → List Record → List Answer
-answersOf h random d [] = []
-answersOf h random d (r ∷ rs) =
-    judgedRecord h random d r .answer ∷ answersOf (judgedRecord h random d r .handshake) random d rs
+unfoldable pub answersOf : Connection → List ℕ → List ℕ → List Record → List Answer
+answersOf c random d [] = []
+answersOf c random d (r ∷ rs) =
+    toldRecord c random d r .answer ∷ answersOf (toldRecord c random d r .connection) random d rs
 
 -- eight places: the answers, and nothing behind them
 abbrev pub slot : Answer → Slot
@@ -40,25 +39,25 @@ slot answer = record { answer = answer }
 unfoldable pub slotsOf : List Answer → List Slot
 slotsOf list = map slot list ++ replicate (8 - length list) (slot Nothing)
 
--- what an answer sends: the reply as it is kept then
+-- what an answer sends: the reply as whoever answered keeps it then
 abbrev pub sentOfKept : Kept → Answer → List ℕ
 sentOfKept kept answer = take (replySize answer) (kept .reply)
 
-abbrev pub sentBy : Judged → List ℕ
-sentBy j = sentOfKept (j .handshake .kept) (j .answer)
+abbrev pub sentBy : Told → List ℕ
+sentBy t = sentOfKept (keptBy (t .beside) (t .connection)) (t .answer)
 
 -- a ClientHello stands only first in its datagram, so the first record's reply is all that is sent
-unfoldable pub firstReply : Handshake → List ℕ → List ℕ → List Record → List ℕ
-firstReply h random d [] = []
-firstReply h random d (r ∷ rs) = sentBy (judgedRecord h random d r)
+unfoldable pub firstReply : Connection → List ℕ → List ℕ → List Record → List ℕ
+firstReply c random d [] = []
+firstReply c random d (r ∷ rs) = sentBy (toldRecord c random d r)
 
-unfoldable pub runOf : Handshake → List ℕ → List ℕ → List Record → Received
-runOf h random d rs =
+unfoldable pub runOf : Connection → List ℕ → List ℕ → List Record → Received
+runOf c random d rs =
     record {
       taken = Records (length rs);
-      answers = slotsOf (answersOf h random d rs);
-      written = length (firstReply h random d rs);
-      connection = record { handshake = endOf h random d rs };
+      answers = slotsOf (answersOf c random d rs);
+      written = length (firstReply c random d rs);
+      connection = endOf c random d rs;
     }
 
 -- the number of the refusal of a whole datagram (01, "Refusal numbers"), 0 where it was taken; and "the offset of the record at
@@ -78,7 +77,7 @@ unfoldable pub wholeOf : Connection → Taken → Received
 wholeOf c taken = record { taken = taken; answers = slotsOf []; written = 0; connection = c }
 
 abbrev pub framedTo : Connection → List ℕ → List ℕ → Framing → Received
-framedTo c random d (framed rs) = runOf (c .handshake) random d rs
+framedTo c random d (framed rs) = runOf c random d rs
 framedTo c random d (faulty fault at) = wholeOf c (Misframed (Framed fault) at)
 
 unfoldable pub receivedOf : Connection → List ℕ → List ℕ → ℕ → Received
@@ -89,7 +88,7 @@ receivedOf c d random room =
 
 -- "A success writes the counted bytes at the front and no others."
 abbrev pub sentOf : Connection → List ℕ → List ℕ → Framing → List ℕ
-sentOf c random d (framed rs) = firstReply (c .handshake) random d rs
+sentOf c random d (framed rs) = firstReply c random d rs
 sentOf c random d (faulty fault at) = []
 
 unfoldable pub outputOf : Connection → List ℕ → List ℕ → List ℕ → List ℕ

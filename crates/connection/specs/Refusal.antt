@@ -1,8 +1,8 @@
--- The refusal numbers (01, "Refusal numbers").
+-- The refusal numbers (01, "Refusal numbers"). "18 is not given any more" (02, "A unit that rebooted").
 use Prim.Native.Nat.{ℕ}
 use Rattle.record.specs.Reader.{faultNumber}
 use Rattle.connection.specs.declared.refusal.Refusal.{Refusal}
-use Rattle.connection.specs.declared.refusal.Refusal.the-variants.{Framing, Room, Ended, NotAllowed, Forged, TooOld, Repeated, Malformed, Unacceptable, Checksum, Spent, Argument, WrongFinished, HelloWhileOpen}
+use Rattle.connection.specs.declared.refusal.Refusal.the-variants.{Framing, Room, Ended, NotAllowed, Forged, TooOld, Repeated, Malformed, Unacceptable, Checksum, Spent, Argument, WrongFinished}
 
 abbrev pub refusalNumber : Refusal → ℕ
 refusalNumber (Framing fault) = faultNumber fault
@@ -18,4 +18,3 @@ refusalNumber Checksum = 14
 refusalNumber Spent = 15
 refusalNumber Argument = 16
 refusalNumber WrongFinished = 17
-refusalNumber HelloWhileOpen = 18

@@ -16,9 +16,7 @@ use Rattle.message.specs.Change.{changeBytes}
 use Rattle.message.specs.Finished.{serverVerify, clientVerify, finishedOf}
 use Rattle.message.specs.declared.acceptance.Plan.{Plan}
 use Rattle.connection.specs.Handshake.{planted}
-use Rattle.connection.specs.Sent.{sumOf, withReply}
 use Rattle.connection.specs.declared.state.State.the-variants.{Replied}
-use Rattle.connection.specs.declared.reply.Flight.{Flight}
 use Rattle.connection.specs.declared.handshake.Session.{Session}
 use Rattle.connection.specs.declared.handshake.Handshake.{Handshake}
 
@@ -68,24 +66,9 @@ lastOf session random m plan =
 abbrev pub padTo : ℕ → List ℕ → List ℕ
 padTo n s = s ++ replicate (n - length s) 0
 
--- the reply at the front of its place, and the checksums of its three records
-abbrev pub flightWith : List ℕ → List ℕ → List ℕ → Mac → List ℕ → List ℕ → Flight
-flightWith secret server client mac hello ours =
-    record {
-      reply = padTo 84 (flightOf secret server client mac hello ours);
-      hello = sumOf (helloRecord hello);
-      change = sumOf changeRecord;
-      finished = sumOf (finishedRecord secret server client mac ours);
-    }
-
-abbrev pub joinedOf : List ℕ → List ℕ → List ℕ → ℕ → Flight
-joinedOf first second third size =
-    record {
-      reply = first ++ (second ++ third);
-      hello = sumOf first;
-      change = sumOf second;
-      finished = sumOf (take size third);
-    }
+-- the reply at the front of its place
+abbrev pub flightWith : List ℕ → List ℕ → List ℕ → Mac → List ℕ → List ℕ → List ℕ
+flightWith secret server client mac hello ours = padTo 84 (flightOf secret server client mac hello ours)
 
 -- what the keys are made of after a new reply
 abbrev pub agreedKeys : Session → List ℕ → List ℕ → Plan → Keys
@@ -94,7 +77,7 @@ agreedKeys session random m plan =
 
 -- The handshake after a new reply: Replied, the randoms, MAC kind, refresh and expected Finished of these hellos, the
 -- hello and the reply kept. "After each new reply our data and protected alerts count on from 1, clear alerts from 2."
--- Its three records are added to those that we sent. A new reply leaves the window alone.
+-- A new reply leaves the window alone.
 unfoldable pub answeredWith : Handshake → List ℕ → List ℕ → Plan → Handshake
 answeredWith h random m plan =
     let reply = replyTo (planted h) random m plan in
@@ -103,8 +86,6 @@ answeredWith h random m plan =
       id = h .id;
       expected = expectedOf (planted h) random m plan;
       kept = record { hello = padTo 256 m; heard = length m; reply = padTo 84 reply; size = length reply };
-      sent = withReply (h .sent) (sumOf (helloRecord (ourHello (planted h) random plan))) (sumOf changeRecord)
-          (sumOf (lastOf (planted h) random m plan));
       protection = record {
         keys = agreedKeys (planted h) random m plan;
         window = h .protection .window;

@@ -22,14 +22,16 @@ use Rattle.message.specs.declared.alert.Graded.{Graded}
 use Rattle.message.specs.declared.alert.Graded.the-variants as G
 use Rattle.message.specs.declared.alert.Sorted.{Sorted}
 use Rattle.message.specs.declared.alert.Sorted.the-variants as D
-use Rattle.connection.specs.Handshake.{withSent}
-use Rattle.connection.specs.Sent.{sumOf}
+use Rattle.connection.specs.Handshake.{withProtection}
+use Rattle.connection.specs.Sent.{sumOf, withRecord}
+use Rattle.connection.specs.Connection.{connectionOf}
 use Rattle.connection.specs.declared.state.State.{State}
 use Rattle.connection.specs.declared.state.State.the-variants as S
 use Rattle.connection.specs.declared.refusal.Refusal.{Refusal}
 use Rattle.connection.specs.declared.refusal.Refusal.the-variants.{Room, Ended, NotAllowed, Spent, Argument}
+use Rattle.connection.specs.declared.sent.SentRecords.{SentRecords}
 use Rattle.connection.specs.declared.handshake.Handshake.{Handshake}
-use Rattle.connection.specs.declared.calls.Connection.{Connection}
+use Rattle.connection.specs.declared.connection.Connection.{Connection}
 use Rattle.connection.specs.declared.calls.Outcome.{Outcome}
 use Rattle.connection.specs.declared.calls.Outcome.the-variants.{Done, Refused}
 use Rattle.connection.specs.declared.send.Sent.{Sent}
@@ -48,13 +50,13 @@ mayData S.Open = Done
 mayData S.Closed = Refused Ended
 mayData S.Barred = Refused Ended
 
-abbrev pub maySeal : State → Outcome
-maySeal S.Idle = Refused NotAllowed
-maySeal S.Replied = Done
-maySeal S.Spec = Done
-maySeal S.Open = Done
-maySeal S.Closed = Refused Ended
-maySeal S.Barred = Refused Ended
+abbrev pub mayProtect : State → Outcome
+mayProtect S.Idle = Refused NotAllowed
+mayProtect S.Replied = Done
+mayProtect S.Spec = Done
+mayProtect S.Open = Done
+mayProtect S.Closed = Refused Ended
+mayProtect S.Barred = Refused Ended
 
 abbrev pub mayClear : State → Outcome
 mayClear S.Idle = Refused NotAllowed
@@ -84,12 +86,12 @@ alertRefused may lent number code room =
 abbrev pub unsent : Connection → Refusal → Sent
 unsent c refusal = record { outcome = Refused refusal; written = 0; connection = c }
 
-abbrev pub doneWith : ℕ → Handshake → Sent
-doneWith written h = record { outcome = Done; written = written; connection = record { handshake = h } }
+abbrev pub doneWith : ℕ → Connection → Sent
+doneWith written c = record { outcome = Done; written = written; connection = c }
 
 -- "A success writes the counted bytes at the front"
-abbrev pub done : List ℕ → Handshake → Sent
-done bytes h = doneWith (length bytes) h
+abbrev pub done : List ℕ → Connection → Sent
+done bytes c = doneWith (length bytes) c
 
 -- the next record of ours: protected, with the key of its own number; or clear. Each "as a datagram of one record without a
 -- length".
@@ -104,14 +106,46 @@ nextClear h body = recordOf false false C.Alert (h .protection .clear) body
 abbrev pub clearOn : Protection → Protection
 clearOn p = record { keys = p .keys; window = p .window; protected = p .protected; clear = p .clear + 1 }
 
--- Sending "changes only our number and our last sent record": it is added to those that we sent.
-abbrev pub afterProtected : Handshake → List ℕ → Handshake
-afterProtected h bytes =
-    withSent h (countedOn (h .protection)) (sumOf bytes)
+-- Sending "changes only our number and our last sent record": one number more of the handshake that sends, ..
+abbrev pub afterProtected : Handshake → Handshake
+afterProtected h = withProtection h (countedOn (h .protection))
 
-abbrev pub afterClear : Handshake → List ℕ → Handshake
-afterClear h bytes =
-    withSent h (clearOn (h .protection)) (sumOf bytes)
+abbrev pub afterClear : Handshake → Handshake
+afterClear h = withProtection h (clearOn (h .protection))
+
+abbrev pub afterAlert : Bool → Handshake → Handshake
+afterAlert true h = afterProtected h
+afterAlert false h = afterClear h
+
+-- "Data and protected alerts go out on the open one, clear alerts on the started one, each by its own sending numbers" (02, "A unit
+-- that rebooted"): the handshake that sends a protected record, or a clear one; and the connection with another in its place
+abbrev pub clearSender : Connection → State → Handshake
+clearSender c S.Idle = c .handshake
+clearSender c S.Replied = c .handshake
+clearSender c S.Spec = c .handshake
+clearSender c S.Open = c .started
+clearSender c S.Closed = c .handshake
+clearSender c S.Barred = c .handshake
+
+abbrev pub senderOf : Bool → Connection → Handshake
+senderOf true c = c .handshake
+senderOf false c = clearSender c (c .handshake .state)
+
+abbrev pub clearBack : Connection → Handshake → SentRecords → State → Connection
+clearBack c h sent S.Idle = connectionOf h (c .started) sent
+clearBack c h sent S.Replied = connectionOf h (c .started) sent
+clearBack c h sent S.Spec = connectionOf h (c .started) sent
+clearBack c h sent S.Open = connectionOf (c .handshake) h sent
+clearBack c h sent S.Closed = connectionOf h (c .started) sent
+clearBack c h sent S.Barred = connectionOf h (c .started) sent
+
+abbrev pub putBack : Bool → Connection → Handshake → SentRecords → Connection
+putBack true c h sent = connectionOf h (c .started) sent
+putBack false c h sent = clearBack c h sent (c .handshake .state)
+
+-- .. and the record is added to those that we sent
+abbrev pub afterSend : Bool → Connection → List ℕ → Connection
+afterSend protected c bytes = putBack protected c (afterAlert protected (senderOf protected c)) (withRecord (c .sent) (sumOf bytes))
 
 -- a send that is refused, or its outcome; and what the output then holds
 abbrev pub sentTo : Connection → Sent → Outcome → Sent
@@ -129,7 +163,7 @@ dataOutcome h size room = dataRefused (h .state) size (h .protection .protected)
 unfoldable pub dataSent : Connection → List ℕ → ℕ → Sent
 dataSent c bytes room =
     let next = nextProtected (c .handshake) C.Data bytes in
-    sentTo c (done next (afterProtected (c .handshake) next)) (dataOutcome (c .handshake) (length bytes) room)
+    sentTo c (done next (afterSend true c next)) (dataOutcome (c .handshake) (length bytes) room)
 
 unfoldable pub dataOutput : Connection → List ℕ → List ℕ → List ℕ
 dataOutput c bytes out =
@@ -140,38 +174,34 @@ abbrev pub alertBody : Level → Description → List ℕ → List ℕ
 alertBody level description answered = alertBytes level description (wordAt (checksumOf answered) 0)
 
 abbrev pub alertOutcome : Bool → Handshake → ℕ → ℕ → Outcome
-alertOutcome true h lent room = alertRefused (maySeal (h .state)) lent (h .protection .protected) (sizeOf (h .protection .keys .mac)) room
+alertOutcome true h lent room = alertRefused (mayProtect (h .state)) lent (h .protection .protected) (sizeOf (h .protection .keys .mac)) room
 alertOutcome false h lent room = alertRefused (mayClear (h .state)) lent (h .protection .clear) 0 room
 
 abbrev pub nextAlert : Bool → Handshake → List ℕ → List ℕ
 nextAlert true h body = nextProtected h C.Alert body
 nextAlert false h body = nextClear h body
 
-abbrev pub afterAlert : Bool → Handshake → List ℕ → Handshake
-afterAlert true h bytes = afterProtected h bytes
-afterAlert false h bytes = afterClear h bytes
-
 -- 16: "level or description unknown"
 abbrev pub alertSentAs : Connection → Bool → List ℕ → ℕ → Graded → Sorted → Sent
-alertSentAs c sealed answered room (G.Is level) (D.Assigned description) =
-    let next = nextAlert sealed (c .handshake) (alertBody level description answered) in
-    sentTo c (done next (afterAlert sealed (c .handshake) next)) (alertOutcome sealed (c .handshake) (length answered) room)
-alertSentAs c sealed answered room (G.Is level) D.Unassigned = unsent c Argument
-alertSentAs c sealed answered room G.Unassigned (D.Assigned description) = unsent c Argument
-alertSentAs c sealed answered room G.Unassigned D.Unassigned = unsent c Argument
+alertSentAs c protected answered room (G.Is level) (D.Assigned description) =
+    let next = nextAlert protected (senderOf protected c) (alertBody level description answered) in
+    sentTo c (done next (afterSend protected c next)) (alertOutcome protected (senderOf protected c) (length answered) room)
+alertSentAs c protected answered room (G.Is level) D.Unassigned = unsent c Argument
+alertSentAs c protected answered room G.Unassigned (D.Assigned description) = unsent c Argument
+alertSentAs c protected answered room G.Unassigned D.Unassigned = unsent c Argument
 
 unfoldable pub alertSent : Connection → Bool → ℕ → ℕ → List ℕ → ℕ → Sent
-alertSent c sealed level description answered room =
-    alertSentAs c sealed answered room (levelOf level) (sortedOf description)
+alertSent c protected level description answered room =
+    alertSentAs c protected answered room (levelOf level) (sortedOf description)
 
 abbrev pub alertOutputAs : Connection → Bool → List ℕ → List ℕ → Graded → Sorted → List ℕ
-alertOutputAs c sealed answered out (G.Is level) (D.Assigned description) =
-    outputTo out (nextAlert sealed (c .handshake) (alertBody level description answered))
-    (alertOutcome sealed (c .handshake) (length answered) (length out))
-alertOutputAs c sealed answered out (G.Is level) D.Unassigned = out
-alertOutputAs c sealed answered out G.Unassigned (D.Assigned description) = out
-alertOutputAs c sealed answered out G.Unassigned D.Unassigned = out
+alertOutputAs c protected answered out (G.Is level) (D.Assigned description) =
+    outputTo out (nextAlert protected (senderOf protected c) (alertBody level description answered))
+    (alertOutcome protected (senderOf protected c) (length answered) (length out))
+alertOutputAs c protected answered out (G.Is level) D.Unassigned = out
+alertOutputAs c protected answered out G.Unassigned (D.Assigned description) = out
+alertOutputAs c protected answered out G.Unassigned D.Unassigned = out
 
 unfoldable pub alertOutput : Connection → Bool → ℕ → ℕ → List ℕ → List ℕ → List ℕ
-alertOutput c sealed level description answered out =
-    alertOutputAs c sealed answered out (levelOf level) (sortedOf description)
+alertOutput c protected level description answered out =
+    alertOutputAs c protected answered out (levelOf level) (sortedOf description)

@@ -9,7 +9,7 @@ use Rattle.connection.specs.declared.answer.Answer.{Answer}
 use Rattle.connection.specs.declared.answer.Answer.the-variants.{Nothing, Reply, Resent, Spec, Open, Again, Data, Warning, Critical, Fatal, Barred, Refused}
 use Rattle.connection.specs.declared.answer.Slot.{Slot}
 use Rattle.connection.specs.declared.refusal.Refusal.{Refusal}
-use Rattle.connection.specs.declared.refusal.Refusal.the-variants.{Framing, Room, Ended, NotAllowed, Forged, TooOld, Repeated, Malformed, Unacceptable, Checksum, Spent, Argument, WrongFinished, HelloWhileOpen}
+use Rattle.connection.specs.declared.refusal.Refusal.the-variants.{Framing, Room, Ended, NotAllowed, Forged, TooOld, Repeated, Malformed, Unacceptable, Checksum, Spent, Argument, WrongFinished}
 use Rattle.connection.specs.declared.tally.Tally.{Tally}
 
 abbrev pub freshTally : Tally
@@ -33,7 +33,6 @@ countedRefusal t Checksum = t
 countedRefusal t Spent = t
 countedRefusal t Argument = t
 countedRefusal t WrongFinished = t
-countedRefusal t HelloWhileOpen = t
 
 abbrev pub countedAnswer : Tally → Answer → Tally
 countedAnswer t Nothing = t

@@ -1,19 +1,17 @@
-// A connection, and the calls that take no datagram and send none: fresh, close, start again (01).
+// The calls that take no datagram and send none: fresh, close, start again (01).
 ghost use mathlib.Core.Path.{_≡_};
 ghost use Rattle.connection.specs.Calls.{freshOf, closedOf, startedOf, leaving, sessionOf, outcomeNumber};
 ghost use lib.ListN.{length};
-use crate::handshake::Handshake;
+ghost use Rattle.connection.specs.Connection.{ended};
+use crate::connection::Connection;
+use crate::connection::alone;
 use crate::handshake::Session;
 use crate::handshake::blank;
 use crate::handshake::made;
+use crate::handshake::none_started;
 use crate::refusal::Refusal;
 use crate::refusal::number;
 use crate::state::State;
-
-// One connection with a unit. Today it is one handshake.
-pub struct Connection {
-    pub handshake: Handshake,
-}
 
 pub enum Outcome {
     Done,
@@ -32,20 +30,20 @@ pub fn fresh(id: &[u8], secret: &[u8], width: u32) -> Called
     ensures { λ r. ⌜ r ≡ freshOf (now (id .entry)) (now (secret .entry)) width ⌝ }
 {
     if id.len() != 8 {
-        return leave(Outcome::Refused(Refusal::Argument), blank());
+        return leave(Outcome::Refused(Refusal::Argument), alone(blank()));
     }
     if secret.len() != 20 {
-        return leave(Outcome::Refused(Refusal::Argument), blank());
+        return leave(Outcome::Refused(Refusal::Argument), alone(blank()));
     }
     if width < 32 {
-        return leave(Outcome::Refused(Refusal::Argument), blank());
+        return leave(Outcome::Refused(Refusal::Argument), alone(blank()));
     }
     if 64 < width {
-        return leave(Outcome::Refused(Refusal::Argument), blank());
+        return leave(Outcome::Refused(Refusal::Argument), alone(blank()));
     }
     leave(
         Outcome::Done,
-        made(planted(id, secret), width as u8, State::Idle),
+        alone(made(planted(id, secret), width as u8, State::Idle)),
     )
 }
 
@@ -56,12 +54,12 @@ pub fn close(c: Connection) -> Called
     let h = c.handshake;
     let state = h.state;
     match state {
-        State::Barred => leave(Outcome::Refused(Refusal::Ended), h),
-        State::Idle => leave(Outcome::Done, h.with_state(State::Closed)),
-        State::Replied => leave(Outcome::Done, h.with_state(State::Closed)),
-        State::Spec => leave(Outcome::Done, h.with_state(State::Closed)),
-        State::Open => leave(Outcome::Done, h.with_state(State::Closed)),
-        State::Closed => leave(Outcome::Done, h.with_state(State::Closed)),
+        State::Barred => leave(Outcome::Refused(Refusal::Ended), c),
+        State::Idle => leave(Outcome::Done, ended(c)),
+        State::Replied => leave(Outcome::Done, ended(c)),
+        State::Spec => leave(Outcome::Done, ended(c)),
+        State::Open => leave(Outcome::Done, ended(c)),
+        State::Closed => leave(Outcome::Done, ended(c)),
     }
 }
 
@@ -72,12 +70,12 @@ pub fn start(c: Connection) -> Called
     let h = c.handshake;
     let state = h.state;
     match state {
-        State::Barred => leave(Outcome::Refused(Refusal::Ended), h),
-        State::Idle => leave(Outcome::Refused(Refusal::NotAllowed), h),
-        State::Replied => leave(Outcome::Refused(Refusal::NotAllowed), h),
-        State::Spec => leave(Outcome::Refused(Refusal::NotAllowed), h),
-        State::Open => leave(Outcome::Refused(Refusal::NotAllowed), h),
-        State::Closed => leave(Outcome::Done, h.reopened()),
+        State::Barred => leave(Outcome::Refused(Refusal::Ended), c),
+        State::Idle => leave(Outcome::Refused(Refusal::NotAllowed), c),
+        State::Replied => leave(Outcome::Refused(Refusal::NotAllowed), c),
+        State::Spec => leave(Outcome::Refused(Refusal::NotAllowed), c),
+        State::Open => leave(Outcome::Refused(Refusal::NotAllowed), c),
+        State::Closed => leave(Outcome::Done, alone(h.reopened())),
     }
 }
 
@@ -91,14 +89,24 @@ pub fn refused(outcome: Outcome) -> u8
     }
 }
 
-fn leave(outcome: Outcome, handshake: Handshake) -> Called
-    ensures { λ r. ⌜ r ≡ leaving outcome handshake ⌝ }
+fn leave(outcome: Outcome, connection: Connection) -> Called
+    ensures { λ r. ⌜ r ≡ leaving outcome connection ⌝ }
 {
-    let connection = Connection { handshake };
     Called {
         outcome,
         connection,
     }
+}
+
+// Closed, and no handshake beside it.
+fn ended(c: Connection) -> Connection
+    ensures { λ r. ⌜ r ≡ ended c ⌝ }
+{
+    let h = c.handshake;
+    let mut k = c;
+    k.handshake = h.with_state(State::Closed);
+    k.started = none_started();
+    k
 }
 
 // The session of an identifier and a secret.

@@ -1,9 +1,7 @@
-// One handshake: its session, the Finished that it expects, the hello and the reply that are kept, the records that we
-// sent, and its protection. A connection has one. Every value of these structs is safe to pass in: no length or number in
-// them is trusted.
+// One handshake: its session, the Finished that it expects, the hello and the reply that are kept, and its protection.
+// Every value of these structs is safe to pass in: no length or number in them is trusted.
 ghost use mathlib.Core.Path.{_≡_};
-ghost use Rattle.connection.specs.Handshake.{withState, withProtection, withSent, barred, reopened, blankHandshake, newHandshake, noSession, nothingKept, unkeyed, newProtection};
-use crate::sent::SentRecords;
+ghost use Rattle.connection.specs.Handshake.{withState, withProtection, barred, reopened, blankHandshake, noneStarted, newcomerTo, newHandshake, noSession, nothingKept, unkeyed, newProtection};
 use crate::state::State;
 use digest::Mac;
 use record::keys::Keys;
@@ -32,8 +30,6 @@ pub struct Handshake {
     // the contents that the unit's Finished must have
     pub expected: [u8; 12],
     pub kept: Kept,
-    // the records that we sent since the last start
-    pub sent: SentRecords,
     pub protection: Protection,
 }
 
@@ -45,14 +41,12 @@ impl Handshake {
         let id = self.id;
         let expected = self.expected;
         let kept = self.kept;
-        let sent = self.sent;
         let protection = self.protection;
         Handshake {
             state,
             id,
             expected,
             kept,
-            sent,
             protection,
         }
     }
@@ -66,18 +60,7 @@ impl Handshake {
         h
     }
 
-    // The handshake after a record was sent.
-    pub fn with_sent(self, protection: Protection, checksum: u32) -> Handshake
-        ensures { λ r. ⌜ r ≡ withSent self protection checksum ⌝ }
-    {
-        let sent = self.sent;
-        let mut h = self;
-        h.protection = protection;
-        h.sent = sent.with_record(checksum);
-        h
-    }
-
-    // Start again: Idle, with no window, no kept hello and no records sent.
+    // Start again: Idle, with no window and no kept hello.
     pub fn reopened(self) -> Handshake
         ensures { λ r. ⌜ r ≡ reopened self ⌝ }
     {
@@ -90,7 +73,6 @@ impl Handshake {
             id,
             expected,
             kept: nothing_kept(),
-            sent: SentRecords::fresh(),
             protection: protection.with_window(window.emptied()),
         }
     }
@@ -100,14 +82,12 @@ impl Handshake {
     pub fn barred(self) -> Handshake
         ensures { λ r. ⌜ r ≡ barred self ⌝ }
     {
-        let sent = self.sent;
         let protection = self.protection;
         Handshake {
             state: State::Barred,
             id: [0; 8],
             expected: [0; 12],
             kept: nothing_kept(),
-            sent,
             protection: unkeyed(protection),
         }
     }
@@ -118,6 +98,25 @@ pub fn blank() -> Handshake
     ensures { λ r. ⌜ r ≡ blankHandshake ⌝ }
 {
     made(no_session(), WIDTH, State::Barred)
+}
+
+// What stands in the place of a started handshake where there is none.
+pub fn none_started() -> Handshake
+    ensures { λ r. ⌜ r ≡ noneStarted ⌝ }
+{
+    made(no_session(), WIDTH, State::Idle)
+}
+
+// A handshake beside h in which nothing has happened: of the same session, with a window of the same width.
+pub fn newcomer(h: Handshake) -> Handshake
+    ensures { λ r. ⌜ r ≡ newcomerTo h ⌝ }
+{
+    let id = h.id;
+    let protection = h.protection;
+    let keys = protection.keys;
+    let secret = keys.secret;
+    let window = protection.window;
+    made(Session { id, secret }, window.width, State::Idle)
 }
 
 // A handshake of a session in which nothing has happened, with a window of this width.
@@ -131,7 +130,6 @@ pub fn made(session: Session, width: u8, state: State) -> Handshake
         id,
         expected: [0; 12],
         kept: nothing_kept(),
-        sent: SentRecords::fresh(),
         protection: new_protection(secret, width),
     }
 }

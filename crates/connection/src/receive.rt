@@ -5,16 +5,17 @@ ghost use lib.ListN.{length, take};
 ghost use Rattle.connection.specs.Receive.{receivedOf, outputOf, takenNumber, takenAt, wholeOf, runOf, firstReply, sentOfKept};
 ghost use Rattle.digest.specs.Bytes.{laidOver};
 ghost use Rattle.connection.specs.Tally.{countedOf};
+ghost use Rattle.connection.specs.Told.{keptBy};
 ghost use Rattle.record.specs.Datagram.{walkOf};
 use crate::answer::Answer;
 use crate::answer::Slot;
 use crate::answer::reply_size;
-use crate::calls::Connection;
+use crate::connection::Connection;
 use crate::handshake::Kept;
-use crate::judge::judge;
 use crate::refusal::Refusal;
 use crate::refusal::number;
 use crate::tally::Tally;
+use crate::told::tell;
 use record::datagram::Outcome;
 use record::datagram::Walk;
 use record::datagram::walked;
@@ -124,17 +125,15 @@ fn whole(c: Connection, taken: Taken) -> Received
 // alone, and its bytes are written as that record left them.
 fn each(c: Connection, d: &[u8], ours: [u8; 16], walk: Walk, out: &mut [u8]) -> Received
     requires { ⌜ (length ours ≡ 16) × ((walk ≡ walkOf (now d)) × ((0 < walk .count) × (128 ≤ length (now out)))) ⌝ }
-    ensures { λ r. ⌜ r ≡ runOf (c .handshake) ours (now (d .entry)) (take (walk .count) (walk .records)) ⌝ }
-    ensures { λ _. ⌜ now (out .exit) ≡ laidOver (now (out .entry)) 0 (firstReply (c .handshake) ours (now (d .entry)) (take (walk .count) (walk .records))) ⌝ }
+    ensures { λ r. ⌜ r ≡ runOf c ours (now (d .entry)) (take (walk .count) (walk .records)) ⌝ }
+    ensures { λ _. ⌜ now (out .exit) ≡ laidOver (now (out .entry)) 0 (firstReply c ours (now (d .entry)) (take (walk .count) (walk .records))) ⌝ }
 {
-    let h = c.handshake;
     let records = walk.records;
     let count = walk.count;
-    let first = judge(h, ours, d, records[0]);
+    let first = tell(c, ours, d, records[0]);
     let answer = first.answer;
-    let mut left = first.handshake;
-    let kept = left.kept;
-    let written = put_reply(kept, answer, out);
+    let mut left = first.connection;
+    let written = put_reply(kept_by(first.beside, left), answer, out);
     let nothing = Slot {
         answer: Answer::Nothing,
     };
@@ -142,19 +141,30 @@ fn each(c: Connection, d: &[u8], ours: [u8; 16], walk: Walk, out: &mut [u8]) -> 
     answers[0] = Slot { answer };
     let mut i: usize = 0;
     while i + 1 < count {
-        let next = judge(left, ours, d, records[i + 1]);
+        let next = tell(left, ours, d, records[i + 1]);
         let answer = next.answer;
         answers[i + 1] = Slot { answer };
-        left = next.handshake;
+        left = next.connection;
         i += 1;
     }
-    let connection = Connection { handshake: left };
     Received {
         taken: Taken::Records(count),
         answers,
         written,
-        connection,
+        connection: left,
     }
+}
+
+// The kept reply of whoever answered.
+fn kept_by(beside: bool, c: Connection) -> Kept
+    ensures { λ r. ⌜ r ≡ keptBy beside c ⌝ }
+{
+    if beside {
+        let started = c.started;
+        return started.kept;
+    }
+    let h = c.handshake;
+    h.kept
 }
 
 // Writes what an answer sends of the kept reply, and answers how many bytes that is.

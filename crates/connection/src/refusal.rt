@@ -1,4 +1,5 @@
-// The refusals of 01, each under a name of its own.
+// The refusals of 01, each under a name of its own. 18 is not given any more (02, "A unit that rebooted"); the number stays
+// reserved.
 ghost use mathlib.Core.Path.{_≡_};
 ghost use Rattle.connection.specs.Refusal.{refusalNumber};
 use record::reader::Fault;
@@ -30,8 +31,6 @@ pub enum Refusal {
     Argument,
     // 17: genuine Finished with wrong contents
     WrongFinished,
-    // 18: clear ClientHello while Open
-    HelloWhileOpen,
 }
 
 // The number of a refusal in 01's list.
@@ -52,6 +51,5 @@ pub fn number(refusal: Refusal) -> u8
         Refusal::Spent => 15,
         Refusal::Argument => 16,
         Refusal::WrongFinished => 17,
-        Refusal::HelloWhileOpen => 18,
     }
 }

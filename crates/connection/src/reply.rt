@@ -2,7 +2,8 @@
 ghost use Prim.Native.Nat.{ℕ, _+_, _-_, _≤_};
 ghost use mathlib.Core.Path.{_≡_};
 ghost use lib.ListN.{length, take, drop};
-ghost use Rattle.connection.specs.Reply.{answeredWith, clientRandom, flightWith, joinedOf, padTo};
+ghost use mathlib.Core.List.{_++_};
+ghost use Rattle.connection.specs.Reply.{answeredWith, clientRandom, flightWith, padTo};
 ghost use Rattle.message.specs.Server.{serverHelloOf};
 use crate::handshake::Handshake;
 use crate::handshake::Kept;
@@ -12,21 +13,12 @@ use message::acceptance::Plan;
 use message::change::change;
 use message::finished;
 use message::server;
-use record::checksum::checksum;
 use record::code::write_protected;
 use record::header::Content;
 use record::keys::Keys;
 use record::keys::derived;
 use record::protection::Protection;
 use record::written::write_clear;
-
-// The bytes of a reply, and the checksums of its three records.
-pub struct Flight {
-    pub reply: [u8; 84],
-    pub hello: u32,
-    pub change: u32,
-    pub finished: u32,
-}
 
 // The handshake after a new reply to the hello m: `random` is ours. The window stays as it was.
 pub(crate) fn answered(h: Handshake, random: [u8; 16], m: &[u8], plan: Plan) -> Handshake
@@ -42,9 +34,7 @@ pub(crate) fn answered(h: Handshake, random: [u8; 16], m: &[u8], plan: Plan) -> 
     let hello = server_hello(random, id, plan);
     let ours = finished::message(finished::server_verify(&secret, m, &hello));
     let expected = finished::client_verify(&secret, m, &hello, &ours);
-    let flight = flown(secret, random, client, mac, hello, ours);
-    let reply = flight.reply;
-    let sent = h.sent;
+    let reply = flown(secret, random, client, mac, hello, ours);
     let window = protection.window;
     Handshake {
         state: State::Replied,
@@ -56,7 +46,6 @@ pub(crate) fn answered(h: Handshake, random: [u8; 16], m: &[u8], plan: Plan) -> 
             reply,
             size: 64 + mac.size(),
         },
-        sent: sent.with_reply(flight.hello, flight.change, flight.finished),
         protection: Protection {
             keys: Keys {
                 secret,
@@ -101,7 +90,7 @@ fn server_hello(random: [u8; 16], id: [u8; 8], plan: Plan) -> [u8; 35]
     d
 }
 
-// The three records one behind the other, zeros behind them, and their checksums.
+// The three records one behind the other, zeros behind them.
 fn flown(
     secret: [u8; 20],
     server: [u8; 16],
@@ -109,7 +98,7 @@ fn flown(
     mac: Mac,
     hello: [u8; 35],
     ours: [u8; 15],
-) -> Flight
+) -> [u8; 84]
     requires { ⌜ (length hello ≡ 35) × (length ours ≡ 15) ⌝ }
     ensures { λ r. ⌜ r ≡ flightWith secret server client mac hello ours ⌝ }
 {
@@ -121,26 +110,18 @@ fn flown(
     let mut second = [0u8; 6];
     write_clear(true, Content::ChangeCipherSpec, 1, &one, &mut second);
     let mut third = [0u8; 38];
-    let size = write_protected(key, mac, false, Content::Handshake, 0, &ours, &mut third);
-    joined(first, second, third, size)
+    write_protected(key, mac, false, Content::Handshake, 0, &ours, &mut third);
+    joined(first, second, third)
 }
 
-// The records joined, and their checksums; the last one has `size` bytes.
-fn joined(first: [u8; 40], second: [u8; 6], third: [u8; 38], size: usize) -> Flight
-    requires { ⌜ (length first ≡ 40) × ((length second ≡ 6) × ((length third ≡ 38) × (size ≤ 38))) ⌝ }
-    ensures { λ r. ⌜ r ≡ joinedOf first second third size ⌝ }
+// The records joined.
+fn joined(first: [u8; 40], second: [u8; 6], third: [u8; 38]) -> [u8; 84]
+    requires { ⌜ (length first ≡ 40) × ((length second ≡ 6) × (length third ≡ 38)) ⌝ }
+    ensures { λ r. ⌜ r ≡ first ++ (second ++ third) ⌝ }
 {
-    let hello = checksum(&first);
-    let change = checksum(&second);
-    let finished = checksum(&third[..size]);
     let mut reply = [0u8; 84];
     digest::put(&mut reply, 0, &first);
     digest::put(&mut reply, 40, &second);
     digest::put(&mut reply, 46, &third);
-    Flight {
-        reply,
-        hello,
-        change,
-        finished,
-    }
+    reply
 }

@@ -1,13 +1,15 @@
 // Send data and send an alert (01): each as a datagram of one record without a length.
 ghost use Prim.Native.Nat.{ℕ, _+_, _≤_, _<_};
 ghost use mathlib.Core.Path.{_≡_};
+ghost use mathlib.Core.Bool.{true, false};
 ghost use lib.ListN.{length};
-ghost use Rattle.connection.specs.Send.{dataRefused, alertRefused, numberedBy, dataSent, dataOutput, alertSent, alertOutput, mayData, maySeal, mayClear, unsent, done, doneWith, nextProtected, nextClear, afterProtected, afterClear};
+ghost use Rattle.connection.specs.Send.{dataRefused, alertRefused, numberedBy, dataSent, dataOutput, alertSent, alertOutput, mayData, mayProtect, mayClear, unsent, done, doneWith, nextProtected, nextClear, afterProtected, afterClear, senderOf, clearSender, clearBack, afterSend};
 ghost use Rattle.digest.specs.Bytes.{laidOver};
-use crate::calls::Connection;
 use crate::calls::Outcome;
+use crate::connection::Connection;
 use crate::handshake::Handshake;
 use crate::refusal::Refusal;
+use crate::sent::SentRecords;
 use crate::state::State;
 use message::alert;
 use message::alert::Graded;
@@ -42,7 +44,7 @@ pub fn send_data(c: Connection, data: &[u8], out: &mut [u8]) -> Sent
         out.len(),
     ) {
         Outcome::Refused(refusal) => refused(c, refusal),
-        Outcome::Done => protected(h, Content::Data, data, out),
+        Outcome::Done => next_protected(c, Content::Data, data, out),
     }
 }
 
@@ -50,14 +52,14 @@ pub fn send_data(c: Connection, data: &[u8], out: &mut [u8]) -> Sent
 // a call of its own.
 pub fn send_alert(
     c: Connection,
-    sealed: bool,
+    protected: bool,
     level: u8,
     description: u8,
     answered: &[u8],
     out: &mut [u8],
 ) -> Sent
-    ensures exact { λ r. ⌜ r ≡ alertSent c sealed level description (now (answered .entry)) (length (now (out .entry))) ⌝ }
-    ensures bytes { λ _. ⌜ now (out .exit) ≡ alertOutput c sealed level description (now (answered .entry)) (now (out .entry)) ⌝ }
+    ensures exact { λ r. ⌜ r ≡ alertSent c protected level description (now (answered .entry)) (length (now (out .entry))) ⌝ }
+    ensures bytes { λ _. ⌜ now (out .exit) ≡ alertOutput c protected level description (now (answered .entry)) (now (out .entry)) ⌝ }
 {
     let Graded::Is(graded) = alert::grade(level) else {
         return refused(c, Refusal::Argument);
@@ -65,14 +67,14 @@ pub fn send_alert(
     let Sorted::Assigned(sorted) = alert::sort(description) else {
         return refused(c, Refusal::Argument);
     };
-    let h = c.handshake;
-    let state = h.state;
-    let protection = h.protection;
-    let keys = protection.keys;
-    let mac = keys.mac;
-    if sealed {
+    if protected {
+        let h = c.handshake;
+        let state = h.state;
+        let protection = h.protection;
+        let keys = protection.keys;
+        let mac = keys.mac;
         return match alert_refusal(
-            may_seal(state),
+            may_protect(state),
             answered.len(),
             protection.protected,
             mac.size(),
@@ -81,10 +83,13 @@ pub fn send_alert(
             Outcome::Refused(refusal) => refused(c, refusal),
             Outcome::Done => {
                 let bytes = alert::write(graded, sorted, checksum(answered));
-                protected(h, Content::Alert, &bytes, out)
+                next_protected(c, Content::Alert, &bytes, out)
             }
         };
     }
+    let h = clear_sender(c);
+    let state = h.state;
+    let protection = h.protection;
     match alert_refusal(
         may_clear(state),
         answered.len(),
@@ -95,7 +100,7 @@ pub fn send_alert(
         Outcome::Refused(refusal) => refused(c, refusal),
         Outcome::Done => {
             let bytes = alert::write(graded, sorted, checksum(answered));
-            clear(h, &bytes, out)
+            next_clear(c, &bytes, out)
         }
     }
 }
@@ -159,8 +164,8 @@ fn may_data(state: State) -> Outcome
 }
 
 // Protected alerts are sent in Replied, Spec and Open.
-fn may_seal(state: State) -> Outcome
-    ensures { λ r. ⌜ r ≡ maySeal state ⌝ }
+fn may_protect(state: State) -> Outcome
+    ensures { λ r. ⌜ r ≡ mayProtect state ⌝ }
 {
     match state {
         State::Idle => Outcome::Refused(Refusal::NotAllowed),
@@ -197,39 +202,100 @@ fn refused(c: Connection, refusal: Refusal) -> Sent
     }
 }
 
-// The next protected record, with this content.
-fn protected(h: Handshake, content: Content, body: &[u8], out: &mut [u8]) -> Sent
-    requires { ⌜ (h .protection .protected ≤ 65535) × (length (nextProtected h content (now body)) ≤ length (now out)) ⌝ }
-    ensures { λ r. ⌜ r ≡ done (nextProtected h content (now (body .entry))) (afterProtected h (nextProtected h content (now (body .entry)))) ⌝ }
-    ensures { λ _. ⌜ now (out .exit) ≡ laidOver (now (out .entry)) 0 (nextProtected h content (now (body .entry))) ⌝ }
+// The next protected record, with this content: the open handshake's, or the only one's.
+fn next_protected(c: Connection, content: Content, body: &[u8], out: &mut [u8]) -> Sent
+    requires { ⌜ (c .handshake .protection .protected ≤ 65535) × (length (nextProtected (c .handshake) content (now body)) ≤ length (now out)) ⌝ }
+    ensures { λ r. ⌜ r ≡ done (nextProtected (c .handshake) content (now (body .entry))) (afterSend true c (nextProtected (c .handshake) content (now (body .entry)))) ⌝ }
+    ensures { λ _. ⌜ now (out .exit) ≡ laidOver (now (out .entry)) 0 (nextProtected (c .handshake) content (now (body .entry))) ⌝ }
 {
+    let h = c.handshake;
     let protection = h.protection;
     let writing = protection.write(Sense::FromShore, content, body, out);
     let wrote = writing.wrote;
     let size = wrote.size();
     let last = checksum(&out[..size]);
-    finish(h.with_sent(writing.protection, last), size)
+    let sent = c.sent;
+    let mut k = c;
+    k.handshake = h.with_protection(writing.protection);
+    k.sent = sent.with_record(last);
+    finish(k, size)
 }
 
-// The next clear record, an alert.
-fn clear(h: Handshake, body: &[u8], out: &mut [u8]) -> Sent
-    requires { ⌜ (h .protection .clear ≤ 65535) × (length (nextClear h (now body)) ≤ length (now out)) ⌝ }
-    ensures { λ r. ⌜ r ≡ done (nextClear h (now (body .entry))) (afterClear h (nextClear h (now (body .entry)))) ⌝ }
-    ensures { λ _. ⌜ now (out .exit) ≡ laidOver (now (out .entry)) 0 (nextClear h (now (body .entry))) ⌝ }
+// The next clear record, an alert: the started handshake's in Open, or the only one's.
+fn next_clear(c: Connection, body: &[u8], out: &mut [u8]) -> Sent
+    requires { ⌜ (senderOf false c .protection .clear ≤ 65535) × (length (nextClear (senderOf false c) (now body)) ≤ length (now out)) ⌝ }
+    ensures { λ r. ⌜ r ≡ done (nextClear (senderOf false c) (now (body .entry))) (afterSend false c (nextClear (senderOf false c) (now (body .entry)))) ⌝ }
+    ensures { λ _. ⌜ now (out .exit) ≡ laidOver (now (out .entry)) 0 (nextClear (senderOf false c) (now (body .entry))) ⌝ }
 {
+    let h = clear_sender(c);
     let mut protection = h.protection;
     let number = protection.clear as u16;
     let size = write_clear(false, Content::Alert, number, body, out);
     let last = checksum(&out[..size]);
     let next = protection.clear + 1;
     protection.clear = next;
-    finish(h.with_sent(protection, last), size)
+    let sent = c.sent;
+    finish(
+        clear_back(c, h.with_protection(protection), sent.with_record(last)),
+        size,
+    )
 }
 
-fn finish(h: Handshake, written: usize) -> Sent
-    ensures { λ r. ⌜ r ≡ doneWith written h ⌝ }
+// The handshake that a clear alert goes out on.
+fn clear_sender(c: Connection) -> Handshake
+    ensures { λ r. ⌜ r ≡ clearSender c (c .handshake .state) ⌝ }
 {
-    let connection = Connection { handshake: h };
+    let h = c.handshake;
+    let state = h.state;
+    match state {
+        State::Idle => h,
+        State::Replied => h,
+        State::Spec => h,
+        State::Open => c.started,
+        State::Closed => h,
+        State::Barred => h,
+    }
+}
+
+// The connection with that one as it is now, and with the records sent.
+fn clear_back(c: Connection, after: Handshake, sent: SentRecords) -> Connection
+    ensures { λ r. ⌜ r ≡ clearBack c after sent (c .handshake .state) ⌝ }
+{
+    let h = c.handshake;
+    let state = h.state;
+    let mut k = c;
+    k.sent = sent;
+    match state {
+        State::Idle => {
+            k.handshake = after;
+            k
+        }
+        State::Replied => {
+            k.handshake = after;
+            k
+        }
+        State::Spec => {
+            k.handshake = after;
+            k
+        }
+        State::Open => {
+            k.started = after;
+            k
+        }
+        State::Closed => {
+            k.handshake = after;
+            k
+        }
+        State::Barred => {
+            k.handshake = after;
+            k
+        }
+    }
+}
+
+fn finish(connection: Connection, written: usize) -> Sent
+    ensures { λ r. ⌜ r ≡ doneWith written connection ⌝ }
+{
     Sent {
         outcome: Outcome::Done,
         written,

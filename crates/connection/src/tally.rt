@@ -83,7 +83,6 @@ impl Tally {
             Refusal::Spent => t,
             Refusal::Argument => t,
             Refusal::WrongFinished => t,
-            Refusal::HelloWhileOpen => t,
         }
     }
 

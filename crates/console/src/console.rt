@@ -1,5 +1,6 @@
 // What the console keeps from line to line.
-use connection::calls::Connection;
+use connection::connection::Connection;
+use connection::connection::alone;
 use connection::handshake::blank;
 use connection::receive::Received;
 use connection::tally::Tally;
@@ -17,7 +18,7 @@ pub struct Console {
 impl Console {
     // No connection yet: what stands in its place is blank.
     pub fn new() -> Console {
-        let connection = Connection { handshake: blank() };
+        let connection = alone(blank());
         Console {
             connected: false,
             connection,

@@ -1,6 +1,7 @@
 // The state line.
 use crate::console::Console;
 use crate::gathering::put_parts;
+use connection::connection::Connection;
 use connection::handshake::Handshake;
 use connection::state::State;
 use connection::tally::Tally;
@@ -9,7 +10,8 @@ use lines::text::put_number;
 use lines::text::put_word;
 use record::window::Window;
 
-// `state NAME n=N marks=M arrived=K sent=P,C checksum=X tally=H,F,O,R parts=REF:HAVE/TOTAL,..`.
+// `state NAME n=N marks=M arrived=K sent=P,C checksum=X tally=H,F,O,R parts=REF:HAVE/TOTAL,..
+// started=-|Replied,P,C|Spec,P,C,N,M`.
 pub fn put_status(console: Console, text: &mut [u8], at: usize) -> usize {
     let connection = console.connection;
     let h = connection.handshake;
@@ -19,12 +21,13 @@ pub fn put_status(console: Console, text: &mut [u8], at: usize) -> usize {
     let tally = console.tally;
     let end = put_name(console.connected, state, text, at);
     let end = put_window(window, text, end);
-    let sent = h.sent;
+    let sent = connection.sent;
     let sums = sent.checksums;
     let end = put_sending(protection.protected, protection.clear, sums, text, end);
     let end = put_tally(tally, text, end);
     let gatherer = console.gatherer;
     let end = put_parts(gatherer, text, end);
+    let end = put_started(connection, text, end);
     put(text, end, b"\n")
 }
 
@@ -92,6 +95,45 @@ fn put_tally(tally: Tally, text: &mut [u8], at: usize) -> usize {
     let end = put_next(tally.forged, text, end);
     let end = put_next(tally.old, text, end);
     put_next(tally.repeated, text, end)
+}
+
+// The handshake that is started beside an open one: its state, its next numbers, and in Spec its window.
+fn put_started(connection: Connection, text: &mut [u8], at: usize) -> usize {
+    let end = put(text, at, b" started=");
+    let h = connection.handshake;
+    let state = h.state;
+    match state {
+        State::Idle => put(text, end, b"-"),
+        State::Replied => put(text, end, b"-"),
+        State::Spec => put(text, end, b"-"),
+        State::Open => put_beside(connection.started, text, end),
+        State::Closed => put(text, end, b"-"),
+        State::Barred => put(text, end, b"-"),
+    }
+}
+
+fn put_beside(h: Handshake, text: &mut [u8], at: usize) -> usize {
+    let protection = h.protection;
+    let window = protection.window;
+    let state = h.state;
+    match state {
+        State::Idle => put(text, at, b"-"),
+        State::Replied => {
+            let end = put(text, at, b"Replied,");
+            put_numbers(protection.protected, protection.clear, text, end)
+        }
+        State::Spec => {
+            let end = put(text, at, b"Spec,");
+            let end = put_numbers(protection.protected, protection.clear, text, end);
+            let end = put(text, end, b",");
+            let end = put_highest(window.highest, window.marks, text, end);
+            let end = put(text, end, b",");
+            put_marks(window.marks, text, end)
+        }
+        State::Open => put(text, at, b"-"),
+        State::Closed => put(text, at, b"-"),
+        State::Barred => put(text, at, b"-"),
+    }
 }
 
 // A number behind another.

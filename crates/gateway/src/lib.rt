@@ -10,7 +10,7 @@ ghost use Rattle.lent.specs.Calls.{dataResult, dataState, dataOut, alertResult,
 ghost use Rattle.lent.specs.Calls.{receiveResult, receiveState, receiveTally, receiveAnswers, receiveOut};
 ghost use Rattle.lent.specs.Macs.{macResult, macOut};
 
-// A fresh connection of a planted session, with a window of this width, 32 to 64, in 490 bytes. Refusal: 16.
+// A fresh connection of a planted session, with a window of this width, 32 to 64, in 940 bytes. Refusal: 16.
 #[no_mangle]
 pub extern "C" fn gateway_fresh(id: &[u8], secret: &[u8], width: u32, state: &mut [u8]) -> u64
     ensures exact { λ r. ⌜ r ≡ freshResult (now (id .entry)) (now (secret .entry)) width (length (now (state .entry))) ⌝ }

@@ -6,6 +6,7 @@ use Prim.Native.Nat.{ℕ, _+_, _≤_}
 use native.Mathlib.Omega.{arith}
 use lib.ListN.{length, take, drop, length-append, drop-of-length-le, take-append-drop}
 use lib.Seq.{length-take-le, drop-append-add, drop-drop}
+use borrow.Rule.Slice.PartMut.{putMid}
 use Rattle.digest.specs.Bytes.{laidOver, laidWithin, bytes8}
 use Rattle.digest.proofs.Lay.{laid-front, length-laid}
 use Rattle.connection.proofs.Filling.{within}
@@ -112,3 +113,10 @@ laid-block {d} {e} {at} {n} {fs} place k gs e' laid p l room made =
       count = ap length all ∙ length-append (joined fs) (joined gs) ∙ ap₂ (λ x y. x + y) (laid .count) l;
       same = ap length made ∙ length-laid e place (joined gs) fits ∙ laid .same;
     }
+
+-- a part that was lent is laid where it stood
+pub part-laid : (d s : List ℕ) (at k : ℕ) → length s ≡ k → putMid at k d s ≡ laidOver d at s
+unfolding laidOver
+part-laid d s at k l =
+    ap (λ x. take at d ++ (s ++ x)) (drop-drop k at d ∙ ap (λ n. drop (at + n) d) (sym l))
+    ∙ sym (append-assoc (take at d) s (drop (at + length s) d))

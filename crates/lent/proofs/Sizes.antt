@@ -5,7 +5,7 @@ use mathlib.Core.Bool.{Bool, true, false}
 use mathlib.Core.List.{List, [], _∷_}
 use Prim.Native.Nat.{ℕ, zero, suc, _+_, _-_, _≤_}
 use native.Mathlib.Omega.{arith}
-use lib.ListN.{length, take, drop, length-drop}
+use lib.ListN.{length, take, drop, length-drop, length-replicate}
 use lib.Dec.{eqb, ltb}
 use borrow.Author.Tests.{eqb-true, ltb-false}
 use Rattle.digest.specs.Pick.{pick}
@@ -18,11 +18,11 @@ use Rattle.record.specs.declared.reader.Fault.the-variants as F
 use Rattle.record.specs.declared.reader.Reading.{Reading}
 use Rattle.record.specs.declared.reader.Reading.the-variants as R
 use Rattle.record.specs.declared.window.Acceptance.{Acceptance}
-use Rattle.record.specs.declared.window.Acceptance.the-variants as A
+use Rattle.record.specs.declared.window.Acceptance.the-variants as N
 use Rattle.record.specs.declared.header.Content.the-variants as C
 use Rattle.record.proofs.Standing.{takes}
 use Rattle.record.proofs.Covering.{covers}
-use Rattle.record.proofs.Sealed.{size-most}
+use Rattle.record.proofs.ProtectedBytes.{size-most}
 use Rattle.message.specs.Acceptance.{heardOf}
 use Rattle.message.specs.Alert.{alertOf, levelOf, sortedOf}
 use Rattle.message.specs.Change.{isChange}
@@ -40,15 +40,18 @@ use Rattle.message.specs.declared.alert.Sorted.{Sorted}
 use Rattle.message.specs.declared.alert.Sorted.the-variants as D
 use Rattle.message.specs.declared.finished.Verified.{Verified}
 use Rattle.message.specs.declared.finished.Verified.the-variants as Fin
-use Rattle.connection.specs.Handshake.{withState, withWindow, planted, wasSent}
+use Rattle.connection.specs.Handshake.{withState, withWindow, planted, nothingKept, newcomerTo}
+use Rattle.connection.specs.Sent.{matchesOf}
+use Rattle.connection.specs.Asked.{whomOf, askedOf}
+use Rattle.connection.specs.Told.{judgedIn, toldRecord, keptBy}
 use Rattle.connection.specs.State.{ruleOf}
 use Rattle.connection.specs.Answer.{replySize, judged, refusing}
-use Rattle.connection.specs.Clear.{heardTo, greetedBy, isKept, keptSize, greetedAgain, changedBy, byLevel, heardBy, heardAlert}
-use Rattle.connection.specs.Sealed.{finishedIn, verifiedTo, verifiedBy, sealedLevel, alertedTo, alertedBy, contentBy, unsealedBy}
-use Rattle.connection.proofs.Unsealing.{windowedTo, genuineIn, contentIn, unsealed-is}
+use Rattle.connection.specs.Clear.{heardTo, greetedBy, isKept, keptSize, greetedAgain, resentBy, changedBy, byLevel, heardBy, heardAlert}
+use Rattle.connection.specs.Protected.{finishedIn, verifiedTo, verifiedBy, protectedLevel, alertedTo, alertedBy, contentBy, openedRecord}
+use Rattle.connection.proofs.OpeningRecords.{windowedTo, genuineIn, contentIn, opened-record-is}
 use Rattle.connection.specs.Judge.{ruledBy, fragmentOf, kindIn, judgedRecord}
 use Rattle.connection.specs.Receive.{receivedOf, framedTo, firstReply, runOf, wholeOf}
-use Rattle.connection.specs.Send.{dataSent, dataOutcome, dataRefused, andThen, mayData, numberedBy, alertSent, alertSentAs, alertOutcome, alertBody, nextAlert, afterAlert, sentTo, done, nextProtected, afterProtected}
+use Rattle.connection.specs.Send.{dataSent, dataOutcome, dataRefused, andThen, mayData, numberedBy, alertSent, alertSentAs, alertOutcome, alertBody, nextAlert, senderOf, afterSend, sentTo, done, nextProtected}
 use Rattle.connection.specs.declared.state.State.{State}
 use Rattle.connection.specs.declared.state.State.the-variants as S
 use Rattle.connection.specs.declared.state.Kind.{Kind}
@@ -59,8 +62,11 @@ use Rattle.connection.specs.declared.refusal.Refusal.{Refusal}
 use Rattle.connection.specs.declared.refusal.Refusal.the-variants.{Forged, Malformed, NotAllowed, Checksum, Room, Argument}
 use Rattle.connection.specs.declared.answer.Answer.the-variants as W
 use Rattle.connection.specs.declared.answer.Judged.{Judged}
+use Rattle.connection.specs.declared.asked.Whom.{Whom}
+use Rattle.connection.specs.declared.asked.Whom.the-variants as A
+use Rattle.connection.specs.declared.sent.SentRecords.{SentRecords}
 use Rattle.connection.specs.declared.handshake.Handshake.{Handshake}
-use Rattle.connection.specs.declared.calls.Connection.{Connection}
+use Rattle.connection.specs.declared.connection.Connection.{Connection}
 use Rattle.connection.specs.declared.calls.Outcome.{Outcome}
 use Rattle.connection.specs.declared.calls.Outcome.the-variants.{Done, Refused}
 use Rattle.connection.specs.declared.receive.Taken.{Taken}
@@ -68,7 +74,8 @@ use Rattle.connection.specs.declared.receive.Taken.the-variants as T
 use Rattle.connection.specs.declared.send.Sent.{Sent}
 use Rattle.connection.proofs.Replying.{reply-size}
 use Rattle.connection.proofs.Sending.{next-size, clear-size}
-use Rattle.lent.specs.Saved.{stateSize, isSaved, connectionIn, handshakeIn, keptIn}
+use Rattle.lent.specs.Fields.{bytesIn}
+use Rattle.lent.specs.Saved.{stateSize, handshakeSize, isSaved, connectionIn, handshakeIn, keptIn}
 use Rattle.lent.specs.Calls.{writtenPart, countPart, notTaken, refusalIn, sentResult, dataResult, alertResult, lentFor, takenResult, got, receiveResult}
 use Rattle.lent.proofs.Reading.{part-length}
 use Rattle.lent.proofs.Calling.{lent-sizes, sense-in}
@@ -113,24 +120,24 @@ module _ where
   small-verified h Fin.Wrong = omega arith
   small-verified h Fin.Malformed = omega arith
 
-  small-sealed : (h : Handshake) (l : Level) (d : Description) → Small (sealedLevel h l d)
+  small-protected : (h : Handshake) (l : Level) (d : Description) → Small (protectedLevel h l d)
   unfolding Small
-  small-sealed h L.Warning d = omega arith
-  small-sealed h L.Critical d = omega arith
-  small-sealed h L.Fatal d = omega arith
+  small-protected h L.Warning d = omega arith
+  small-protected h L.Critical d = omega arith
+  small-protected h L.Fatal d = omega arith
 
   small-alerted : (h : Handshake) (a : AlertReading) → Small (alertedTo h a)
   unfolding Small
   small-alerted h Q.Malformed = omega arith
-  small-alerted h (Q.WellFormed a) = small-sealed h (a .level) (a .description)
+  small-alerted h (Q.WellFormed a) = small-protected h (a .level) (a .description)
 
   small-content : (h : Handshake) (kind : Kind) (number at : ℕ) (content : List ℕ) → Small (contentBy h kind number at content)
   unfolding contentBy alertedBy verifiedBy Small
-  small-content h K.SealedData number at content =
+  small-content h K.ProtectedData number at content =
       small-pick (eqb (length content) 0) (refusing Malformed h) (judged (W.Data number at (length content)) h) (omega arith) (omega arith)
-  small-content h K.SealedAlert number at content = small-alerted h (alertOf content)
-  small-content h K.SealedHandshake number at content = small-verified h (judgedOf content (h .expected))
-  small-content h K.SealedChange number at content = omega arith
+  small-content h K.ProtectedAlert number at content = small-alerted h (alertOf content)
+  small-content h K.ProtectedHandshake number at content = small-verified h (judgedOf content (h .expected))
+  small-content h K.ProtectedChange number at content = omega arith
   small-content h K.ClearHello number at content = omega arith
   small-content h K.ClearChange number at content = omega arith
   small-content h K.ClearAlert number at content = omega arith
@@ -138,13 +145,13 @@ module _ where
 
   small-windowed : (h : Handshake) (kind : Kind) (number at : ℕ) (content : List ℕ) (a : Acceptance) → Small (windowedTo h kind number at content a)
   unfolding Small
-  small-windowed h kind number at content A.TooOld = omega arith
-  small-windowed h kind number at content A.Repeated = omega arith
-  small-windowed h kind number at content (A.New window arrived) = small-content (withWindow h window) kind number at content
+  small-windowed h kind number at content N.TooOld = omega arith
+  small-windowed h kind number at content N.Repeated = omega arith
+  small-windowed h kind number at content (N.New window arrived) = small-content (withWindow h window) kind number at content
 
-  small-unsealed : (h : Handshake) (kind : Kind) (byte number at : ℕ) (fragment : List ℕ) → Small (unsealedBy h kind byte number at fragment)
-  small-unsealed h kind byte number at fragment =
-      subst Small (sym (unsealed-is h kind byte number at fragment))
+  small-opened-record : (h : Handshake) (kind : Kind) (byte number at : ℕ) (fragment : List ℕ) → Small (openedRecord h kind byte number at fragment)
+  small-opened-record h kind byte number at fragment =
+      subst Small (sym (opened-record-is h kind byte number at fragment))
       (small-pick (genuineIn h byte number fragment) (windowedTo h kind number at (contentIn h fragment) (acceptOf (h .protection .window) number)) (refusing Forged h)
       (small-windowed h kind number at (contentIn h fragment) (acceptOf (h .protection .window) number))
       (small-refusing Forged h))
@@ -155,10 +162,10 @@ module _ where
   small-level h L.Critical d = omega arith
   small-level h L.Fatal d = omega arith
 
-  small-heard : (h : Handshake) (a : AlertReading) → Small (heardBy h a)
-  small-heard h Q.Malformed = small-refusing Malformed h
-  small-heard h (Q.WellFormed a) =
-      small-pick (wasSent h (a .checksum)) (byLevel h (a .level) (a .description)) (refusing Checksum h)
+  small-heard : (h : Handshake) (sent : SentRecords) (a : AlertReading) → Small (heardBy h sent a)
+  small-heard h sent Q.Malformed = small-refusing Malformed h
+  small-heard h sent (Q.WellFormed a) =
+      small-pick (matchesOf sent (a .checksum)) (byLevel h (a .level) (a .description)) (refusing Checksum h)
       (small-level h (a .level) (a .description))
       (small-refusing Checksum h)
 
@@ -187,29 +194,59 @@ module _ where
         kept : Small (judged (W.Resent (keptSize (h .kept))) h)
         kept = omega (arith, take-within (h .kept .size) (h .kept .reply))
 
-    small-ruled : (rule : Rule) (kind : Kind) (byte number start at : ℕ) (fragment : List ℕ) → Small (ruledBy h random rule kind byte number start at fragment)
+    small-resent : (m : List ℕ) → Small (resentBy h m)
+    unfolding resentBy Small
+    small-resent m = small-pick (isKept (h .kept) m) (judged (W.Resent (keptSize (h .kept))) h) (refusing NotAllowed h) kept (omega arith)
+      where
+        kept : Small (judged (W.Resent (keptSize (h .kept))) h)
+        kept = omega (arith, take-within (h .kept .size) (h .kept .reply))
+
+    small-ruled : (sent : SentRecords) (rule : Rule) (kind : Kind) (r : Record) (fragment : List ℕ) → Small (ruledBy h sent random rule kind r fragment)
     unfolding ruledBy heardAlert Small
-    small-ruled U.Ended kind byte number start at fragment = omega arith
-    small-ruled U.NotAllowed kind byte number start at fragment = omega arith
-    small-ruled U.HelloWhileOpen kind byte number start at fragment = omega arith
-    small-ruled U.Greet kind byte number start at fragment =
-        small-pick (eqb start 0) (greetedBy h random fragment) (refusing NotAllowed h) (small-greeted fragment) (omega arith)
-    small-ruled U.GreetAgain kind byte number start at fragment =
-        small-pick (eqb start 0) (greetedAgain h random fragment) (refusing NotAllowed h) (small-again fragment) (omega arith)
-    small-ruled U.Change kind byte number start at fragment = small-changed h fragment
-    small-ruled U.Hear kind byte number start at fragment = small-heard h (alertOf fragment)
-    small-ruled U.Unseal kind byte number start at fragment = small-unsealed h kind byte number at fragment
+    small-ruled sent U.Ended kind r fragment = omega arith
+    small-ruled sent U.NotAllowed kind r fragment = omega arith
+    small-ruled sent U.Greet kind r fragment =
+        small-pick (eqb (r .start) 0) (greetedBy h random fragment) (refusing NotAllowed h) (small-greeted fragment) (omega arith)
+    small-ruled sent U.GreetAgain kind r fragment =
+        small-pick (eqb (r .start) 0) (greetedAgain h random fragment) (refusing NotAllowed h) (small-again fragment) (omega arith)
+    small-ruled sent U.Resend kind r fragment =
+        small-pick (eqb (r .start) 0) (resentBy h fragment) (refusing NotAllowed h) (small-resent fragment) (omega arith)
+    small-ruled sent U.Change kind r fragment = small-changed h fragment
+    small-ruled sent U.Hear kind r fragment = small-heard h sent (alertOf fragment)
+    small-ruled sent U.OpenRecord kind r fragment = small-opened-record h kind (r .byte) (r .number) (r .start + r .head) fragment
 
-    small-record : (d : List ℕ) (r : Record) → Small (judgedRecord h random d r)
+    small-record : (sent : SentRecords) (d : List ℕ) (r : Record) → Small (judgedRecord h sent random d r)
     unfolding judgedRecord
-    small-record d r =
-        small-ruled (ruleOf (h .state) (kindIn d r)) (kindIn d r) (r .byte) (r .number) (r .start) (r .start + r .head) (fragmentOf d r)
+    small-record sent d r = small-ruled sent (ruleOf (h .state) (kindIn d r)) (kindIn d r) r (fragmentOf d r)
 
-    small-reply : (d : List ℕ) (rs : List Record) → length (firstReply h random d rs) ≤ 84
-    unfolding firstReply Small
-    small-reply d [] = omega arith
-    small-reply d (r ∷ rs) =
-        omega (arith, small-record d r, take-most (replySize (judgedRecord h random d r .answer)) (judgedRecord h random d r .handshake .kept .reply))
+-- an identifier and a kept reply of their sizes
+record Fitting (h : Handshake) : Type 0 where
+  id : length (h .id) ≡ 8
+  reply : length (h .kept .reply) ≤ 84
+
+-- whoever is asked
+asked-fits : (c : Connection) (whom : Whom) → Fitting (c .handshake) → Fitting (c .started) → Fitting (askedOf c whom)
+unfolding nothingKept
+asked-fits c A.Only f g = f
+asked-fits c A.Open f g = f
+asked-fits c A.Started f g = g
+asked-fits c A.Newcomer f g = record { id = f .id; reply = omega (arith, length-replicate {A = ℕ} 84 0) }
+
+small-reply : (c : Connection) (random d : List ℕ) (rs : List Record) → length random ≡ 16 → Fitting (c .handshake) → Fitting (c .started)
+    → length (firstReply c random d rs) ≤ 84
+unfolding firstReply
+small-reply c random d [] lr f g = omega arith
+small-reply c random d (r ∷ rs) lr f g = told
+  where
+    whom = whomOf c d r
+    fits = asked-fits c whom f g
+
+    one : replySize (toldRecord c random d r .answer) ≤ 84
+    unfolding toldRecord judgedIn Small
+    one = small-record (askedOf c whom) random lr (fits .id) (fits .reply) (c .sent) d r
+
+    told : length (take (replySize (toldRecord c random d r .answer)) (keptBy (toldRecord c random d r .beside) (toldRecord c random d r .connection) .reply)) ≤ 84
+    told = omega (arith, one, take-most (replySize (toldRecord c random d r .answer)) (keptBy (toldRecord c random d r .beside) (toldRecord c random d r .connection) .reply))
 
 -- ---- the offset of a record at fault
 
@@ -255,31 +292,36 @@ countIn (T.Records count) = count
 countIn (T.Refused refusal) = 0
 countIn (T.Misframed refusal at) = at
 
-exact-framed : (c : Connection) (random d : List ℕ) (f : Framing) → framingOf d ≡ f → length random ≡ 16 → length (c .handshake .id) ≡ 8 → length (c .handshake .kept .reply) ≤ 84
+exact-framed : (c : Connection) (random d : List ℕ) (f : Framing) → framingOf d ≡ f → length random ≡ 16 → Fitting (c .handshake) → Fitting (c .started)
     → (framedTo c random d f .written ≤ 84) × (countIn (framedTo c random d f .taken) ≤ 1400)
 unfolding runOf wholeOf offsetIn
-exact-framed c random d (framed rs) e lr li lk =
-    (small-reply (c .handshake) random lr li lk d rs, omega (arith, covers d rs e .4))
-exact-framed c random d (faulty f at) e lr li lk =
+exact-framed c random d (framed rs) e lr f g =
+    (small-reply c random d rs lr f g, omega (arith, covers d rs e .4))
+exact-framed c random d (faulty fault at) e lr f g =
     (omega arith, omega (arith, offset-most d, ap offsetIn e))
 
-exact-received : (c : Connection) (d random : List ℕ) (room : ℕ) → length (c .handshake .id) ≡ 8 → length (c .handshake .kept .reply) ≤ 84
+exact-received : (c : Connection) (d random : List ℕ) (room : ℕ) → Fitting (c .handshake) → Fitting (c .started)
     → (receivedOf c d random room .written ≤ 84) × (countIn (receivedOf c d random room .taken) ≤ 1400)
 unfolding receivedOf wholeOf
-exact-received c d random room li lk = told (eqb (length random) 16) (ltb room 128) refl
+exact-received c d random room f g = told (eqb (length random) 16) (ltb room 128) refl
   where
     told : (t u : Bool) → eqb (length random) 16 ≡ t
         → (pick t (pick u (wholeOf c (T.Refused Room)) (framedTo c random d (framingOf d))) (wholeOf c (T.Refused Argument)) .written ≤ 84)
         × (countIn (pick t (pick u (wholeOf c (T.Refused Room)) (framedTo c random d (framingOf d))) (wholeOf c (T.Refused Argument)) .taken) ≤ 1400)
     told true true e = (omega arith, omega arith)
-    told true false e = exact-framed c random d (framingOf d) refl (eqb-true (length random) 16 e) li lk
+    told true false e = exact-framed c random d (framingOf d) refl (eqb-true (length random) 16 e) f g
     told false u e = (omega arith, omega arith)
+
+handshake-fits : (s : List ℕ) → length s ≡ handshakeSize → Fitting (handshakeIn s)
+unfolding handshakeIn keptIn
+handshake-fits s l = record { id = part-length s 1 8 (omega arith); reply = take-most 84 (drop 339 s) }
 
 lent-exact : (state d random : List ℕ) (room : ℕ) → length state ≡ stateSize
     → (got state d random room .written ≤ 84) × (countIn (got state d random room .taken) ≤ 1400)
-unfolding handshakeIn keptIn
 lent-exact state d random room l =
-    exact-received (connectionIn state) d random room (part-length state 5 8 (omega arith)) (take-most 84 (drop 343 state))
+    exact-received (connectionIn state) d random room
+    (handshake-fits (bytesIn state 40 450) (part-length state 40 450 (omega arith)))
+    (handshake-fits (bytesIn state 490 450) (part-length state 490 450 (omega arith)))
 
 taken-parts : (written : ℕ) (taken : Taken) → written ≤ 84 → countIn taken ≤ 1400 → countPart (takenResult written taken) ≡ countIn taken
 taken-parts written (T.Records count) hw hc = count-part 0 written count (omega arith)
@@ -305,9 +347,9 @@ receive-written state tally answers d random room count lent taken =
 
 -- ---- sends: what is written is counted whole
 
-sent-most : (t : Bool) (o : Outcome) (c : Connection) (next : List ℕ) (h : Handshake) → (o ≡ Done → length next ≤ 1323) → sentTo c (done next h) o .written ≤ 1323
-sent-most t Done c next h most = most refl
-sent-most t (Refused r) c next h most = omega arith
+sent-most : (t : Bool) (o : Outcome) (c : Connection) (next : List ℕ) (left : Connection) → (o ≡ Done → length next ≤ 1323) → sentTo c (done next left) o .written ≤ 1323
+sent-most t Done c next left most = most refl
+sent-most t (Refused r) c next left most = omega arith
 
 past-test : (b : Bool) (r : Refusal) (o : Outcome) → pick b (Refused r) o ≡ Done → b ≡ false
 past-test true r o e = let z : _≡_ {A = ℕ} 0 1 = cc in absurd (omega arith)
@@ -328,26 +370,26 @@ unfolding dataSent
 data-most c bytes room =
     let h = c .handshake in
     let next = nextProtected h C.Data bytes in
-    sent-most true (dataOutcome h (length bytes) room) c next (afterProtected h next)
+    sent-most true (dataOutcome h (length bytes) room) c next (afterSend true c next)
     (λ e. omega (arith, size h (length bytes) room e, next-size h C.Data bytes, size-most (h .protection .keys .mac)))
   where
     size : (h : Handshake) (n room : ℕ) → dataOutcome h n room ≡ Done → n ≤ 1300
     size h n room e = most (h .state) n (h .protection .protected) (sizeOf (h .protection .keys .mac)) room e
 
-alert-most : (c : Connection) (sealed : Bool) (answered : List ℕ) (room : ℕ) (g : Graded) (d : Sorted) → alertSentAs c sealed answered room g d .written ≤ 1323
+alert-most : (c : Connection) (protected : Bool) (answered : List ℕ) (room : ℕ) (g : Graded) (d : Sorted) → alertSentAs c protected answered room g d .written ≤ 1323
 alert-most c true answered room (G.Is level) (D.Assigned description) =
     let h = c .handshake in
     let body = alertBody level description answered in
-    sent-most true (alertOutcome true h (length answered) room) c (nextAlert true h body) (afterAlert true h (nextAlert true h body))
+    sent-most true (alertOutcome true h (length answered) room) c (nextAlert true h body) (afterSend true c (nextAlert true h body))
     (λ e. omega (arith, next-size h C.Alert body, size-most (h .protection .keys .mac)))
 alert-most c false answered room (G.Is level) (D.Assigned description) =
-    let h = c .handshake in
+    let h = senderOf false c in
     let body = alertBody level description answered in
-    sent-most true (alertOutcome false h (length answered) room) c (nextAlert false h body) (afterAlert false h (nextAlert false h body))
+    sent-most true (alertOutcome false h (length answered) room) c (nextAlert false h body) (afterSend false c (nextAlert false h body))
     (λ e. omega (arith, clear-size h body))
-alert-most c sealed answered room (G.Is level) D.Unassigned = omega arith
-alert-most c sealed answered room G.Unassigned (D.Assigned description) = omega arith
-alert-most c sealed answered room G.Unassigned D.Unassigned = omega arith
+alert-most c protected answered room (G.Is level) D.Unassigned = omega arith
+alert-most c protected answered room G.Unassigned (D.Assigned description) = omega arith
+alert-most c protected answered room G.Unassigned D.Unassigned = omega arith
 
 pub data-written : (state bytes : List ℕ) (room : ℕ) → isSaved state ≡ true
     → writtenPart (dataResult state bytes room) ≡ dataSent (connectionIn state) bytes room .written
@@ -355,13 +397,13 @@ unfolding dataResult
 data-written state bytes room saved =
     rw saved (written-part (refusalIn (dataSent (connectionIn state) bytes room .outcome)) (dataSent (connectionIn state) bytes room .written) 0 (omega (arith, data-most (connectionIn state) bytes room)))
 
-pub alert-written : (state : List ℕ) (sealed : Bool) (protected level description : ℕ) (answered : List ℕ) (room : ℕ) → isSaved state ≡ true
-    → protected ≤ 1 → sealed ≡ eqb protected 1
-    → writtenPart (alertResult state protected level description answered room) ≡ alertSent (connectionIn state) sealed level description answered room .written
+pub alert-written : (state : List ℕ) (isProtected : Bool) (protected level description : ℕ) (answered : List ℕ) (room : ℕ) → isSaved state ≡ true
+    → protected ≤ 1 → isProtected ≡ eqb protected 1
+    → writtenPart (alertResult state protected level description answered room) ≡ alertSent (connectionIn state) isProtected level description answered room .written
 unfolding alertResult alertSent
-alert-written state sealed protected level description answered room saved h e =
+alert-written state isProtected protected level description answered room saved h e =
     let sent : Bool → Sent = λ b. alertSent (connectionIn state) b level description answered room in
     rw saved
     (sym (ap writtenPart (sense-in protected (λ b. sentResult (sent b)) notTaken h))
     ∙ ap (λ b. writtenPart (sentResult (sent b))) (sym e)
-    ∙ written-part (refusalIn (sent sealed .outcome)) (sent sealed .written) 0 (omega (arith, alert-most (connectionIn state) sealed answered room (levelOf level) (sortedOf description))))
+    ∙ written-part (refusalIn (sent isProtected .outcome)) (sent isProtected .written) 0 (omega (arith, alert-most (connectionIn state) isProtected answered room (levelOf level) (sortedOf description))))

@@ -13,7 +13,7 @@ use Rattle.connection.specs.Calls.{freshOf, closedOf, startedOf}
 use Rattle.connection.specs.Receive.{receivedOf, outputOf}
 use Rattle.connection.specs.Send.{dataSent, dataOutput, alertSent, alertOutput}
 use Rattle.connection.specs.Tally.{countedOf}
-use Rattle.connection.specs.declared.calls.Connection.{Connection}
+use Rattle.connection.specs.declared.connection.Connection.{Connection}
 use Rattle.connection.specs.declared.calls.Outcome.{Outcome}
 use Rattle.connection.specs.declared.calls.Outcome.the-variants.{Done, Refused}
 use Rattle.connection.specs.declared.calls.Called.{Called}
@@ -21,7 +21,7 @@ use Rattle.connection.specs.declared.receive.Taken.{Taken}
 use Rattle.connection.specs.declared.receive.Taken.the-variants as T
 use Rattle.connection.specs.declared.receive.Received.{Received}
 use Rattle.connection.specs.declared.send.Sent.{Sent}
-use Rattle.lent.specs.Saved.{stateSize, savedOf, isSaved, connectionIn, Loaded, Is, loaded}
+use Rattle.lent.specs.Saved.{stateSize, handshakePlace, savedOf, isSaved, connectionIn, Loaded, Is, loaded}
 use Rattle.lent.specs.Report.{reportOf}
 use Rattle.lent.specs.Counts.{tallyBytes, tallyIn}
 
@@ -59,7 +59,7 @@ abbrev pub leftLoaded : List ℕ → Connection → Outcome → Loaded
 leftLoaded state c Done = Is c
 leftLoaded state c (Refused refusal) = loaded state
 
--- fresh: in 490 bytes, whatever they hold
+-- fresh: in 940 bytes, whatever they hold
 unfoldable pub freshResult : List ℕ → List ℕ → ℕ → ℕ → ℕ
 freshResult id secret width room =
     pick (eqb room stateSize) (resultOf (refusalIn (freshOf id secret width .outcome)) 0 0) notTaken
@@ -112,7 +112,7 @@ startLoads state = calledLoads startedOf state
 
 -- the state's number, as the count
 unfoldable pub stateResult : List ℕ → ℕ
-stateResult state = pick (isSaved state) (resultOf 0 0 (getD state 4 0)) notTaken
+stateResult state = pick (isSaved state) (resultOf 0 0 (getD state handshakePlace 0)) notTaken
 
 -- the arrival report (02, P1: "the arrival report counts over the width"), and the width that it counts over, each as
 -- the count
@@ -155,7 +155,7 @@ unfoldable pub alertResult : List ℕ → ℕ → ℕ → ℕ → List ℕ → �
 alertResult state protected level description answered room =
     pick (isSaved state)
     (sense protected
-    (λ sealed. sentResult (alertSent (connectionIn state) sealed level description answered room))
+    (λ isProtected. sentResult (alertSent (connectionIn state) isProtected level description answered room))
     notTaken)
     notTaken
 
@@ -163,7 +163,7 @@ unfoldable pub alertState : List ℕ → ℕ → ℕ → ℕ → List ℕ → �
 alertState state protected level description answered room =
     pick (isSaved state)
     (sense protected
-    (λ sealed. sentState state (alertSent (connectionIn state) sealed level description answered room))
+    (λ isProtected. sentState state (alertSent (connectionIn state) isProtected level description answered room))
     state)
     state
 
@@ -171,14 +171,14 @@ unfoldable pub alertLoads : List ℕ → ℕ → ℕ → ℕ → List ℕ → �
 alertLoads state protected level description answered room =
     pick (isSaved state)
     (sense protected
-    (λ sealed. sentLoads state (alertSent (connectionIn state) sealed level description answered room))
+    (λ isProtected. sentLoads state (alertSent (connectionIn state) isProtected level description answered room))
     (loaded state))
     (loaded state)
 
 unfoldable pub alertOut : List ℕ → ℕ → ℕ → ℕ → List ℕ → List ℕ → List ℕ
 alertOut state protected level description answered out =
     pick (isSaved state)
-    (sense protected (λ sealed. alertOutput (connectionIn state) sealed level description answered out) out)
+    (sense protected (λ isProtected. alertOutput (connectionIn state) isProtected level description answered out) out)
     out
 
 -- receive: a saved connection, a tally of 16 bytes, answers of 192

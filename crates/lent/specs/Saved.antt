@@ -1,27 +1,33 @@
--- A connection in 490 lent bytes. Every value of a connection has its bytes, and one string of bytes only; which
+-- A connection in 940 lent bytes. Every value of a connection has its bytes, and one string of bytes only; which
 -- strings are a saved connection is `isSaved`. Numbers have the most significant byte first.
 --
 --     place  bytes
---         0      4  the mark: "WTG", and 3, the number of this layout
---         4      1  the state: 0 Idle, 1 Replied, 2 Spec, 3 Open, 4 Closed, 5 Barred
---         5      8  the session's identifier
---        13     20  the session's master secret
---        33     16  the server random
---        49     16  the client random
---        65      1  the MAC kind, by its number in 002 appendix A: 2 SHA_80, 3 SHA
---        66      1  the key refresh
---        67     12  the contents that the unit's Finished must have
---        79    256  the kept hello, at the front of its place
---       335      8  its size
---       343     84  the kept reply, at the front of its place
---       427      8  its size
---       435      2  the window: the highest number accepted
---       437      8  the window: the marks
---       445      4  the next protected number
---       449      4  the next clear number
---       453      4  how many records that we sent are kept
---       457      1  the window: its width
---       458     32  the checksums of these records, four bytes each, the newest first
+--         0      4  the mark: "WTG", and 4, the number of this layout
+--         4      4  how many records that we sent are kept
+--         8     32  the checksums of these records, four bytes each, the newest first
+--        40    450  the handshake: the open one, or the only one
+--       490    450  the one that was started beside it; in state 0 where there is none
+--
+-- and a handshake:
+--
+--     place  bytes
+--         0      1  the state: 0 Idle, 1 Replied, 2 Spec, 3 Open, 4 Closed, 5 Barred
+--         1      8  the session's identifier
+--         9     20  the session's master secret
+--        29     16  the server random
+--        45     16  the client random
+--        61      1  the MAC kind, by its number in 002 appendix A: 2 SHA_80, 3 SHA
+--        62      1  the key refresh
+--        63     12  the contents that the unit's Finished must have
+--        75    256  the kept hello, at the front of its place
+--       331      8  its size
+--       339     84  the kept reply, at the front of its place
+--       423      8  its size
+--       431      1  the window: its width
+--       432      2  the window: the highest number accepted
+--       434      8  the window: the marks
+--       442      4  the next protected number
+--       446      4  the next clear number
 use mathlib.Core.Bool.{Bool, true, false}
 use mathlib.Core.List.{List, [], _∷_, _++_}
 use mathlib.Core.Path.{_≡_}
@@ -43,16 +49,26 @@ use Rattle.connection.specs.declared.handshake.Session.{Session}
 use Rattle.connection.specs.declared.handshake.Kept.{Kept}
 use Rattle.connection.specs.declared.handshake.Handshake.{Handshake}
 use Rattle.connection.specs.declared.sent.SentRecords.{SentRecords}
-use Rattle.connection.specs.declared.calls.Connection.{Connection}
+use Rattle.connection.specs.declared.connection.Connection.{Connection}
 use Rattle.lent.specs.Fields.{joined, bytesIn, twoIn, eightIn}
 
--- how many bytes hold a connection
+-- how many bytes hold a connection, and how many of them a handshake
 abbrev pub stateSize : ℕ
-stateSize = 490
+stateSize = 940
 
--- "WTG", 3
+abbrev pub handshakeSize : ℕ
+handshakeSize = 450
+
+-- where the two handshakes stand
+abbrev pub handshakePlace : ℕ
+handshakePlace = 40
+
+abbrev pub startedPlace : ℕ
+startedPlace = 490
+
+-- "WTG", 4
 abbrev pub mark : ℕ
-mark = 0x57544703
+mark = 0x57544704
 
 -- the number of a state
 abbrev pub stateNumber : State → ℕ
@@ -63,12 +79,9 @@ stateNumber Open = 3
 stateNumber Closed = 4
 stateNumber Barred = 5
 
--- The fields of a connection, in their order.
-abbrev pub headFields : State → List (List ℕ)
-headFields state = bytes4 mark ∷ (stateNumber state ∷ []) ∷ []
-
-abbrev pub sessionFields : Session → List (List ℕ)
-sessionFields session = session .id ∷ session .secret ∷ []
+-- The fields of a handshake, in their order.
+abbrev pub sessionFields : State → Session → List (List ℕ)
+sessionFields state session = (stateNumber state ∷ []) ∷ session .id ∷ session .secret ∷ []
 
 abbrev pub agreedFields : Keys → List ℕ → List (List ℕ)
 agreedFields keys expected =
@@ -78,13 +91,18 @@ abbrev pub keptFields : Kept → List (List ℕ)
 keptFields kept = kept .hello ∷ bytes8 (kept .heard) ∷ kept .reply ∷ bytes8 (kept .size) ∷ []
 
 abbrev pub windowFields : Window → List (List ℕ)
-windowFields window = bytes2 (window .highest) ∷ bytes8 (window .marks) ∷ []
+windowFields window = (window .width ∷ []) ∷ bytes2 (window .highest) ∷ bytes8 (window .marks) ∷ []
 
-abbrev pub widthFields : Window → List (List ℕ)
-widthFields window = (window .width ∷ []) ∷ []
+abbrev pub sendingFields : Protection → List (List ℕ)
+sendingFields p = bytes4 (p .protected) ∷ bytes4 (p .clear) ∷ []
 
-abbrev pub sendingFields : Protection → ℕ → List (List ℕ)
-sendingFields p count = bytes4 (p .protected) ∷ bytes4 (p .clear) ∷ bytes4 count ∷ []
+abbrev pub handshakeFields : Handshake → List (List ℕ)
+handshakeFields h =
+    sessionFields (h .state) (planted h)
+    ++ agreedFields (h .protection .keys) (h .expected)
+    ++ keptFields (h .kept)
+    ++ windowFields (h .protection .window)
+    ++ sendingFields (h .protection)
 
 -- eight checksums, each in four bytes
 abbrev pub sumFields : List ℕ → List (List ℕ)
@@ -92,29 +110,32 @@ sumFields sums =
     bytes4 (getD sums 0 0) ∷ bytes4 (getD sums 1 0) ∷ bytes4 (getD sums 2 0) ∷ bytes4 (getD sums 3 0)
     ∷ bytes4 (getD sums 4 0) ∷ bytes4 (getD sums 5 0) ∷ bytes4 (getD sums 6 0) ∷ bytes4 (getD sums 7 0) ∷ []
 
--- the bytes of a connection
+-- the mark, and how many records sent are kept
+abbrev pub headFields : ℕ → List (List ℕ)
+headFields count = bytes4 mark ∷ bytes4 count ∷ []
+
+-- the bytes of a handshake, and those of a connection
 unfoldable pub savedHandshake : Handshake → List ℕ
-savedHandshake h =
+savedHandshake h = joined (handshakeFields h)
+
+unfoldable pub savedOf : Connection → List ℕ
+savedOf c =
     joined
-    (headFields (h .state)
-    ++ sessionFields (planted h)
-    ++ agreedFields (h .protection .keys) (h .expected)
-    ++ keptFields (h .kept)
-    ++ windowFields (h .protection .window)
-    ++ sendingFields (h .protection) (h .sent .count)
-    ++ widthFields (h .protection .window)
-    ++ (joined (sumFields (h .sent .checksums)) ∷ []))
+    (headFields (c .sent .count)
+    ++ sumFields (c .sent .checksums)
+    ++ (savedHandshake (c .handshake) ∷ savedHandshake (c .started) ∷ []))
 
-abbrev pub savedOf : Connection → List ℕ
-savedOf c = savedHandshake (c .handshake)
+-- which bytes are a saved handshake: a state and a MAC kind
+unfoldable pub isHandshake : List ℕ → Bool
+isHandshake s =
+    pick (ltb 5 (getD s 0 0)) false (pick (eqb (getD s 61 0) 2) true (eqb (getD s 61 0) 3))
 
--- which bytes are a saved connection: the size, the mark, a state and a MAC kind
+-- which bytes are a saved connection: the size, the mark, and two handshakes
 unfoldable pub isSaved : List ℕ → Bool
 isSaved b =
     pick (eqb (length b) stateSize)
     (pick (eqb (wordAt b 0) mark)
-    (pick (ltb 5 (getD b 4 0)) false
-    (pick (eqb (getD b 65 0) 2) true (eqb (getD b 65 0) 3)))
+    (pick (isHandshake (bytesIn b handshakePlace handshakeSize)) (isHandshake (bytesIn b startedPlace handshakeSize)) false)
     false)
     false
 
@@ -128,46 +149,50 @@ unfoldable pub macNumbered : ℕ → Mac
 macNumbered n = pick (eqb n 2) Sha80 Sha
 
 unfoldable pub keysIn : List ℕ → Keys
-keysIn b =
+keysIn s =
     record {
-      secret = bytesIn b 13 20;
-      server = bytesIn b 33 16;
-      client = bytesIn b 49 16;
-      mac = macNumbered (getD b 65 0);
-      refresh = getD b 66 0;
+      secret = bytesIn s 9 20;
+      server = bytesIn s 29 16;
+      client = bytesIn s 45 16;
+      mac = macNumbered (getD s 61 0);
+      refresh = getD s 62 0;
     }
 
 unfoldable pub keptIn : List ℕ → Kept
-keptIn b =
-    record { hello = bytesIn b 79 256; heard = eightIn b 335; reply = bytesIn b 343 84; size = eightIn b 427 }
+keptIn s =
+    record { hello = bytesIn s 75 256; heard = eightIn s 331; reply = bytesIn s 339 84; size = eightIn s 423 }
 
 unfoldable pub windowIn : List ℕ → Window
-windowIn b = record { width = getD b 457 0; highest = twoIn b 435; marks = eightIn b 437 }
+windowIn s = record { width = getD s 431 0; highest = twoIn s 432; marks = eightIn s 434 }
 
 unfoldable pub protectionIn : List ℕ → Protection
-protectionIn b = record { keys = keysIn b; window = windowIn b; protected = wordAt b 445; clear = wordAt b 449 }
+protectionIn s = record { keys = keysIn s; window = windowIn s; protected = wordAt s 442; clear = wordAt s 446 }
+
+unfoldable pub handshakeIn : List ℕ → Handshake
+handshakeIn s =
+    record {
+      state = stateNumbered (getD s 0 0);
+      id = bytesIn s 1 8;
+      expected = bytesIn s 63 12;
+      kept = keptIn s;
+      protection = protectionIn s;
+    }
 
 unfoldable pub sentIn : List ℕ → SentRecords
 sentIn b =
     record {
-      count = wordAt b 453;
+      count = wordAt b 4;
       checksums =
-          wordAt b 458 ∷ wordAt b 462 ∷ wordAt b 466 ∷ wordAt b 470 ∷ wordAt b 474 ∷ wordAt b 478 ∷ wordAt b 482 ∷ wordAt b 486 ∷ [];
-    }
-
-unfoldable pub handshakeIn : List ℕ → Handshake
-handshakeIn b =
-    record {
-      state = stateNumbered (getD b 4 0);
-      id = bytesIn b 5 8;
-      expected = bytesIn b 67 12;
-      kept = keptIn b;
-      sent = sentIn b;
-      protection = protectionIn b;
+          wordAt b 8 ∷ wordAt b 12 ∷ wordAt b 16 ∷ wordAt b 20 ∷ wordAt b 24 ∷ wordAt b 28 ∷ wordAt b 32 ∷ wordAt b 36 ∷ [];
     }
 
 abbrev pub connectionIn : List ℕ → Connection
-connectionIn b = record { handshake = handshakeIn b }
+connectionIn b =
+    record {
+      handshake = handshakeIn (bytesIn b handshakePlace handshakeSize);
+      started = handshakeIn (bytesIn b startedPlace handshakeSize);
+      sent = sentIn b;
+    }
 
 -- what bytes load as: a connection, or none
 pub data Loaded : Type 0 where
@@ -177,24 +202,28 @@ pub data Loaded : Type 0 where
 unfoldable pub loaded : List ℕ → Loaded
 loaded b = pick (isSaved b) (Is (connectionIn b)) No
 
--- A connection is what its types say: arrays of their sizes, numbers in their ranges.
+-- A handshake and a connection are what their types say: arrays of their sizes, numbers in their ranges.
+pub record RangedHandshake (h : Handshake) : Type 0 where
+  pub id : length (h .id) ≡ 8
+  pub secret : length (h .protection .keys .secret) ≡ 20
+  pub server : length (h .protection .keys .server) ≡ 16
+  pub client : length (h .protection .keys .client) ≡ 16
+  pub expected : length (h .expected) ≡ 12
+  pub hello : length (h .kept .hello) ≡ 256
+  pub heard : h .kept .heard < 18446744073709551616
+  pub reply : length (h .kept .reply) ≡ 84
+  pub size : h .kept .size < 18446744073709551616
+  pub highest : h .protection .window .highest < 65536
+  pub marks : h .protection .window .marks < 18446744073709551616
+  pub protected : h .protection .protected < 4294967296
+  pub clear : h .protection .clear < 4294967296
+
 pub record Ranged (c : Connection) : Type 0 where
-  pub id : length (c .handshake .id) ≡ 8
-  pub secret : length (c .handshake .protection .keys .secret) ≡ 20
-  pub server : length (c .handshake .protection .keys .server) ≡ 16
-  pub client : length (c .handshake .protection .keys .client) ≡ 16
-  pub expected : length (c .handshake .expected) ≡ 12
-  pub hello : length (c .handshake .kept .hello) ≡ 256
-  pub heard : c .handshake .kept .heard < 18446744073709551616
-  pub reply : length (c .handshake .kept .reply) ≡ 84
-  pub size : c .handshake .kept .size < 18446744073709551616
-  pub highest : c .handshake .protection .window .highest < 65536
-  pub marks : c .handshake .protection .window .marks < 18446744073709551616
-  pub protected : c .handshake .protection .protected < 4294967296
-  pub clear : c .handshake .protection .clear < 4294967296
-  pub count : c .handshake .sent .count < 4294967296
-  pub sums : length (c .handshake .sent .checksums) ≡ 8
-  pub sum : (i : ℕ) → getD (c .handshake .sent .checksums) i 0 < 4294967296
+  pub handshake : RangedHandshake (c .handshake)
+  pub started : RangedHandshake (c .started)
+  pub count : c .sent .count < 4294967296
+  pub sums : length (c .sent .checksums) ≡ 8
+  pub sum : (i : ℕ) → getD (c .sent .checksums) i 0 < 4294967296
 
 -- bytes are below 256
 abbrev pub Bytes : List ℕ → Type 0

@@ -30,13 +30,13 @@ use leave::leave_sent;
 use load::connection_in;
 use load::is_saved;
 use load::lent_for;
-use load::window_in;
+use load::open_window;
 use macs::leave_named;
 use result::not_taken;
 use result::result_of;
 use save::SIZE;
 
-// A fresh connection of a planted session, with a window of this width, 32 to 64, in 490 bytes. Refusal: 16.
+// A fresh connection of a planted session, with a window of this width, 32 to 64, in 940 bytes. Refusal: 16.
 pub fn fresh(id: &[u8], secret: &[u8], width: u32, state: &mut [u8]) -> u64
     ensures exact { λ r. ⌜ r ≡ freshResult (now (id .entry)) (now (secret .entry)) width (length (now (state .entry))) ⌝ }
     ensures bytes { λ _. ⌜ now (state .exit) ≡ freshState (now (id .entry)) (now (secret .entry)) width
@@ -168,7 +168,7 @@ pub fn state(state: &[u8]) -> u64
     ensures exact { λ r. ⌜ r ≡ stateResult (now (state .entry)) ⌝ }
 {
     if is_saved(state) {
-        let number = state[4];
+        let number = state[40];
         return result_of(0, 0, number as usize);
     }
     not_taken()
@@ -180,7 +180,7 @@ pub fn arrived(state: &[u8]) -> u64
     ensures exact { λ r. ⌜ r ≡ arrivedResult (now (state .entry)) ⌝ }
 {
     if is_saved(state) {
-        let window = window_in(state);
+        let window = open_window(state);
         return result_of(0, 0, window.arrival() as usize);
     }
     not_taken()
@@ -191,7 +191,7 @@ pub fn width(state: &[u8]) -> u64
     ensures exact { λ r. ⌜ r ≡ widthResult (now (state .entry)) ⌝ }
 {
     if is_saved(state) {
-        let window = window_in(state);
+        let window = open_window(state);
         return result_of(0, 0, window.width as usize);
     }
     not_taken()

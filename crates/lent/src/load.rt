@@ -2,15 +2,16 @@
 ghost use mathlib.Core.Path.{_≡_};
 ghost use mathlib.Core.Bool.{true};
 ghost use lib.ListN.{length};
-ghost use Rattle.lent.specs.Saved.{isSaved, stateSize, stateNumbered, macNumbered, connectionIn};
-ghost use Rattle.lent.specs.Saved.{keysIn, keptIn, windowIn, protectionIn, sentIn};
+ghost use Rattle.lent.specs.Saved.{isSaved, isHandshake, stateSize, handshakeSize, stateNumbered, macNumbered, connectionIn};
+ghost use Rattle.lent.specs.Saved.{keysIn, keptIn, windowIn, protectionIn, handshakeIn, sentIn};
 ghost use Rattle.lent.specs.Calls.{lentFor};
 ghost use Rattle.lent.specs.Fields.{bytesIn};
 use crate::bytes::eight_in;
 use crate::bytes::four_in;
 use crate::bytes::two_in;
+use crate::save::MARK;
 use crate::save::SIZE;
-use connection::calls::Connection;
+use connection::connection::Connection;
 use connection::handshake::Handshake;
 use connection::handshake::Kept;
 use connection::sent::SentRecords;
@@ -20,10 +21,7 @@ use record::keys::Keys;
 use record::protection::Protection;
 use record::window::Window;
 
-// "WTG", and 3 for this layout.
-const MARK: u32 = 0x57544703;
-
-// Whether bytes are a saved connection: the size, the mark, a state and a MAC kind. Nothing else in them can be wrong.
+// Whether bytes are a saved connection: the size, the mark, two handshakes. Nothing else in them can be wrong.
 pub(crate) fn is_saved(b: &[u8]) -> bool
     ensures { λ r. ⌜ r ≡ isSaved (now (b .entry)) ⌝ }
 {
@@ -33,13 +31,24 @@ pub(crate) fn is_saved(b: &[u8]) -> bool
     if four_in(b, 0) != MARK {
         return false;
     }
-    if 5 < b[4] {
+    if is_handshake(&b[40..490]) {
+        return is_handshake(&b[490..940]);
+    }
+    false
+}
+
+// Whether bytes are a saved handshake: a state and a MAC kind.
+fn is_handshake(s: &[u8]) -> bool
+    requires { ⌜ length (now s) ≡ handshakeSize ⌝ }
+    ensures { λ r. ⌜ r ≡ isHandshake (now (s .entry)) ⌝ }
+{
+    if 5 < s[0] {
         return false;
     }
-    if b[65] == 2 {
+    if s[61] == 2 {
         return true;
     }
-    b[65] == 3
+    s[61] == 3
 }
 
 // Whether what is lent to a receive has its sizes, and the bytes are a saved connection.
@@ -60,15 +69,33 @@ pub(crate) fn connection_in(b: &[u8]) -> Connection
     requires { ⌜ length (now b) ≡ stateSize ⌝ }
     ensures { λ r. ⌜ r ≡ connectionIn (now (b .entry)) ⌝ }
 {
-    let handshake = Handshake {
-        state: state_numbered(b[4]),
-        id: id_in(b),
-        expected: expected_in(b),
-        kept: kept_in(b),
+    Connection {
+        handshake: handshake_in(&b[40..490]),
+        started: handshake_in(&b[490..940]),
         sent: sent_in(b),
-        protection: protection_in(b),
-    };
-    Connection { handshake }
+    }
+}
+
+// The window of the handshake that is open, or the only one.
+pub(crate) fn open_window(b: &[u8]) -> Window
+    requires { ⌜ length (now b) ≡ stateSize ⌝ }
+    ensures { λ r. ⌜ r ≡ connectionIn (now (b .entry)) .handshake .protection .window ⌝ }
+{
+    window_in(&b[40..490])
+}
+
+// The handshake that its bytes hold.
+fn handshake_in(s: &[u8]) -> Handshake
+    requires { ⌜ length (now s) ≡ handshakeSize ⌝ }
+    ensures { λ r. ⌜ r ≡ handshakeIn (now (s .entry)) ⌝ }
+{
+    Handshake {
+        state: state_numbered(s[0]),
+        id: id_in(s),
+        expected: expected_in(s),
+        kept: kept_in(s),
+        protection: protection_in(s),
+    }
 }
 
 fn state_numbered(n: u8) -> State
@@ -101,53 +128,53 @@ fn mac_numbered(n: u8) -> Mac
     Mac::Sha
 }
 
-fn id_in(b: &[u8]) -> [u8; 8]
-    requires { ⌜ length (now b) ≡ stateSize ⌝ }
-    ensures { λ r. ⌜ r ≡ bytesIn (now (b .entry)) 5 8 ⌝ }
+fn id_in(s: &[u8]) -> [u8; 8]
+    requires { ⌜ length (now s) ≡ handshakeSize ⌝ }
+    ensures { λ r. ⌜ r ≡ bytesIn (now (s .entry)) 1 8 ⌝ }
 {
     let mut id = [0u8; 8];
-    digest::put(&mut id, 0, &b[5..13]);
+    digest::put(&mut id, 0, &s[1..9]);
     id
 }
 
-fn expected_in(b: &[u8]) -> [u8; 12]
-    requires { ⌜ length (now b) ≡ stateSize ⌝ }
-    ensures { λ r. ⌜ r ≡ bytesIn (now (b .entry)) 67 12 ⌝ }
+fn expected_in(s: &[u8]) -> [u8; 12]
+    requires { ⌜ length (now s) ≡ handshakeSize ⌝ }
+    ensures { λ r. ⌜ r ≡ bytesIn (now (s .entry)) 63 12 ⌝ }
 {
     let mut expected = [0u8; 12];
-    digest::put(&mut expected, 0, &b[67..79]);
+    digest::put(&mut expected, 0, &s[63..75]);
     expected
 }
 
-fn keys_in(b: &[u8]) -> Keys
-    requires { ⌜ length (now b) ≡ stateSize ⌝ }
-    ensures { λ r. ⌜ r ≡ keysIn (now (b .entry)) ⌝ }
+fn keys_in(s: &[u8]) -> Keys
+    requires { ⌜ length (now s) ≡ handshakeSize ⌝ }
+    ensures { λ r. ⌜ r ≡ keysIn (now (s .entry)) ⌝ }
 {
     let mut secret = [0u8; 20];
-    digest::put(&mut secret, 0, &b[13..33]);
+    digest::put(&mut secret, 0, &s[9..29]);
     let mut server = [0u8; 16];
-    digest::put(&mut server, 0, &b[33..49]);
+    digest::put(&mut server, 0, &s[29..45]);
     let mut client = [0u8; 16];
-    digest::put(&mut client, 0, &b[49..65]);
+    digest::put(&mut client, 0, &s[45..61]);
     Keys {
         secret,
         server,
         client,
-        mac: mac_numbered(b[65]),
-        refresh: b[66],
+        mac: mac_numbered(s[61]),
+        refresh: s[62],
     }
 }
 
-fn kept_in(b: &[u8]) -> Kept
-    requires { ⌜ length (now b) ≡ stateSize ⌝ }
-    ensures { λ r. ⌜ r ≡ keptIn (now (b .entry)) ⌝ }
+fn kept_in(s: &[u8]) -> Kept
+    requires { ⌜ length (now s) ≡ handshakeSize ⌝ }
+    ensures { λ r. ⌜ r ≡ keptIn (now (s .entry)) ⌝ }
 {
     let mut hello = [0u8; 256];
-    digest::put(&mut hello, 0, &b[79..335]);
+    digest::put(&mut hello, 0, &s[75..331]);
     let mut reply = [0u8; 84];
-    digest::put(&mut reply, 0, &b[343..427]);
-    let heard = eight_in(b, 335) as usize;
-    let size = eight_in(b, 427) as usize;
+    digest::put(&mut reply, 0, &s[339..423]);
+    let heard = eight_in(s, 331) as usize;
+    let size = eight_in(s, 423) as usize;
     Kept {
         hello,
         heard,
@@ -156,26 +183,26 @@ fn kept_in(b: &[u8]) -> Kept
     }
 }
 
-pub(crate) fn window_in(b: &[u8]) -> Window
-    requires { ⌜ length (now b) ≡ stateSize ⌝ }
-    ensures { λ r. ⌜ r ≡ windowIn (now (b .entry)) ⌝ }
+fn window_in(s: &[u8]) -> Window
+    requires { ⌜ length (now s) ≡ handshakeSize ⌝ }
+    ensures { λ r. ⌜ r ≡ windowIn (now (s .entry)) ⌝ }
 {
     Window {
-        width: b[457],
-        highest: two_in(b, 435),
-        marks: eight_in(b, 437),
+        width: s[431],
+        highest: two_in(s, 432),
+        marks: eight_in(s, 434),
     }
 }
 
-fn protection_in(b: &[u8]) -> Protection
-    requires { ⌜ length (now b) ≡ stateSize ⌝ }
-    ensures { λ r. ⌜ r ≡ protectionIn (now (b .entry)) ⌝ }
+fn protection_in(s: &[u8]) -> Protection
+    requires { ⌜ length (now s) ≡ handshakeSize ⌝ }
+    ensures { λ r. ⌜ r ≡ protectionIn (now (s .entry)) ⌝ }
 {
     Protection {
-        keys: keys_in(b),
-        window: window_in(b),
-        protected: four_in(b, 445),
-        clear: four_in(b, 449),
+        keys: keys_in(s),
+        window: window_in(s),
+        protected: four_in(s, 442),
+        clear: four_in(s, 446),
     }
 }
 
@@ -183,16 +210,16 @@ fn sent_in(b: &[u8]) -> SentRecords
     requires { ⌜ length (now b) ≡ stateSize ⌝ }
     ensures { λ r. ⌜ r ≡ sentIn (now (b .entry)) ⌝ }
 {
-    let count = four_in(b, 453);
+    let count = four_in(b, 4);
     let checksums = [
-        four_in(b, 458),
-        four_in(b, 462),
-        four_in(b, 466),
-        four_in(b, 470),
-        four_in(b, 474),
-        four_in(b, 478),
-        four_in(b, 482),
-        four_in(b, 486),
+        four_in(b, 8),
+        four_in(b, 12),
+        four_in(b, 16),
+        four_in(b, 20),
+        four_in(b, 24),
+        four_in(b, 28),
+        four_in(b, 32),
+        four_in(b, 36),
     ];
     SentRecords { count, checksums }
 }

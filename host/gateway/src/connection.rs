@@ -1,4 +1,4 @@
-//! One connection with a unit, in its 490 bytes.
+//! One connection with a unit, in its 940 bytes.
 
 use std::error::Error;
 use std::fmt;

@@ -39,12 +39,14 @@ pub use refusal::Refusal;
 pub use tally::Tally;
 
 /// Sizes, in bytes.
-pub const STATE_SIZE: usize = 490;
+pub const STATE_SIZE: usize = 940;
 pub const TALLY_SIZE: usize = 16;
 pub const ANSWER_SIZE: usize = 24;
 pub const ANSWERS_SIZE: usize = 192;
 pub const ID_SIZE: usize = 8;
 pub const SECRET_SIZE: usize = 20;
+/// Where a saved connection holds its secret: once in the handshake, and again in one that was started beside it.
+pub const SECRET_PLACES: [usize; 2] = [49, 499];
 pub const RANDOM_SIZE: usize = 16;
 /// The widths that a window may have.
 pub const WIDTH_LEAST: u32 = 32;

@@ -47,12 +47,19 @@ fn states() -> Vec<(Kind, State)> {
     [&all[..], &[(Kind::Sha, Open)]].concat()
 }
 
-/// Which bytes are a saved connection, said a second time: the mark, a state, a MAC kind. Every other byte is free.
+/// Which bytes are a saved connection, said a second time: the mark, and of each handshake a state and a MAC kind. Every other byte is
+/// free.
 fn is_saved(bytes: &[u8]) -> bool {
-    bytes.len() == 490
-        && bytes.starts_with(b"WTG\x03")
-        && bytes[4] <= 5
-        && (bytes[65] == 2 || bytes[65] == 3)
+    let handshake = |at: usize| bytes[at] <= 5 && (bytes[at + 61] == 2 || bytes[at + 61] == 3);
+    bytes.len() == 940 && bytes.starts_with(b"WTG\x04") && handshake(40) && handshake(490)
+}
+
+/// The bytes of a handshake that is none: nothing planted, agreed, kept or sent; SHA_80, and a window of width 32.
+fn none_started() -> [u8; 450] {
+    let mut none = [0; 450];
+    none[61] = 2;
+    none[431] = 32;
+    none
 }
 
 /// Every call refuses the bytes with 16 and touches nothing.
@@ -77,7 +84,7 @@ fn refused(bytes: &[u8], report: &[u8]) -> Option<&'static str> {
 /// The bytes are a connection: closing it changes the state alone; a refused call changes nothing; a report is taken or
 /// refused without touching what it must not.
 fn taken(bytes: &[u8], report: &[u8]) -> Option<&'static str> {
-    let number = usize::from(bytes[4]);
+    let number = usize::from(bytes[40]);
     if raw::state(bytes) != (Raw { refusal: 0, written: 0, count: number }) {
         return Some("it is a saved connection, and its state is not told");
     }
@@ -85,7 +92,8 @@ fn taken(bytes: &[u8], report: &[u8]) -> Option<&'static str> {
     let close = raw::close(&mut closed);
     let mut expected = bytes.to_vec();
     if number != 5 {
-        expected[4] = 4;
+        expected[40] = 4;
+        expected[490..].copy_from_slice(&none_started());
     }
     if closed != expected || close.refusal != (if number == 5 { 7 } else { 0 }) {
         return Some("closing it does something else");
@@ -101,10 +109,8 @@ fn taken(bytes: &[u8], report: &[u8]) -> Option<&'static str> {
         return Some("a report is not answered, or the output is touched");
     }
     // The window: highest number and marks, and apart from them its width; one that it cannot have becomes the nearest that it can.
-    let width = [bytes[457], bytes[457].clamp(32, 64)].contains(&lent.state[457]);
-    let unchanged = width
-        && [&lent.state[..435], &lent.state[445..457], &lent.state[458..]]
-            == [&bytes[..435], &bytes[445..457], &bytes[458..]];
+    let width = [bytes[471], bytes[471].clamp(32, 64)].contains(&lent.state[471]);
+    let unchanged = width && [&lent.state[..471], &lent.state[482..]] == [&bytes[..471], &bytes[482..]];
     match (unchanged, lent.answers[0]) {
         (false, _) => Some("a report changes more than the window"),
         (true, 11) if lent.state != bytes => Some("a refused report changes the window"),
@@ -135,11 +141,11 @@ fn written(bytes: &[u8], hello: &[u8]) -> Option<&'static str> {
     let mut lent = Lent::new(bytes);
     let given = raw::send_data(&mut lent.state, b"x", &mut lent.out);
     match given.refusal {
-        0 if given.written != 4 + [10, 20][usize::from(bytes[65] - 2)] => {
+        0 if given.written != 4 + [10, 20][usize::from(bytes[101] - 2)] => {
             Some("another size is sent")
         }
         0 if !counted(&lent.out, given.written) => Some("a send writes more than it counts"),
-        0 if lent.state[..445] != bytes[..445] => Some("a send changes more than our numbers"),
+        0 if [&lent.state[40..482], &lent.state[490..]] != [&bytes[40..482], &bytes[490..]] => Some("a send changes more than our numbers"),
         0 => None,
         7 | 8 | 15 if lent == Lent::new(bytes) && given.written == 0 => None,
         _ => Some("a send is refused with another number, or touches something"),
@@ -150,8 +156,8 @@ fn written(bytes: &[u8], hello: &[u8]) -> Option<&'static str> {
 fn lengths() -> Result<(), String> {
     let link = Link::in_state(State::Open, Kind::Sha80);
     let report = link.record(Content::Data, 19, b"report");
-    let saved = [&link.connection.save()[..], &[0; 600]].concat();
-    for length in (0..saved.len()).filter(|length| *length != 490) {
+    let saved = [&link.connection.save()[..], &[0; 1200]].concat();
+    for length in (0..saved.len()).filter(|length| *length != 940) {
         if let Some(wrong) = refused(&saved[..length], &report) {
             return Err(format!("trials: {length} bytes lent as a connection: {wrong}"));
         }

@@ -132,5 +132,5 @@ fn arrive(connection: &mut Connection, datagram: &[u8]) -> bool {
 /// The window among the saved bytes: highest number, marks and width (crates/lent/specs/Saved.antt has the places).
 fn window(connection: &Connection) -> Vec<u8> {
     let saved = connection.save();
-    [&saved[435..445], &saved[457..]].concat()
+    saved[471..482].to_vec()
 }

@@ -67,10 +67,10 @@ impl Cases {
     fn fresh(&mut self) {
         for id in [0, 1, 7, 8, 9, 20] {
             for secret in [0, 1, 8, 19, 20, 21] {
-                for room in [0, 1, 489, 490, 491] {
+                for room in [0, 1, 939, 940, 941] {
                     let mut state = vec![0x5a; room];
                     let given = raw::fresh(&vec![1; id], &vec![2; secret], 45, &mut state);
-                    let taken = (id, secret, room) == (8, 20, 490);
+                    let taken = (id, secret, room) == (8, 20, 940);
                     let right = match taken {
                         true => given.refusal == 0 && raw::state(&state).count == 0,
                         false => given.refusal == 16 && state == vec![0x5a; room],
@@ -94,7 +94,7 @@ impl Cases {
             };
             self.expect(&format!("fresh with width {width}"), right, given);
         }
-        for room in [0, 489, 490, 491] {
+        for room in [0, 939, 940, 941] {
             let state = vec![0x5a; room];
             for given in [raw::width(&state), raw::arrived(&state)] {
                 let right = (given.refusal, given.written, given.count) == (16, 0, 0);
@@ -106,7 +106,7 @@ impl Cases {
     /// A sound datagram, with everything else that is lent at its limits: 16, then 6.
     fn receive(&mut self, link: &Link) {
         let report = link.record(Content::Data, 19, b"report");
-        for state in [0, 1, 489, 490, 491] {
+        for state in [0, 1, 939, 940, 941] {
             for tally in [0, 1, 15, 16, 17] {
                 for answers in [0, 1, 24, 191, 192, 193] {
                     for random in [0, 1, 15, 16, 17] {
@@ -118,7 +118,7 @@ impl Cases {
                             lent.out.resize(room, 0xa5);
                             let before = lent.clone();
                             let given = lent.receive(&report, &vec![0x80; random]);
-                            let sizes = (state, tally, answers, random) == (490, 16, 192, 16);
+                            let sizes = (state, tally, answers, random) == (940, 16, 192, 16);
                             let right = match (sizes, room < 128) {
                                 (false, _) => given.refusal == 16 && lent == before,
                                 (true, true) => given.refusal == 6 && lent == before,

@@ -3,7 +3,6 @@ use mathlib.Core.Path.{sym, _∙_, ap}
 use Prim.Native.Nat.{ℕ}
 use Rattle.record.specs.Window.{arrivalOf}
 use Rattle.record.specs.declared.window.Window.{Window}
-use Rattle.lent.specs.Saved.{handshakeIn, protectionIn}
 use Rattle.lent.specs.Calls.{resultOf, arrivedResult}
 use Rattle.lent.proofs.Calling.{saved-size, test-yes, test-no}
 use borrow.Author.Needs.{needs}
@@ -13,8 +12,8 @@ use Rattle.lent.proofs.arrived.Tie as tie
 is-saved-requires : tie.Need-is-saved-requires
 is-saved-requires c κs = search needs
 
-window-in-requires : tie.Need-window-in-requires
-window-in-requires c κs = saved-size (c .before .before .before .args .state .now) (sym (c .before .is-saved .ensures) ∙ c .if1 .taken)
+open-window-requires : tie.Need-open-window-requires
+open-window-requires c κs = saved-size (c .before .before .before .args .state .now) (sym (c .before .is-saved .ensures) ∙ c .if1 .taken)
 
 arrival-requires : tie.Need-arrival-requires
 arrival-requires c κs = search needs
@@ -26,10 +25,10 @@ result-of-requires : tie.Need-result-of-requires
 result-of-requires c κs = search needs
 
 returns : tie.Need-returns
-unfolding arrivedResult handshakeIn protectionIn
+unfolding arrivedResult
 returns c =
     test-yes _ (c .before .before .before .before .is-saved .ensures) (c .before .before .before .if1 .taken)
-    (c .result-of .ensures ∙ ap (λ (n : ℕ). resultOf 0 0 n) (c .before .arrival .ensures .0 ∙ ap (λ (w : Window). arrivalOf w) (c .before .before .window-in .ensures)))
+    (c .result-of .ensures ∙ ap (λ (n : ℕ). resultOf 0 0 n) (c .before .arrival .ensures .0 ∙ ap (λ (w : Window). arrivalOf w) (c .before .before .open-window .ensures)))
 
 not-taken-requires : tie.Need-not-taken-requires
 not-taken-requires c κs = search needs
@@ -43,7 +42,7 @@ arrived-spec =
     tie.close
     (tie.spec
     is-saved-requires
-    window-in-requires
+    open-window-requires
     arrival-requires
     cast-result-of
     result-of-requires

@@ -14,7 +14,7 @@ shared-slice-read-number : tie.Need-shared-slice-read-number
 shared-slice-read-number c = omega (arith, saved-size (c .before .before .before .before .args .state .now) (sym (c .before .before .is-saved .ensures) ∙ c .before .if1 .taken))
 
 cast-result-of : tie.Need-cast-result-of
-cast-result-of c = omega (arith, c .shared-slice-known2 .given 4)
+cast-result-of c = omega (arith, c .shared-slice-known2 .given 40)
 
 result-of-requires : tie.Need-result-of-requires
 result-of-requires c κs = search needs

@@ -2,7 +2,6 @@
 use mathlib.Core.Path.{sym, _∙_, ap}
 use Prim.Native.Nat.{ℕ}
 use Rattle.record.specs.declared.window.Window.{Window}
-use Rattle.lent.specs.Saved.{handshakeIn, protectionIn}
 use Rattle.lent.specs.Calls.{resultOf, widthResult}
 use Rattle.lent.proofs.Calling.{saved-size, test-yes, test-no}
 use borrow.Author.Needs.{needs}
@@ -12,8 +11,8 @@ use Rattle.lent.proofs.width.Tie as tie
 is-saved-requires : tie.Need-is-saved-requires
 is-saved-requires c κs = search needs
 
-window-in-requires : tie.Need-window-in-requires
-window-in-requires c κs = saved-size (c .before .before .before .args .state .now) (sym (c .before .is-saved .ensures) ∙ c .if1 .taken)
+open-window-requires : tie.Need-open-window-requires
+open-window-requires c κs = saved-size (c .before .before .before .args .state .now) (sym (c .before .is-saved .ensures) ∙ c .if1 .taken)
 
 cast-result-of : tie.Need-cast-result-of
 cast-result-of c = search needs
@@ -22,10 +21,10 @@ result-of-requires : tie.Need-result-of-requires
 result-of-requires c κs = search needs
 
 returns : tie.Need-returns
-unfolding widthResult handshakeIn protectionIn
+unfolding widthResult
 returns c =
     test-yes _ (c .before .before .before .before .is-saved .ensures) (c .before .before .before .if1 .taken)
-    (c .result-of .ensures ∙ ap (λ (n : ℕ). resultOf 0 0 n) (ap (λ (w : Window). w .width) (c .before .before .window-in .ensures)))
+    (c .result-of .ensures ∙ ap (λ (n : ℕ). resultOf 0 0 n) (ap (λ (w : Window). w .width) (c .before .before .open-window .ensures)))
 
 not-taken-requires : tie.Need-not-taken-requires
 not-taken-requires c κs = search needs
@@ -39,7 +38,7 @@ width-spec =
     tie.close
     (tie.spec
     is-saved-requires
-    window-in-requires
+    open-window-requires
     cast-result-of
     result-of-requires
     returns

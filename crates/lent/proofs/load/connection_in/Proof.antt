@@ -1,53 +1,50 @@
--- `load::connection_in`: group by group.
-use Rattle.lent.specs.Saved.{handshakeIn}
+-- `load::connection_in`: two handshakes, and the records sent.
 use borrow.Author.Needs.{needs}
 use Rattle.lent.proofs.load.connection_in.Statement.{statement}
 use Rattle.lent.proofs.load.connection_in.Tie as tie
 
-shared-slice-read-state-numbered : tie.Need-shared-slice-read-state-numbered
-shared-slice-read-state-numbered c = search needs
+sub-handshake-in : tie.Need-sub-handshake-in
+sub-handshake-in c = search needs
 
-state-numbered-requires : tie.Need-state-numbered-requires
-state-numbered-requires c κs = search needs
+part-handshake-in-start : tie.Need-part-handshake-in-start
+part-handshake-in-start c = search needs
 
-id-in-requires : tie.Need-id-in-requires
-id-in-requires c κs = search needs
+part-handshake-in-end : tie.Need-part-handshake-in-end
+part-handshake-in-end c = search needs
 
-expected-in-requires : tie.Need-expected-in-requires
-expected-in-requires c κs = search needs
+handshake-in-requires : tie.Need-handshake-in-requires
+handshake-in-requires c κs = search needs
 
-kept-in-requires : tie.Need-kept-in-requires
-kept-in-requires c κs = search needs
+sub-handshake-in-2 : tie.Need-sub-handshake-in-2
+sub-handshake-in-2 c = search needs
+
+part-handshake-in-start-2 : tie.Need-part-handshake-in-start-2
+part-handshake-in-start-2 c = search needs
+
+part-handshake-in-end-2 : tie.Need-part-handshake-in-end-2
+part-handshake-in-end-2 c = search needs
+
+handshake-in-requires-2 : tie.Need-handshake-in-requires-2
+handshake-in-requires-2 c κs = search needs
 
 sent-in-requires : tie.Need-sent-in-requires
 sent-in-requires c κs = search needs
 
-protection-in-requires : tie.Need-protection-in-requires
-protection-in-requires c κs = search needs
-
 returns : tie.Need-returns
-unfolding handshakeIn
 returns c =
-    λ i. record {
-      handshake = record {
-        state = c .before .before .before .before .before .state-numbered .ensures i;
-        id = c .before .before .before .before .id-in .ensures i;
-        expected = c .before .before .before .expected-in .ensures i;
-        kept = c .before .before .kept-in .ensures i;
-        sent = c .before .sent-in .ensures i;
-        protection = c .protection-in .ensures i;
-      };
-    }
+    λ i. record { handshake = c .before .before .before .handshake-in .ensures i; started = c .before .handshake-in2 .ensures i; sent = c .sent-in .ensures i }
 
 pub connection-in-spec : {M : Type 1} → statement M
 connection-in-spec =
     tie.close
     (tie.spec
-    shared-slice-read-state-numbered
-    state-numbered-requires
-    id-in-requires
-    expected-in-requires
-    kept-in-requires
+    sub-handshake-in
+    part-handshake-in-start
+    part-handshake-in-end
+    handshake-in-requires
+    sub-handshake-in-2
+    part-handshake-in-start-2
+    part-handshake-in-end-2
+    handshake-in-requires-2
     sent-in-requires
-    protection-in-requires
     returns)

@@ -21,7 +21,7 @@ put-requires : tie.Need-put-requires
 put-requires c κs = search needs
 
 returns : tie.Need-returns
-returns c = part-filled 8 5 (c .before .before .before .before .before .args .b .now) (c .before .put .last .0) (omega (arith, c .before .before .before .before .before .pre)) (c .before .put .ensures)
+returns c = part-filled 8 1 (c .before .before .before .before .before .args .s .now) (c .before .put .last .0) (omega (arith, c .before .before .before .before .before .pre)) (c .before .put .ensures)
 
 pub id-in-spec : {M : Type 1} → statement M
 id-in-spec =

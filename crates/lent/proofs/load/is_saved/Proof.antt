@@ -1,10 +1,8 @@
 -- `load::is_saved`: the tests in their order.
 use mathlib.Core.Path.{_≡_, refl, sym}
+use mathlib.Core.Bool.{Bool, false}
 use Rattle.digest.proofs.Picks.{picks}
-use mathlib.Core.Bool.{Bool, true, false}
 use Rattle.lent.specs.Saved.{isSaved}
-use lib.Dec.{eqb}
-use lib.ListN.{getD}
 use borrow.Author.Needs.{needs}
 use Rattle.lent.proofs.load.is_saved.Statement.{statement}
 use Rattle.lent.proofs.load.is_saved.Tie as tie
@@ -20,26 +18,37 @@ returns-2 : tie.Need-returns-2
 unfolding isSaved
 returns-2 c = let same : _≡_ {A = Bool} false false = refl in rw (sym (c .before .four-in .ensures)) (search picks)
 
-shared-slice-read-if3 : tie.Need-shared-slice-read-if3
-shared-slice-read-if3 c = search needs
+sub-is-handshake : tie.Need-sub-is-handshake
+sub-is-handshake c = search needs
+
+part-is-handshake-start : tie.Need-part-is-handshake-start
+part-is-handshake-start c = search needs
+
+part-is-handshake-end : tie.Need-part-is-handshake-end
+part-is-handshake-end c = search needs
+
+is-handshake-requires : tie.Need-is-handshake-requires
+is-handshake-requires c κs = search needs
+
+sub-is-handshake-2 : tie.Need-sub-is-handshake-2
+sub-is-handshake-2 c = search needs
+
+part-is-handshake-start-2 : tie.Need-part-is-handshake-start-2
+part-is-handshake-start-2 c = search needs
+
+part-is-handshake-end-2 : tie.Need-part-is-handshake-end-2
+part-is-handshake-end-2 c = search needs
+
+is-handshake-requires-2 : tie.Need-is-handshake-requires-2
+is-handshake-requires-2 c κs = search needs
 
 returns-3 : tie.Need-returns-3
 unfolding isSaved
-returns-3 c = let same : _≡_ {A = Bool} false false = refl in rw (sym (c .before .before .before .four-in .ensures)) (search picks)
-
-shared-slice-read-if4 : tie.Need-shared-slice-read-if4
-shared-slice-read-if4 c = search needs
+returns-3 c = let is = c .is-handshake2 .ensures in rw (sym (c .before .before .before .before .before .before .four-in .ensures)) (rw (sym (c .before .before .before .is-handshake .ensures)) (search picks))
 
 returns-4 : tie.Need-returns-4
 unfolding isSaved
-returns-4 c = let same : _≡_ {A = Bool} true true = refl in rw (sym (c .before .before .before .before .before .four-in .ensures)) (search picks)
-
-shared-slice-read-result : tie.Need-shared-slice-read-result
-shared-slice-read-result c = search needs
-
-returns-5 : tie.Need-returns-5
-unfolding isSaved
-returns-5 c = let last = eqb (getD (c .before .before .before .before .before .before .before .before .before .args .b .now) 65 0) 3 in let same : last ≡ last = refl in rw (sym (c .before .before .before .before .before .before .four-in .ensures)) (search picks)
+returns-4 c = let same : _≡_ {A = Bool} false false = refl in rw (sym (c .before .before .before .before .four-in .ensures)) (rw (sym (c .before .is-handshake .ensures)) (search picks))
 
 pub is-saved-spec : {M : Type 1} → statement M
 is-saved-spec =
@@ -48,9 +57,13 @@ is-saved-spec =
     returns
     four-in-requires
     returns-2
-    shared-slice-read-if3
+    sub-is-handshake
+    part-is-handshake-start
+    part-is-handshake-end
+    is-handshake-requires
+    sub-is-handshake-2
+    part-is-handshake-start-2
+    part-is-handshake-end-2
+    is-handshake-requires-2
     returns-3
-    shared-slice-read-if4
-    returns-4
-    shared-slice-read-result
-    returns-5)
+    returns-4)

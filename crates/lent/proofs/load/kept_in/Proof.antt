@@ -45,8 +45,8 @@ eight-in-requires-2 c κs = search needs
 returns : tie.Need-returns
 unfolding keptIn
 returns c =
-    let b = c .before .before .before .before .before .before .before .before .before .before .before .args .b .now in
-    λ i. record { hello = part-filled 256 79 b (c .before .before .before .before .before .before .before .put .last .0) (omega (arith, c .before .before .before .before .before .before .before .before .before .before .before .pre)) (c .before .before .before .before .before .before .before .put .ensures) i; heard = c .before .eight-in .ensures i; reply = part-filled 84 343 b (c .before .before .before .put2 .last .0) (omega (arith, c .before .before .before .before .before .before .before .before .before .before .before .pre)) (c .before .before .before .put2 .ensures) i; size = c .eight-in2 .ensures i }
+    let b = c .before .before .before .before .before .before .before .before .before .before .before .args .s .now in
+    λ i. record { hello = part-filled 256 75 b (c .before .before .before .before .before .before .before .put .last .0) (omega (arith, c .before .before .before .before .before .before .before .before .before .before .before .pre)) (c .before .before .before .before .before .before .before .put .ensures) i; heard = c .before .eight-in .ensures i; reply = part-filled 84 339 b (c .before .before .before .put2 .last .0) (omega (arith, c .before .before .before .before .before .before .before .before .before .before .before .pre)) (c .before .before .before .put2 .ensures) i; size = c .eight-in2 .ensures i }
 
 pub kept-in-spec : {M : Type 1} → statement M
 kept-in-spec =

@@ -64,13 +64,13 @@ shared-slice-read-t29 c = search needs
 returns : tie.Need-returns
 unfolding keysIn
 returns c =
-    let b = c .before .before .before .before .before .before .before .before .before .before .before .before .before .before .before .before .args .b .now in
+    let b = c .before .before .before .before .before .before .before .before .before .before .before .before .before .before .before .before .args .s .now in
     λ i. record {
-      secret = part-filled 20 13 b (c .before .before .before .before .before .before .before .before .before .before .before .before .put .last .0) (omega (arith, c .before .before .before .before .before .before .before .before .before .before .before .before .before .before .before .before .pre)) (c .before .before .before .before .before .before .before .before .before .before .before .before .put .ensures) i;
-      server = part-filled 16 33 b (c .before .before .before .before .before .before .before .before .put2 .last .0) (omega (arith, c .before .before .before .before .before .before .before .before .before .before .before .before .before .before .before .before .pre)) (c .before .before .before .before .before .before .before .before .put2 .ensures) i;
-      client = part-filled 16 49 b (c .before .before .before .before .put3 .last .0) (omega (arith, c .before .before .before .before .before .before .before .before .before .before .before .before .before .before .before .before .pre)) (c .before .before .before .before .put3 .ensures) i;
+      secret = part-filled 20 9 b (c .before .before .before .before .before .before .before .before .before .before .before .before .put .last .0) (omega (arith, c .before .before .before .before .before .before .before .before .before .before .before .before .before .before .before .before .pre)) (c .before .before .before .before .before .before .before .before .before .before .before .before .put .ensures) i;
+      server = part-filled 16 29 b (c .before .before .before .before .before .before .before .before .put2 .last .0) (omega (arith, c .before .before .before .before .before .before .before .before .before .before .before .before .before .before .before .before .pre)) (c .before .before .before .before .before .before .before .before .put2 .ensures) i;
+      client = part-filled 16 45 b (c .before .before .before .before .put3 .last .0) (omega (arith, c .before .before .before .before .before .before .before .before .before .before .before .before .before .before .before .before .pre)) (c .before .before .before .before .put3 .ensures) i;
       mac = c .before .mac-numbered .ensures i;
-      refresh = getD b 66 0;
+      refresh = getD b 62 0;
     }
 
 pub keys-in-spec : {M : Type 1} → statement M

@@ -17,8 +17,8 @@ eight-in-requires c κs = search needs
 returns : tie.Need-returns
 unfolding windowIn
 returns c =
-    let b = c .before .before .before .before .args .b .now in
-    λ i. record { width = getD b 457 0; highest = c .before .two-in .ensures i; marks = c .eight-in .ensures i }
+    let s = c .before .before .before .before .args .s .now in
+    λ i. record { width = getD s 431 0; highest = c .before .two-in .ensures i; marks = c .eight-in .ensures i }
 
 pub window-in-spec : {M : Type 1} → statement M
 window-in-spec =

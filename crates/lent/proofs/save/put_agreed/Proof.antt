@@ -54,11 +54,11 @@ returns c =
     let l-server : length (keys .server) ≡ 16 = search (needs, c .before .before .before .before .before .before .before .before .before .before .before .before .before .before .before .before .before .before .before .before .before .before .before .before .before .before .before .before .before .good .1 .0) in
     let l-client : length (keys .client) ≡ 16 = search (needs, c .before .before .before .before .before .before .before .before .before .before .before .before .before .before .before .before .before .before .before .before .before .before .before .before .before .before .before .before .before .good .1 .0) in
     let l-expected : length (expected) ≡ 12 = search (needs, c .before .before .before .before .before .before .before .before .before .before .before .before .before .before .before .before .before .before .before .before .before .before .before .before .before .before .before .before .before .good .1 .1 .0) in
-    let one = laid-more 33 16 (keys .server) (keys .server) (c .before .before .before .before .before .before .before .before .before .before .before .before .before .before .before .before .before .before .before .before .before .before .before .before .put .last .0) (laid-none d 33 (omega (arith, c .before .before .before .before .before .before .before .before .before .before .before .before .before .before .before .before .before .before .before .before .before .before .before .before .before .before .before .before .before .pre))) refl refl l-server (omega (arith, c .before .before .before .before .before .before .before .before .before .before .before .before .before .before .before .before .before .before .before .before .before .before .before .before .before .before .before .before .before .pre)) (c .before .before .before .before .before .before .before .before .before .before .before .before .before .before .before .before .before .before .before .before .before .before .before .before .put .ensures) in
-    let two = laid-more 49 16 (keys .client) (keys .client) (c .before .before .before .before .before .before .before .before .before .before .before .before .before .before .before .before .before .before .put2 .last .0) one refl refl l-client (omega (arith, c .before .before .before .before .before .before .before .before .before .before .before .before .before .before .before .before .before .before .before .before .before .before .before .before .before .before .before .before .before .pre)) (c .before .before .before .before .before .before .before .before .before .before .before .before .before .before .before .before .before .before .put2 .ensures) in
-    let three = laid-more 65 1 (c .before .before .before .before .before .before .before .before .before .before .before .before .before .before .before .number .result ∷ []) (numberOf (keys .mac) ∷ []) (c .before .before .before .before .before .before .before .before .before .before .before .before .put3 .last .0) two refl (ap (λ x. x ∷ []) (c .before .before .before .before .before .before .before .before .before .before .before .before .before .before .before .number .ensures)) refl (omega (arith, c .before .before .before .before .before .before .before .before .before .before .before .before .before .before .before .before .before .before .before .before .before .before .before .before .before .before .before .before .before .pre)) (c .before .before .before .before .before .before .before .before .before .before .before .before .put3 .ensures) in
-    let four = laid-more 66 1 (keys .refresh ∷ []) (keys .refresh ∷ []) (c .before .before .before .before .before .before .before .put4 .last .0) three refl refl refl (omega (arith, c .before .before .before .before .before .before .before .before .before .before .before .before .before .before .before .before .before .before .before .before .before .before .before .before .before .before .before .before .before .pre)) (c .before .before .before .before .before .before .before .put4 .ensures) in
-    let five = laid-more 67 12 (expected) (expected) (c .before .before .put5 .last .0) four refl refl l-expected (omega (arith, c .before .before .before .before .before .before .before .before .before .before .before .before .before .before .before .before .before .before .before .before .before .before .before .before .before .before .before .before .before .pre)) (c .before .before .put5 .ensures) in
+    let one = laid-more 29 16 (keys .server) (keys .server) (c .before .before .before .before .before .before .before .before .before .before .before .before .before .before .before .before .before .before .before .before .before .before .before .before .put .last .0) (laid-none d 29 (omega (arith, c .before .before .before .before .before .before .before .before .before .before .before .before .before .before .before .before .before .before .before .before .before .before .before .before .before .before .before .before .before .pre))) refl refl l-server (omega (arith, c .before .before .before .before .before .before .before .before .before .before .before .before .before .before .before .before .before .before .before .before .before .before .before .before .before .before .before .before .before .pre)) (c .before .before .before .before .before .before .before .before .before .before .before .before .before .before .before .before .before .before .before .before .before .before .before .before .put .ensures) in
+    let two = laid-more 45 16 (keys .client) (keys .client) (c .before .before .before .before .before .before .before .before .before .before .before .before .before .before .before .before .before .before .put2 .last .0) one refl refl l-client (omega (arith, c .before .before .before .before .before .before .before .before .before .before .before .before .before .before .before .before .before .before .before .before .before .before .before .before .before .before .before .before .before .pre)) (c .before .before .before .before .before .before .before .before .before .before .before .before .before .before .before .before .before .before .put2 .ensures) in
+    let three = laid-more 61 1 (c .before .before .before .before .before .before .before .before .before .before .before .before .before .before .before .number .result ∷ []) (numberOf (keys .mac) ∷ []) (c .before .before .before .before .before .before .before .before .before .before .before .before .put3 .last .0) two refl (ap (λ x. x ∷ []) (c .before .before .before .before .before .before .before .before .before .before .before .before .before .before .before .number .ensures)) refl (omega (arith, c .before .before .before .before .before .before .before .before .before .before .before .before .before .before .before .before .before .before .before .before .before .before .before .before .before .before .before .before .before .pre)) (c .before .before .before .before .before .before .before .before .before .before .before .before .put3 .ensures) in
+    let four = laid-more 62 1 (keys .refresh ∷ []) (keys .refresh ∷ []) (c .before .before .before .before .before .before .before .put4 .last .0) three refl refl refl (omega (arith, c .before .before .before .before .before .before .before .before .before .before .before .before .before .before .before .before .before .before .before .before .before .before .before .before .before .before .before .before .before .pre)) (c .before .before .before .before .before .before .before .put4 .ensures) in
+    let five = laid-more 63 12 (expected) (expected) (c .before .before .put5 .last .0) four refl refl l-expected (omega (arith, c .before .before .before .before .before .before .before .before .before .before .before .before .before .before .before .before .before .before .before .before .before .before .before .before .before .before .before .before .before .pre)) (c .before .before .put5 .ensures) in
     (five .bytes, (five .count, (l-server, (l-client, l-expected))))
 
 pub put-agreed-spec : {M : Type 1} → statement M

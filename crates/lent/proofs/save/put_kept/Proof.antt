@@ -48,10 +48,10 @@ returns c =
     let kept = c .before .before .before .before .before .before .before .before .before .before .before .before .before .before .before .before .before .before .before .before .before .before .before .before .before .args .kept in
     let l-hello : length (kept .hello) ≡ 256 = search (needs, c .before .before .before .before .before .before .before .before .before .before .before .before .before .before .before .before .before .before .before .before .before .before .before .before .before .good .1 .0) in
     let l-reply : length (kept .reply) ≡ 84 = search (needs, c .before .before .before .before .before .before .before .before .before .before .before .before .before .before .before .before .before .before .before .before .before .before .before .before .before .good .1 .0) in
-    let one = laid-more 79 256 (kept .hello) (kept .hello) (c .before .before .before .before .before .before .before .before .before .before .before .before .before .before .before .before .before .before .before .before .put .last .0) (laid-none d 79 (omega (arith, c .before .before .before .before .before .before .before .before .before .before .before .before .before .before .before .before .before .before .before .before .before .before .before .before .before .pre))) refl refl l-hello (omega (arith, c .before .before .before .before .before .before .before .before .before .before .before .before .before .before .before .before .before .before .before .before .before .before .before .before .before .pre)) (c .before .before .before .before .before .before .before .before .before .before .before .before .before .before .before .before .before .before .before .before .put .ensures) in
-    let two = laid-more 335 8 (c .before .before .before .before .before .before .before .before .before .before .before .before .before .before .before .before .before .eight .result) (bytes8 (kept .heard)) (c .before .before .before .before .before .before .before .before .before .before .before .before .before .before .put2 .last .0) one refl (c .before .before .before .before .before .before .before .before .before .before .before .before .before .before .before .before .before .eight .ensures) (length-eight (kept .heard)) (omega (arith, c .before .before .before .before .before .before .before .before .before .before .before .before .before .before .before .before .before .before .before .before .before .before .before .before .before .pre)) (c .before .before .before .before .before .before .before .before .before .before .before .before .before .before .put2 .ensures) in
-    let three = laid-more 343 84 (kept .reply) (kept .reply) (c .before .before .before .before .before .before .before .before .put3 .last .0) two refl refl l-reply (omega (arith, c .before .before .before .before .before .before .before .before .before .before .before .before .before .before .before .before .before .before .before .before .before .before .before .before .before .pre)) (c .before .before .before .before .before .before .before .before .put3 .ensures) in
-    let four = laid-more 427 8 (c .before .before .before .before .before .eight2 .result) (bytes8 (kept .size)) (c .before .before .put4 .last .0) three refl (c .before .before .before .before .before .eight2 .ensures) (length-eight (kept .size)) (omega (arith, c .before .before .before .before .before .before .before .before .before .before .before .before .before .before .before .before .before .before .before .before .before .before .before .before .before .pre)) (c .before .before .put4 .ensures) in
+    let one = laid-more 75 256 (kept .hello) (kept .hello) (c .before .before .before .before .before .before .before .before .before .before .before .before .before .before .before .before .before .before .before .before .put .last .0) (laid-none d 75 (omega (arith, c .before .before .before .before .before .before .before .before .before .before .before .before .before .before .before .before .before .before .before .before .before .before .before .before .before .pre))) refl refl l-hello (omega (arith, c .before .before .before .before .before .before .before .before .before .before .before .before .before .before .before .before .before .before .before .before .before .before .before .before .before .pre)) (c .before .before .before .before .before .before .before .before .before .before .before .before .before .before .before .before .before .before .before .before .put .ensures) in
+    let two = laid-more 331 8 (c .before .before .before .before .before .before .before .before .before .before .before .before .before .before .before .before .before .eight .result) (bytes8 (kept .heard)) (c .before .before .before .before .before .before .before .before .before .before .before .before .before .before .put2 .last .0) one refl (c .before .before .before .before .before .before .before .before .before .before .before .before .before .before .before .before .before .eight .ensures) (length-eight (kept .heard)) (omega (arith, c .before .before .before .before .before .before .before .before .before .before .before .before .before .before .before .before .before .before .before .before .before .before .before .before .before .pre)) (c .before .before .before .before .before .before .before .before .before .before .before .before .before .before .put2 .ensures) in
+    let three = laid-more 339 84 (kept .reply) (kept .reply) (c .before .before .before .before .before .before .before .before .put3 .last .0) two refl refl l-reply (omega (arith, c .before .before .before .before .before .before .before .before .before .before .before .before .before .before .before .before .before .before .before .before .before .before .before .before .before .pre)) (c .before .before .before .before .before .before .before .before .put3 .ensures) in
+    let four = laid-more 423 8 (c .before .before .before .before .before .eight2 .result) (bytes8 (kept .size)) (c .before .before .put4 .last .0) three refl (c .before .before .before .before .before .eight2 .ensures) (length-eight (kept .size)) (omega (arith, c .before .before .before .before .before .before .before .before .before .before .before .before .before .before .before .before .before .before .before .before .before .before .before .before .before .pre)) (c .before .before .put4 .ensures) in
     let n-heard : kept .heard < 18446744073709551616 = search (needs, c .before .before .before .before .before .before .before .before .before .before .before .before .before .before .before .before .before .before .before .before .before .before .before .before .before .good .1 .0) in
     let n-size : kept .size < 18446744073709551616 = search (needs, c .before .before .before .before .before .before .before .before .before .before .before .before .before .before .before .before .before .before .before .before .before .before .before .before .before .good .1 .0) in
     (four .bytes, (four .count, (l-hello, (n-heard, (l-reply, n-size)))))

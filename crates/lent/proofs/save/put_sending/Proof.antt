@@ -1,4 +1,4 @@
--- `save::put_sending`: three fields.
+-- `save::put_sending`: two fields.
 use mathlib.Core.Path.{refl}
 use Prim.Native.Nat.{_<_}
 use native.Mathlib.Omega.{arith}
@@ -26,30 +26,18 @@ slice-aggregate-put-2 c = search needs
 put-requires-2 : tie.Need-put-requires-2
 put-requires-2 c κs = search needs
 
-four-requires-3 : tie.Need-four-requires-3
-four-requires-3 c κs = search needs
-
-slice-aggregate-put-3 : tie.Need-slice-aggregate-put-3
-slice-aggregate-put-3 c = search needs
-
-put-requires-3 : tie.Need-put-requires-3
-put-requires-3 c κs = search needs
-
 same-length : tie.Need-same-length
 same-length c = search needs
 
 returns : tie.Need-returns
 returns c =
-    let d = c .before .before .before .before .before .before .before .before .before .before .before .before .before .before .before .before .before .before .before .args .d .now in
-    let protection = c .before .before .before .before .before .before .before .before .before .before .before .before .before .before .before .before .before .before .before .args .protection in
-    let count = c .before .before .before .before .before .before .before .before .before .before .before .before .before .before .before .before .before .before .before .args .count in
-    let one = laid-more 445 4 (c .before .before .before .before .before .before .before .before .before .before .before .before .before .before .before .before .before .four .result) (bytes4 (protection .protected)) (c .before .before .before .before .before .before .before .before .before .before .before .before .before .before .put .last .0) (laid-none d 445 (omega (arith, c .before .before .before .before .before .before .before .before .before .before .before .before .before .before .before .before .before .before .before .pre))) refl (c .before .before .before .before .before .before .before .before .before .before .before .before .before .before .before .before .before .four .ensures) refl (omega (arith, c .before .before .before .before .before .before .before .before .before .before .before .before .before .before .before .before .before .before .before .pre)) (c .before .before .before .before .before .before .before .before .before .before .before .before .before .before .put .ensures) in
-    let two = laid-more 449 4 (c .before .before .before .before .before .before .before .before .before .before .before .four2 .result) (bytes4 (protection .clear)) (c .before .before .before .before .before .before .before .before .put2 .last .0) one refl (c .before .before .before .before .before .before .before .before .before .before .before .four2 .ensures) refl (omega (arith, c .before .before .before .before .before .before .before .before .before .before .before .before .before .before .before .before .before .before .before .pre)) (c .before .before .before .before .before .before .before .before .put2 .ensures) in
-    let three = laid-more 453 4 (c .before .before .before .before .before .four3 .result) (bytes4 (count)) (c .before .before .put3 .last .0) two refl (c .before .before .before .before .before .four3 .ensures) refl (omega (arith, c .before .before .before .before .before .before .before .before .before .before .before .before .before .before .before .before .before .before .before .pre)) (c .before .before .put3 .ensures) in
-    let n-protected : protection .protected < 4294967296 = search (needs, c .before .before .before .before .before .before .before .before .before .before .before .before .before .before .before .before .before .before .before .good .1 .0) in
-    let n-clear : protection .clear < 4294967296 = search (needs, c .before .before .before .before .before .before .before .before .before .before .before .before .before .before .before .before .before .before .before .good .1 .0) in
-    let n-count : count < 4294967296 = search (needs, c .before .before .before .before .before .before .before .before .before .before .before .before .before .before .before .before .before .before .before .fits .count) in
-    (three .bytes, (three .count, (n-protected, (n-clear, n-count))))
+    let d = c .before .before .before .before .before .before .before .before .before .before .before .before .before .args .d .now in
+    let protection = c .before .before .before .before .before .before .before .before .before .before .before .before .before .args .protection in
+    let one = laid-more 442 4 (c .before .before .before .before .before .before .before .before .before .before .before .four .result) (bytes4 (protection .protected)) (c .before .before .before .before .before .before .before .before .put .last .0) (laid-none d 442 (omega (arith, c .before .before .before .before .before .before .before .before .before .before .before .before .before .pre))) refl (c .before .before .before .before .before .before .before .before .before .before .before .four .ensures) refl (omega (arith, c .before .before .before .before .before .before .before .before .before .before .before .before .before .pre)) (c .before .before .before .before .before .before .before .before .put .ensures) in
+    let two = laid-more 446 4 (c .before .before .before .before .before .four2 .result) (bytes4 (protection .clear)) (c .before .before .put2 .last .0) one refl (c .before .before .before .before .before .four2 .ensures) refl (omega (arith, c .before .before .before .before .before .before .before .before .before .before .before .before .before .pre)) (c .before .before .put2 .ensures) in
+    let n-protected : protection .protected < 4294967296 = search (needs, c .before .before .before .before .before .before .before .before .before .before .before .before .before .good .1 .0) in
+    let n-clear : protection .clear < 4294967296 = search (needs, c .before .before .before .before .before .before .before .before .before .before .before .before .before .good .1 .0) in
+    (two .bytes, (two .count, (n-protected, n-clear)))
 
 pub put-sending-spec : {M : Type 1} → statement M
 put-sending-spec =
@@ -61,8 +49,5 @@ put-sending-spec =
     four-requires-2
     slice-aggregate-put-2
     put-requires-2
-    four-requires-3
-    slice-aggregate-put-3
-    put-requires-3
     same-length
     returns)
