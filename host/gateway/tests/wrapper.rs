@@ -77,6 +77,6 @@ fn the_numbers_are_those_of_the_header() {
         assert_eq!(defined(name), Some(size), "{name}");
     }
     for (number, name) in [(7, "ENDED"), (9, "FORGED"), (16, "ARGUMENT"), (17, "WRONG_FINISHED")] {
-        assert!(header.contains(&format!("GATEWAY_{name} = {number},")), "{name}");
+        assert!(header.contains(&format!("GATEWAY_{name} = {number}")), "{name}");
     }
 }
