@@ -7,7 +7,8 @@
 //! Ships send data; at most a window of datagrams is under way, and one counts as taken when its row is in the store, so nothing is
 //! lost and each is on the disk. The store is SQLite in the directory, or the PostgreSQL at the address, whose tables are emptied.
 //! Beside it, in the same run, the same datagrams go to a bare UDP echo in a process of its own and come back, and the same rows are
-//! inserted by a program that does nothing else. SHIPS says how many ships: `1 100 10000` if not said. Not a test.
+//! inserted by a program that does nothing else. SHIPS says how many ships: `1 100 10000` if not said. They count in step; with
+//! APART, whatever it says, each is at numbers of its own. Not a test.
 
 use gatewayd::store::engine::{Engine, Value};
 use gatewayd::store::postgres::Postgres;
@@ -126,6 +127,9 @@ fn measure(
     }
     let mut store = Counted { engine: open_to_read(at)?, reports: 0 };
     store.wait_for(ships)?;
+    if std::env::var_os("APART").is_some() {
+        fleet.iter_mut().enumerate().for_each(|(index, ship)| ship.number += (index * 601 % 40_000) as u16);
+    }
     // Made before the clock runs: the ships' work is not the gateway's.
     let made: Vec<(usize, Vec<u8>)> =
         (0..datagrams).map(|turn| (turn % ships, fleet[turn % ships].data())).collect();

@@ -50,6 +50,11 @@ fn first_record(left: &[u8]) -> &[u8] {
     &left[..size.min(left.len())]
 }
 
+/// One clear change cipher spec and nothing else: but for its number the same for everybody.
+pub fn is_change_alone(datagram: &[u8]) -> bool {
+    matches!(datagram, [0x41, _, _, 1] | [0xc1, _, _, 0, 1, 1])
+}
+
 pub fn is_protected(record: &[u8]) -> bool {
     record.first().is_some_and(|type_byte| type_byte & PROTECTED != 0)
 }
@@ -111,6 +116,8 @@ mod tests {
         assert!(is_protected_handshake(&[0xe3]));
         assert!(is_protected(found[1]) && !is_protected(found[0]));
         assert_eq!((number(found[0]), number(found[1]), number(&[1, 2])), (Some(1), Some(0), None));
+        assert!(is_change_alone(&datagram[..6]) && is_change_alone(&[0x41, 0, 1, 1]));
+        assert!(!is_change_alone(&datagram) && !is_change_alone(&[]) && !is_change_alone(found[1]));
         assert_eq!(records(&[]).count(), 0);
         // No bytes make it pass an end.
         for length in 0..6 {

@@ -43,6 +43,8 @@ pub struct Fleet {
     trials: Trials,
     /// Handshakes that an alert in the clear has closed, since the start of the gateway.
     closed_in_clear: u64,
+    /// Hellos that were answered.
+    answered: u64,
 }
 
 #[derive(Clone, PartialEq, Eq, Debug)]
@@ -56,6 +58,8 @@ pub struct Report {
 pub struct Taken {
     /// The ship that it was for.
     pub ship: Option<usize>,
+    /// Others that must be saved, too.
+    pub also: Vec<usize>,
     /// Whether the ship must be saved before anything is sent.
     pub changed: bool,
     /// The ship's tally before it, if it was counted.
@@ -85,6 +89,7 @@ impl Fleet {
             hellos: Shares::new(HELLOS_EACH_SECOND, HELLOS_OF_A_SHARE),
             trials: Trials::default(),
             closed_in_clear: 0,
+            answered: 0,
         };
         for index in 0..fleet.ships.len() {
             fleet.set_route(index);
@@ -121,6 +126,12 @@ impl Fleet {
     pub fn trials(&self) -> u64 {
         self.trials.made
     }
+
+    /// The work that strangers can ask for, since the start, in one line.
+    pub fn work(&self) -> String {
+        let Trials { made, codes, .. } = &self.trials;
+        format!("{made} trials, {codes} codes compared, {} hellos answered", self.answered)
+    }
 }
 
 /// Hellos. Each is for the ship that it names and is answered to its sender; no route moves.
@@ -139,11 +150,13 @@ impl Fleet {
         if !self.may_answer(index, arrival) {
             return noted(Some(index), Note::HelloPassedOver);
         }
-        match under_way {
+        let taken = match under_way {
             _ if is_of_open => self.say_again(Target::Settled(index), arrival),
             Some(place) => self.say_again(Target::Started(index, place), arrival),
             None => self.start(index, hello, arrival),
-        }
+        };
+        self.answered += u64::from(taken.notes.contains(&Note::Answered));
+        taken
     }
 
     /// Hellos from the ship's own host have a budget that no other host can use up.
@@ -208,6 +221,11 @@ impl Fleet {
 /// Everything else. It is for the ship whose keys made it.
 impl Fleet {
     fn take_records(&mut self, arrival: &Arrival) -> Taken {
+        if datagram::is_change_alone(arrival.datagram) {
+            if let Some(taken) = self.take_change(arrival) {
+                return taken;
+            }
+        }
         let known =
             Known { ships: &self.ships, routes: &self.routes, handshakes: &self.handshakes };
         match search::find(&known, &mut self.trials, arrival) {
@@ -230,11 +248,13 @@ impl Fleet {
     ) -> (Target, Trial<'d>) {
         let ship = &self.ships[target.ship()];
         let open = Target::Settled(target.ship());
-        let protected = datagram::records(arrival.datagram).any(datagram::is_protected);
-        if target == open || !ship.is_open() || !protected || trial.opens() {
+        let records = datagram::records(arrival.datagram);
+        let codes = records.filter(|record| datagram::is_protected(record)).count();
+        if target == open || !ship.is_open() || codes == 0 || trial.opens() {
             return (target, trial);
         }
         self.trials.made += 1;
+        self.trials.codes += codes as u64;
         let Ok(found) = arrival.tried_on(ship, open) else { return (target, trial) };
         let nobodys = trial.worth == Worth::Nothing;
         if trial.hears_alert(arrival.datagram) || nobodys && found.worth != Worth::Nothing {
@@ -244,6 +264,28 @@ impl Fleet {
             trial.tally = found.tally;
         }
         (target, trial)
+    }
+
+    /// A change cipher spec alone in a datagram says nothing of whose it is: it is for all handshakes that were begun at this address
+    /// and wait for one. Each waits once, so there are no more trials in this than hellos that were answered.
+    fn take_change(&mut self, arrival: &Arrival) -> Option<Taken> {
+        let mut all: Option<Taken> = None;
+        for (index, serial) in self.handshakes.waiting_at(arrival.way.sender) {
+            let ship = &self.ships[index];
+            let Some(place) = handshakes::place_of(ship, serial) else { continue };
+            if ship.started[place].connection.state() != State::Replied {
+                continue;
+            }
+            let target = Target::Started(index, place);
+            self.trials.made += 1;
+            let Ok(trial) = arrival.tried_on(ship, target) else { continue };
+            let taken = self.settle(target, trial, arrival);
+            match &mut all {
+                Some(all) => all.also.push(index),
+                None => all = Some(taken),
+            }
+        }
+        all
     }
 
     /// Nobody's. The sender may be told, if the operator wants it.

@@ -3,7 +3,7 @@
 
 use crate::ship::{Handshake, Ship};
 use crate::way;
-use std::collections::{HashMap, VecDeque};
+use std::collections::{BTreeSet, HashMap, VecDeque};
 use std::net::{IpAddr, SocketAddr};
 use std::time::{Duration, Instant};
 
@@ -21,6 +21,8 @@ pub struct Handshakes {
     order: VecDeque<(usize, u64)>,
     count: usize,
     by_sender: HashMap<SocketAddr, Vec<usize>>,
+    /// Ship and serial of those whose sender has sent no change cipher spec alone since.
+    waiting: HashMap<SocketAddr, BTreeSet<(usize, u64)>>,
 }
 
 /// Room for a newcomer.
@@ -34,6 +36,11 @@ impl Handshakes {
     /// The ships for which this sender has a handshake under way.
     pub fn at(&self, sender: SocketAddr) -> &[usize] {
         self.by_sender.get(&sender).map_or(&[], |ships| ships)
+    }
+
+    /// Those that this sender has begun and that may wait for a change cipher spec; they do no more.
+    pub fn waiting_at(&mut self, sender: SocketAddr) -> BTreeSet<(usize, u64)> {
+        self.waiting.remove(&sender).unwrap_or_default()
     }
 
     /// All handshakes, the newest first: ship and serial.
@@ -76,7 +83,7 @@ impl Handshakes {
         self.count += 1;
         self.order.push_back((ship, serial));
         for sender in &newcomer.senders {
-            self.note_sender(*sender, ship);
+            self.note_sender(*sender, ship, serial);
         }
         ships[ship].started.push(Handshake { serial, ..newcomer });
     }
@@ -85,9 +92,10 @@ impl Handshakes {
     pub fn said_again(&mut self, ships: &mut [Ship], ship: usize, place: usize, by: SocketAddr) {
         let home = ships[ship].route.map(way::host);
         let pushed_out = ships[ship].started[place].add_sender(by, home);
-        self.note_sender(by, ship);
+        let serial = ships[ship].started[place].serial;
+        self.note_sender(by, ship, serial);
         if let Some(sender) = pushed_out {
-            self.forget_sender(sender, &ships[ship], ship);
+            self.forget_sender(sender, &ships[ship], ship, serial);
         }
     }
 
@@ -96,7 +104,7 @@ impl Handshakes {
         let ended = ships[ship].started.remove(place);
         self.count -= 1;
         for sender in &ended.senders {
-            self.forget_sender(*sender, &ships[ship], ship);
+            self.forget_sender(*sender, &ships[ship], ship, ended.serial);
         }
         if self.order.len() > 2 * self.count + OF_A_SHIP {
             let is_there =
@@ -136,14 +144,21 @@ impl Handshakes {
         }
     }
 
-    fn note_sender(&mut self, sender: SocketAddr, ship: usize) {
+    fn note_sender(&mut self, sender: SocketAddr, ship: usize, serial: u64) {
+        self.waiting.entry(sender).or_default().insert((ship, serial));
         let ships = self.by_sender.entry(sender).or_default();
         if !ships.contains(&ship) {
             ships.push(ship);
         }
     }
 
-    fn forget_sender(&mut self, sender: SocketAddr, left: &Ship, ship: usize) {
+    fn forget_sender(&mut self, sender: SocketAddr, left: &Ship, ship: usize, serial: u64) {
+        if let Some(waiting) = self.waiting.get_mut(&sender) {
+            waiting.remove(&(ship, serial));
+            if waiting.is_empty() {
+                self.waiting.remove(&sender);
+            }
+        }
         if left.started.iter().any(|handshake| handshake.senders.contains(&sender)) {
             return;
         }

@@ -65,8 +65,8 @@ impl Inbox {
         }
     }
 
-    /// How many datagrams the system has dropped since the socket was made, as far as it was told
-    /// with those that came.
+    /// How many datagrams the system has dropped since the last start, as far as it was told with
+    /// those that came.
     pub fn dropped(&self) -> u64 {
         self.shared.dropped.load(Ordering::Relaxed)
     }
@@ -80,7 +80,6 @@ impl Inbox {
 
 fn receive_all(socket: &Socket, shared: &Shared, sender: &SyncSender<io::Result<Vec<Datagram>>>) {
     let mut batch = Batch::default();
-    let mut told = 0_u32;
     while !shared.closed.load(Ordering::Relaxed) {
         let received = match batch.receive(socket) {
             Ok(datagrams) if datagrams.is_empty() => continue,
@@ -88,8 +87,7 @@ fn receive_all(socket: &Socket, shared: &Shared, sender: &SyncSender<io::Result<
             received => received,
         };
         if let Some(now) = batch.dropped {
-            shared.dropped.fetch_add(now.wrapping_sub(told).into(), Ordering::Relaxed);
-            told = now;
+            shared.dropped.fetch_add(socket.newly_dropped(now).into(), Ordering::Relaxed);
         }
         let failed = received.is_err();
         if sender.send(received).is_err() || failed {

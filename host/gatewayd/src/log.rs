@@ -30,6 +30,7 @@ pub struct Progress {
     pub too_old: u64,
     pub repeated: u64,
     pub dropped: u64,
+    pub not_sent: u64,
 }
 
 const PROGRESS_EVERY: Duration = Duration::from_millis(200);
@@ -99,10 +100,11 @@ impl Log {
 
     pub fn progress(&mut self, counts: &Progress, now: Instant) {
         self.progress_at = Some(now);
-        let Progress { datagrams, handed_out, forged, too_old, repeated, dropped } = counts;
+        let Progress { datagrams, handed_out, forged, too_old, repeated, dropped, not_sent } = counts;
         let taken = format!("datagrams {datagrams}, handed out {handed_out}");
         let refused = format!("forged {forged}, too old {too_old}, repeated {repeated}");
-        self.write(format!("{CLEAR_LINE}{taken}, {refused}, dropped by the system {dropped}"));
+        let lost = format!("dropped by the system {dropped}, not sent {not_sent}");
+        self.write(format!("{CLEAR_LINE}{taken}, {refused}, {lost}"));
     }
 
     /// The end of the log: the progress line is done, and what was held back is summed up.
@@ -133,9 +135,18 @@ fn write_all(lines: &Receiver<String>) {
 
 /// To standard output; nobody need read it, and nothing waits long for him.
 pub fn say(text: String) {
+    write_to(io::stdout(), text);
+}
+
+/// A line where there is no log any more.
+pub fn complain(line: &str) {
+    write_to(io::stderr(), format!("{} {line}\n", Moment::now()));
+}
+
+fn write_to(mut out: impl Write + Send + 'static, text: String) {
     let (done, written) = sync_channel(1);
     let writer = move || {
-        let _ = io::stdout().write_all(text.as_bytes());
+        let _ = out.write_all(text.as_bytes());
         let _ = done.send(());
     };
     if thread::Builder::new().spawn(writer).is_ok() {

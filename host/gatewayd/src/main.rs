@@ -1,10 +1,12 @@
 //! `gatewayd`: see `gatewayd --help`.
 
+use gatewayd::log;
 use gatewayd::options::{self, Command, HELP};
 use gatewayd::run::{self, Ended, Failure};
 use gatewayd::signals;
 use gatewayd::socket::Socket;
 use gatewayd::store::setup;
+use std::ffi::OsStr;
 use std::os::unix::process::CommandExt;
 use std::process::ExitCode;
 
@@ -32,16 +34,26 @@ fn main() -> ExitCode {
 }
 
 /// The program as it now lies on the disk takes the place of this one, with the same words, but for
-/// those that are good for one start, and the same socket. Comes back only if that fails.
+/// those that are good for one start, and the same socket. Where it cannot be started (it is gone, or
+/// is no program), this one starts once more. Comes back only if that fails, too.
 fn start_anew(socket: Socket) -> Failure {
     let mut words = std::env::args_os();
     let program = words.next().unwrap_or_default();
-    let mut command = std::process::Command::new(program);
-    command.args(words.filter(|word| word != "--restored" && word != "--afresh"));
-    let error = match socket.hand_over(&mut command) {
+    let words: Vec<_> = words.filter(|word| word != "--restored" && word != "--afresh").collect();
+    let command = |path: &OsStr| {
+        let mut command = std::process::Command::new(path);
+        command.arg0(&program).args(&words);
+        command
+    };
+    let mut new = command(&program);
+    let error = match socket.hand_over(&mut new) {
         Ok(()) => {
             signals::ignore_new_start();
-            command.exec()
+            let error = new.exec();
+            log::complain(&format!("{}: {error}; the old program goes on", program.display()));
+            let mut old = command(OsStr::new("/proc/self/exe"));
+            old.envs(new.get_envs().filter_map(|(name, value)| Some((name, value?))));
+            old.exec()
         }
         Err(error) => error,
     };

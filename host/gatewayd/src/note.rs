@@ -46,8 +46,11 @@ pub enum Note {
     Warned,
     /// A handshake beside an open connection has taken its place.
     Replaced,
-    /// The system did not take a datagram of ours.
-    NotSent(ErrorKind),
+    /// The system did not take a datagram of ours, the so-manieth since the start.
+    NotSent {
+        kind: ErrorKind,
+        so_far: u64,
+    },
     /// The library did not write an alert of ours.
     AlertRefused {
         refusal: Refusal,
@@ -71,7 +74,7 @@ impl Note {
             Note::Warned => (8, 0),
             Note::Replaced => (9, 0),
             Note::AlertRefused { .. } => (10, 0),
-            Note::NotSent(_) => (11, 0),
+            Note::NotSent { .. } => (11, 0),
             Note::Answered => (12, 0),
             Note::Hinted => (13, 0),
             Note::AlertPassedOver => (14, 0),
@@ -107,7 +110,9 @@ impl fmt::Display for Note {
             }
             Note::Warned => write!(f, "Finished repeated: warning 57 sent"),
             Note::Replaced => write!(f, "the open connection was replaced by a new one"),
-            Note::NotSent(kind) => write!(f, "datagram not sent: {kind}"),
+            Note::NotSent { kind, so_far } => {
+                write!(f, "datagram not sent: {kind}; {so_far} so far")
+            }
             Note::AlertRefused { refusal } => write!(f, "alert not sent: {refusal}"),
         }
     }

@@ -10,6 +10,7 @@ use crate::sessions;
 use crate::shore::{Shore, Told};
 use crate::signals::{self, Asked};
 use crate::socket::{Datagram, Socket};
+use crate::store::engine::Fault;
 use crate::store::{Opened, Store};
 use crate::waiting::Waiting;
 use gateway::State;
@@ -46,6 +47,8 @@ struct Gateway {
     log: Log,
     sessions: PathBuf,
     datagrams: u64,
+    /// Datagrams of ours that the system did not take.
+    not_sent: u64,
     told_dropped: (u64, Instant),
     saved_counts: Instant,
     /// How long the last run took.
@@ -58,17 +61,35 @@ pub fn run(options: &Options) -> Result<Ended, Failure> {
     signals::listen();
     let failure = |status: u8| move |what: String| Failure { status, what };
     let sessions = sessions::load(&options.sessions).map_err(failure(3))?;
-    let opened = Store::open(&options.store, sessions, options.start).map_err(failure(4))?;
     let listen =
         |error: io::Error| Failure { status: 5, what: format!("{}: {error}", options.listen) };
     let socket = Socket::open(options.listen).map_err(listen)?;
     let address = socket.address().map_err(listen)?;
     let randoms = Randoms::open().map_err(failure(6))?;
+    let mut log = Log::new(options.log_every);
+    let attempt = || match Store::open(&options.store, &sessions, options.start) {
+        Ok(opened) => Ok(Ok(opened)),
+        Err(Fault::Again(what) | Fault::Away(what)) => Ok(Err(what)),
+        Err(Fault::Broken(what)) => Err(Failure { status: 4, what }),
+    };
+    // Nothing is taken out of the socket for a store that cannot be used.
+    let mut opened = attempt()?;
+    let inbox = Inbox::open(&socket).map_err(listen)?;
+    let mut waiting = Waiting::new(&mut log, &inbox, options.log_every);
+    let Opened { store, ships } = loop {
+        match opened {
+            Ok(opened) => break opened,
+            Err(what) if waiting.goes_on(&what) => opened = attempt()?,
+            Err(what) => return Err(Failure { status: 6, what }),
+        }
+    };
+    waiting.end();
+    if socket.before > 0 {
+        log.line(&format!("before this start the system dropped {} datagrams", socket.before));
+    }
 
-    let Opened { store, ships } = opened;
     let rules = Rules { warn_every: options.warn_every, hint_every: options.hint_every };
     let shore = Shore::new(Fleet::new(ships, rules), store, randoms);
-    let inbox = Inbox::open(&socket).map_err(listen)?;
     let version = env!("CARGO_PKG_VERSION");
     say(format!("gatewayd {version} listens on {address}: {}\n", states(&shore.fleet)));
     let now = Instant::now();
@@ -76,9 +97,10 @@ pub fn run(options: &Options) -> Result<Ended, Failure> {
         socket,
         inbox,
         shore,
-        log: Log::new(options.log_every),
+        log,
         sessions: options.sessions.clone(),
         datagrams: 0,
+        not_sent: 0,
         told_dropped: (0, now),
         saved_counts: now,
         last_run: Duration::ZERO,
@@ -87,6 +109,7 @@ pub fn run(options: &Options) -> Result<Ended, Failure> {
     };
     let worked = gateway.work();
     gateway.tell_dropped();
+    gateway.tell_work();
     gateway.log.end();
     worked.map(|asked| gateway.end(asked)).map_err(failure(6))
 }
@@ -153,7 +176,9 @@ impl Gateway {
         for (way, bytes) in send {
             // A datagram that cannot be sent is one that the link lost.
             if let Err(error) = self.socket.send(way, &bytes) {
-                notes.push((None, way.sender, Note::NotSent(error.kind())));
+                self.not_sent += 1;
+                let note = Note::NotSent { kind: error.kind(), so_far: self.not_sent };
+                notes.push((None, way.sender, note));
             }
         }
         for (ship, sender, note) in notes {
@@ -174,6 +199,12 @@ impl Gateway {
         self.told_dropped = (dropped, Instant::now());
     }
 
+    /// At the end: what the datagrams have cost.
+    fn tell_work(&mut self) {
+        let (taken, work) = (self.datagrams, self.shore.fleet.work());
+        self.log.line(&format!("{taken} datagrams taken, {work}"));
+    }
+
     fn show_progress(&mut self) {
         let now = Instant::now();
         if self.log.wants_progress(now) {
@@ -184,7 +215,8 @@ impl Gateway {
 
     fn counts(&self) -> Progress {
         let dropped = self.inbox.dropped();
-        let mut counts = Progress { datagrams: self.datagrams, dropped, ..Progress::default() };
+        let (datagrams, not_sent) = (self.datagrams, self.not_sent);
+        let mut counts = Progress { datagrams, dropped, not_sent, ..Progress::default() };
         for ship in &self.shore.fleet.ships {
             counts.handed_out += u64::from(ship.tally.handed_out());
             counts.forged += u64::from(ship.tally.forged());

@@ -55,8 +55,9 @@ pub struct Trials {
     here: Shares,
     near: Shares,
     far: Shares,
-    /// How many there were so far.
+    /// How many there were so far, and how many codes were compared in them.
     pub made: u64,
+    pub codes: u64,
 }
 
 /// What a connection has to do with the sender of a datagram.
@@ -99,6 +100,7 @@ pub fn find<'d>(known: &Known, trials: &mut Trials, arrival: &Arrival<'d>) -> Fo
             break;
         }
         trials.made += 1;
+        trials.codes += u64::from(spent.codes);
         match arrival.tried_on(&known.ships[target.ship()], target) {
             Err(whole) => return Found::RefusedWhole(owner.map(Target::ship), whole),
             Ok(trial) if trial.worth != Worth::Nothing => return Found::Genuine(target, trial),
@@ -124,6 +126,7 @@ impl Default for Trials {
             near: Shares::new(NEAR_EACH_SECOND, NEAR_OF_A_SHARE),
             far: Shares::new(FAR_EACH_SECOND, FAR_OF_A_SHARE),
             made: 0,
+            codes: 0,
         }
     }
 }

@@ -23,6 +23,8 @@ pub struct Ship {
     pub saved: Tally,
     /// Of the row in the store from which this ship was made.
     pub version: i64,
+    /// What that row has beside the connection, if this gateway has written it.
+    pub settled: Option<Settled>,
     /// How often a Finished has opened a connection: numbers begin anew with each.
     pub opening: i64,
     /// No number of ours is spent before the next opening: the store is of an earlier time, and some may be spent already.
@@ -42,6 +44,15 @@ pub struct Ship {
     pub heard: Instant,
     /// Hellos from the host of the route are answered out of this.
     pub hellos: Budget,
+}
+
+/// What of a ship changes seldom, with no handshake under way. (Its name, planting and hello change with these, or at a start.)
+#[derive(Clone, Copy, PartialEq, Eq)]
+pub struct Settled {
+    opening: i64,
+    mute: bool,
+    barred: bool,
+    route: Option<SocketAddr>,
 }
 
 /// A hello that was answered, and the connection that waits for the Finished to it.
@@ -73,6 +84,7 @@ impl Ship {
             tally: Tally::default(),
             saved: Tally::default(),
             version: 0,
+            settled: None,
             opening: 0,
             mute: false,
             route: None,
@@ -87,6 +99,11 @@ impl Ship {
 
     pub fn is_open(&self) -> bool {
         !self.barred && self.connection.state() == State::Open
+    }
+
+    pub fn settled(&self) -> Option<Settled> {
+        let Ship { opening, mute, barred, route, .. } = *self;
+        self.started.is_empty().then_some(Settled { opening, mute, barred, route })
     }
 
     /// Nothing more is sent before the next opening, which is a new one.

@@ -119,6 +119,8 @@ impl Shore {
                 let listed = |report| Listed { ship: id, opening, report };
                 judged.outcome.reports.extend(taken.reports.into_iter().map(listed));
             }
+            let also = taken.also.iter().map(|index| (self.fleet.ships[*index].session.id, *index));
+            judged.outcome.changed.extend(also);
             judged.told.send.extend(taken.send);
             let noted = taken.notes.into_iter().map(|note| (taken.ship, way.sender, note));
             judged.told.notes.extend(noted);

@@ -8,11 +8,17 @@ use std::io;
 use std::mem::size_of;
 use std::net::{IpAddr, Ipv4Addr, Ipv6Addr, SocketAddr, SocketAddrV6, UdpSocket};
 use std::os::fd::{AsRawFd, FromRawFd, RawFd};
+use std::sync::atomic::{AtomicU32, Ordering};
+use std::sync::Arc;
 use std::time::Duration;
 
 pub struct Socket {
     socket: UdpSocket,
     version_6: bool,
+    /// How many the system had dropped since the socket was made, modulo 2^32, when it was last counted.
+    counted: Arc<AtomicU32>,
+    /// Of these, those before this start, if no predecessor of ours has counted them.
+    pub before: u32,
 }
 
 #[derive(Debug)]
@@ -25,24 +31,43 @@ pub struct Datagram {
 const LARGEST: usize = 2048;
 /// Datagrams in one call.
 pub const BATCH: usize = 64;
-/// What the system should hold for us; it may give less (net.core.rmem_max) unless we are root.
+/// What the system should hold for us each way; it may give less (net.core.rmem_max, wmem_max) unless we are root.
 const BUFFER: i32 = 8 << 20;
 /// A call that waits comes back after this, so that somebody can ask for the end.
 const WAIT: Duration = Duration::from_millis(50);
 /// Where a socket that was handed over is, by the convention of systemd.
 const HANDED_OVER: RawFd = 3;
+/// How many dropped ones were counted before it was.
+const COUNTED: &str = "GATEWAYD_COUNTED";
 
 impl Socket {
     /// The socket that was handed over to us, if there is one; else a new one.
     pub fn open(address: SocketAddr) -> io::Result<Socket> {
-        let socket = match handed_over()? {
-            Some(socket) => socket,
-            None => UdpSocket::bind(address)?,
+        let (socket, counted) = match handed_over()? {
+            Some(socket) => (socket, std::env::var(COUNTED).ok().and_then(|text| text.parse().ok())),
+            None => (UdpSocket::bind(address)?, None),
         };
         let version_6 = socket.local_addr()?.is_ipv6();
-        let socket = Socket { socket, version_6 };
+        let mut socket = Socket { socket, version_6, counted: Arc::default(), before: 0 };
         socket.prepare()?;
+        if counted.is_none() {
+            socket.before = socket.drops();
+        }
+        socket.counted.store(counted.unwrap_or(socket.before), Ordering::Relaxed);
         Ok(socket)
+    }
+
+    /// How many the system has dropped more than at the last call, as it says now.
+    pub fn newly_dropped(&self, now: u32) -> u32 {
+        now.wrapping_sub(self.counted.swap(now, Ordering::Relaxed))
+    }
+
+    /// How many the system has dropped so far, as it says of itself.
+    fn drops(&self) -> u32 {
+        let mut values = [0_u32; 9];
+        let (to, mut size) = ((&raw mut values).cast(), size_of::<[u32; 9]>() as u32);
+        let done = unsafe { getsockopt(self.fd(), SOL_SOCKET, SO_MEMINFO, to, &raw mut size) };
+        if done == 0 { values[8] } else { 0 }
     }
 
     pub fn address(&self) -> io::Result<SocketAddr> {
@@ -50,7 +75,8 @@ impl Socket {
     }
 
     pub fn try_clone(&self) -> io::Result<Socket> {
-        Ok(Socket { socket: self.socket.try_clone()?, version_6: self.version_6 })
+        let (socket, counted) = (self.socket.try_clone()?, self.counted.clone());
+        Ok(Socket { socket, version_6: self.version_6, counted, before: self.before })
     }
 
     /// How much the system holds for us, in its own count, which is some times the bytes.
@@ -69,8 +95,10 @@ impl Socket {
         // systemd's sockets do not wait.
         self.socket.set_nonblocking(false)?;
         self.socket.set_read_timeout(Some(WAIT))?;
-        if self.set(SOL_SOCKET, SO_RCVBUFFORCE, BUFFER).is_err() {
-            self.set(SOL_SOCKET, SO_RCVBUF, BUFFER)?;
+        for (with_rights, without) in [(SO_RCVBUFFORCE, SO_RCVBUF), (SO_SNDBUFFORCE, SO_SNDBUF)] {
+            if self.set(SOL_SOCKET, with_rights, BUFFER).is_err() {
+                self.set(SOL_SOCKET, without, BUFFER)?;
+            }
         }
         self.set(SOL_SOCKET, SO_RXQ_OVFL, 1)?;
         match self.version_6 {
@@ -85,7 +113,7 @@ impl Socket {
         check(done as isize).map(|_| ())
     }
 
-    /// Sends a datagram back the way that one came.
+    /// Sends a datagram back the way that one came. Where the system has no room for it, it is not waited for.
     pub fn send(&self, way: Way, bytes: &[u8]) -> io::Result<()> {
         let mut name = Name::of(way.sender, self.version_6);
         let mut control = Control::default();
@@ -104,7 +132,7 @@ impl Socket {
             control_size,
             flags: 0,
         };
-        check(unsafe { sendmsg(self.fd(), &raw const message, 0) }).map(|_| ())
+        check(unsafe { sendmsg(self.fd(), &raw const message, MSG_DONTWAIT) }).map(|_| ())
     }
 
     /// Hands the socket over to the program that takes this one's place. What arrives meanwhile
@@ -116,8 +144,9 @@ impl Socket {
             false => unsafe { dup2(fd, HANDED_OVER) },
         };
         check(done as isize)?;
-        std::mem::forget(self);
         command.env("LISTEN_FDS", "1").env("LISTEN_PID", std::process::id().to_string());
+        command.env(COUNTED, self.counted.load(Ordering::Relaxed).to_string());
+        std::mem::forget(self);
         Ok(())
     }
 }
@@ -336,14 +365,18 @@ const AF_INET6: u16 = 10;
 const SOCK_DGRAM: i32 = 2;
 const SOL_SOCKET: i32 = 1;
 const SO_TYPE: i32 = 3;
+const SO_SNDBUF: i32 = 7;
 const SO_RCVBUF: i32 = 8;
+const SO_SNDBUFFORCE: i32 = 32;
 const SO_RCVBUFFORCE: i32 = 33;
 const SO_RXQ_OVFL: i32 = 40;
+const SO_MEMINFO: i32 = 55;
 const IPPROTO_IP: i32 = 0;
 const IP_PKTINFO: i32 = 8;
 const IPPROTO_IPV6: i32 = 41;
 const IPV6_RECVPKTINFO: i32 = 49;
 const IPV6_PKTINFO: i32 = 50;
+const MSG_DONTWAIT: i32 = 0x40;
 const MSG_WAITFORONE: i32 = 0x10000;
 const F_SETFD: i32 = 2;
 const FD_CLOEXEC: i32 = 1;

@@ -66,6 +66,7 @@ fn hellos_cost_an_open_ship_nothing() {
 fn withstands(name: &str, datagram: fn(&mut Rng) -> Vec<u8>, at_its_address: bool) {
     let place = Place::new("flood");
     place.plant(8);
+    let started = Instant::now();
     let gatewayd = Gatewayd::start(&place, "127.0.0.1:0", &[]);
     let address = gatewayd.address;
     let mut ships: Vec<Ship> = (0..6).map(|index| Ship::new(index, address)).collect();
@@ -84,7 +85,7 @@ fn withstands(name: &str, datagram: fn(&mut Rng) -> Vec<u8>, at_its_address: boo
         }
         thread::sleep(Duration::from_millis(200));
     });
-    let listed = place.listed(0).len();
+    let listed = worked_off(&place);
     let before = Used::of(&gatewayd);
     let fast = flood.beside(None, || thread::sleep(AT_FULL_SPEED));
     let after = Used::of(&gatewayd);
@@ -107,6 +108,49 @@ fn withstands(name: &str, datagram: fn(&mut Rng) -> Vec<u8>, at_its_address: boo
     assert!(store < 9 << 20, "{name}: store of {store} bytes");
     assert!(log < 20_000, "{name}: log of {log} bytes");
     gatewayd.end();
+    let log = fs::read_to_string(place.path.join("log")).unwrap();
+    Work::told(&log).is_bounded(name, started.elapsed(), at_its_address);
+}
+
+/// What the gateway has done for the datagrams that it took, as it tells at its end.
+struct Work {
+    datagrams: f64,
+    trials: f64,
+    codes: f64,
+    hellos: f64,
+}
+
+impl Work {
+    fn told(log: &str) -> Work {
+        let line = log.lines().find(|line| line.contains(" datagrams taken, ")).unwrap();
+        let counts: Vec<f64> = line.split(' ').filter_map(|word| word.parse().ok()).collect();
+        let [datagrams, trials, codes, hellos] = counts[..] else { panic!("{line}") };
+        Work { datagrams, trials, codes, hellos }
+    }
+
+    /// In counts, whatever the machine. The budgets are of so much a second, and a second's worth is saved up; beside them a datagram
+    /// from a ship's own address is tried on that ship, and those of the six ships themselves, some hundreds, on what is there.
+    fn is_bounded(&self, name: &str, lived: Duration, at_its_address: bool) {
+        let Work { datagrams, trials, codes, hellos } = self;
+        println!("{name}: {datagrams} datagrams taken: {trials} trials, {codes} codes, {hellos} hellos answered");
+        let seconds = lived.as_secs_f64() + 1.0;
+        let always = if at_its_address { *datagrams } else { 0.0 };
+        let most = always + 32_000.0 * seconds + 8.0 * 1_000.0;
+        assert!(*trials <= most, "{name}: {trials} trials in {lived:?}");
+        assert!(*codes <= most, "{name}: {codes} codes in {lived:?}");
+        assert!(*hellos <= 4_080.0 * seconds, "{name}: {hellos} hellos answered in {lived:?}");
+    }
+}
+
+/// How many reports are listed when what waits is worked off, on a slow machine, too.
+fn worked_off(place: &Place) -> usize {
+    for _ in 0..50 {
+        if place.listed(0).len() == REPORTS.into() {
+            break;
+        }
+        thread::sleep(Duration::from_millis(100));
+    }
+    place.listed(0).len()
 }
 
 /// After the flood: as soon as what waits is worked off, a report that is sent once is listed.

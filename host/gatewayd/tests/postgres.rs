@@ -390,6 +390,50 @@ fn the_server_gone_for_a_while() {
     server.begin();
 }
 
+/// The server is gone at the start: a line, what arrives waits, and when the server is back, the gateway goes on by itself.
+#[test]
+#[ignore]
+fn the_server_gone_at_the_start() {
+    let (server, place) = scene("pg-start", 2);
+    let mut gatewayd = Gatewayd::start(&place, ANY, &[]);
+    let address = gatewayd.address;
+    let mut ships = [0, 1].map(|index| Ship::new(index, address));
+    ships.iter_mut().for_each(|ship| ship.open(1));
+    let report = |numbers: std::ops::RangeInclusive<u16>| {
+        for number in numbers {
+            ships.iter().for_each(|ship| ship.send(&ship.data(number)));
+        }
+    };
+    let all = |count: usize| [0, 1].iter().all(|ship| place.listed(*ship).len() == count);
+    report(1..=10);
+    wait_for("reports", || all(10));
+    let log = || fs::read_to_string(place.path.join("log")).unwrap();
+    gatewayd.end();
+    server.stop();
+    gatewayd = thread::scope(|scope| {
+        let starting = scope.spawn(|| Gatewayd::start(&place, &address.to_string(), &[]));
+        wait_for("the line", || log().contains("; datagrams wait"));
+        report(11..=60);
+        thread::sleep(Duration::from_millis(300));
+        server.begin();
+        starting.join().unwrap()
+    });
+    wait_for("all reports", || all(60));
+    for ship in [0, 1] {
+        let expected: Vec<_> = (1..=60).map(|number| (number, text(ship, number))).collect();
+        assert_eq!(place.listed(ship), expected);
+    }
+    assert!(log().contains(" s without it; meanwhile the system dropped 0 datagrams"), "{}", log());
+    gatewayd.end();
+    // The end can be asked for meanwhile.
+    server.stop();
+    let mut child = Gatewayd::spawn(&place, &address.to_string());
+    wait_for("the line", || log().matches("; datagrams wait").count() == 2);
+    signal(&child, "TERM");
+    assert_eq!(child.wait().unwrap().code(), Some(6));
+    server.begin();
+}
+
 /// No tables, another version, no rights: one line and status 4. Planners read reports and no connection.
 #[test]
 #[ignore]
@@ -398,8 +442,8 @@ fn roles_and_refusals_to_start() {
     place.plant(1);
     let server = Server::start(&place);
     let refused = |address: &str, expected: &str| {
-        let output = Command::new(env!("CARGO_BIN_EXE_gatewayd"))
-            .args(["--listen", ANY, "--store", address, "--sessions"])
+        let output = Command::new("timeout")
+            .args(["20", env!("CARGO_BIN_EXE_gatewayd"), "--listen", ANY, "--store", address, "--sessions"])
             .arg(place.sessions())
             .output()
             .unwrap();
@@ -414,10 +458,8 @@ fn roles_and_refusals_to_start() {
     server.sql("fleet", "UPDATE store SET version = 7");
     refused(&server.address("gatewayd"), "tables of version 7");
     server.sql("fleet", "UPDATE store SET version = 1");
-    server.stop();
-    refused(&server.address("gatewayd"), "connection to server");
-    server.begin();
-
+    refused(&server.address("gatewayd").replace("/fleet", "/other"), "database \"other\" does not exist");
+    refused("postgres:///fleet?nonsense=1", "nonsense");
     place.server = Some(server.address("gatewayd"));
     let gatewayd = Gatewayd::start(&place, ANY, &[]);
     let mut ship = Ship::new(0, gatewayd.address);

@@ -168,6 +168,35 @@ fn hellos_during_a_slow_handshake() {
     scene.end(0);
 }
 
+/// Two ships shake hands behind one relay, and each sends change cipher spec and Finished in datagrams of
+/// their own: both open, whichever said hello last. A third, elsewhere, reports as before.
+#[test]
+fn two_handshakes_behind_one_relay() {
+    let mut scene = Scene::new("one-relay");
+    let mut third = Ship::new(2, scene.gatewayd.address);
+    third.open(1);
+    let relay = stranger(&scene);
+    for ship in [&mut scene.ship, &mut scene.other] {
+        ship.socket = relay.try_clone().unwrap();
+        let hello = ship.hello(1);
+        ship.send(&hello);
+        let mut buffer = [0; 2048];
+        let size = ship.socket.recv(&mut buffer).unwrap();
+        ship.unit.hear_reply(&buffer[..size]).unwrap();
+    }
+    let ships = [&scene.ship, &scene.other];
+    for ship in ships {
+        ship.send(&ship.unit.clear(peer::wire::Content::ChangeCipherSpec, true, 1, &[1]));
+    }
+    for ship in ships {
+        ship.send(&ship.unit.finished(false, 0).unwrap());
+    }
+    scene.report(1..=REPORTS);
+    third.send(&third.data(1));
+    wait_for("the third ship's report", || scene.place.listed(2).len() == 1);
+    scene.end(0);
+}
+
 /// Routes that were saved hold for each way of listening.
 #[test]
 fn another_way_of_listening() {
@@ -205,6 +234,10 @@ fn a_ship_that_lost_its_state() {
     assert!(waited < Duration::from_secs(12), "{waited:?}");
     before.send(&before.data(REPORTS + 1));
     wait_for("the report of before", || scene.place.listed(0).len() == usize::from(REPORTS) + 1);
+    // The hello of the handshake under way, once more, is no new one: the same reply.
+    let hello = scene.ship.hello(2);
+    scene.ship.send(&hello);
+    assert!(scene.ship.hear(Duration::from_secs(1)), "no reply to the hello of a handshake under way");
     scene.ship.send(&scene.ship.unit.flight().unwrap());
     scene.report(100..=100 + REPORTS);
     scene.end(0);

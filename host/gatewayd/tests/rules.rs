@@ -760,7 +760,7 @@ fn a_barred_session_stays_out() {
             width: 32,
             ship: name(ship),
         };
-        Store::open(&place.at(), vec![session(0), session(1)], Start::AsItWas).unwrap()
+        Store::open(&place.at(), &[session(0), session(1)], Start::AsItWas).unwrap()
     };
     let mut world = World::new(2);
     let mut store = open(secret).store;
@@ -964,6 +964,33 @@ fn clear_records_cost_one_trial() {
         }
     }
     assert!(world.fleet.trials() <= before + 300);
+}
+
+/// A change cipher spec alone in a datagram is for all handshakes of its sender that wait for one, and each of these ships is saved. It
+/// costs a trial for each of them once, however often it is said.
+#[test]
+fn a_change_alone_is_for_all_that_wait() {
+    let mut world = World::new(100);
+    let mut units: Vec<Ship> = (0..100).map(ship).collect();
+    for unit in &mut units[..50] {
+        world.greet(unit, 1, 1, 0);
+    }
+    world.greet(&mut units[50], 1, 2, 0);
+    let change = |number| ship(0).unit.clear(Content::ChangeCipherSpec, true, number, &[1]);
+    let before = world.fleet.trials();
+    let taken = world.take(1, &change(1), 0);
+    let saved: BTreeSet<usize> = taken.ship.into_iter().chain(taken.also).collect();
+    assert!(taken.changed && saved == (0..50).collect());
+    assert_eq!(world.fleet.trials(), before + 50);
+    for number in 0..100 {
+        assert!(!world.take(1, &change(number), 0).changed);
+    }
+    assert_eq!(world.fleet.trials(), before + 150);
+    assert_eq!(world.fleet.ships[50].started[0].connection.state(), State::Replied);
+    for unit in &units[..50] {
+        assert!(world.take(1, &unit.unit.finished(false, 0).unwrap(), 0).changed);
+        assert_eq!(world.state(unit.index), State::Open);
+    }
 }
 
 fn unit_clear(content: Content) -> Vec<u8> {

@@ -2,7 +2,7 @@
 
 use super::form::Form;
 use super::Wanted;
-use crate::clock::{Day, Moment};
+use crate::clock::{Moment, MILLISECONDS_OF_A_DAY};
 use crate::store::Where;
 use std::ffi::OsString;
 
@@ -56,9 +56,9 @@ pub fn read(mut words: impl Iterator<Item = OsString>) -> Result<Command, String
             "--store" => address = Some(text(value()?)?),
             "--day" => {
                 let value = text(value()?)?;
-                let day = Day::read(&value).ok_or_else(|| format!("{word}: {value} is no day"))?;
-                wanted.from = day.start();
-                wanted.to = Day(day.0 + 1).start();
+                let start = Moment::read(&value).filter(|_| Moment::is_day(&value));
+                wanted.from = start.ok_or_else(|| format!("{word}: {value} is no day"))?;
+                wanted.to = Moment(wanted.from.0 + MILLISECONDS_OF_A_DAY);
             }
             "--from" => wanted.from = moment(&word, value()?)?,
             "--to" => wanted.to = moment(&word, value()?)?,
@@ -116,6 +116,7 @@ mod tests {
             "",
             "--day 2026-11-15",
             "--state s --day 2026-11-31",
+            "--state s --day 2026-11-15T08:30:00",
             "--state s --from yesterday",
             "--state s --format xml",
             "--state s --follow --missing",

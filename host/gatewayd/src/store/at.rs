@@ -31,10 +31,10 @@ fn is_server(address: &str) -> bool {
 }
 
 /// The store opened to write, with its name for what is said of it, and the lock that goes with it.
-pub fn connect(at: &Where) -> Result<(String, Option<File>, Box<dyn Engine>), String> {
+pub fn connect(at: &Where) -> Result<(String, Option<File>, Box<dyn Engine>), Fault> {
     match at {
         Where::Directory(state) => {
-            let lock = place::prepare(state)?;
+            let lock = place::prepare(state).map_err(Fault::Broken)?;
             let path = place::file(state);
             let name = path.display().to_string();
             let open = || -> Result<sqlite::Sqlite, Fault> {
@@ -45,13 +45,12 @@ pub fn connect(at: &Where) -> Result<(String, Option<File>, Box<dyn Engine>), St
                 }
                 Ok(engine)
             };
-            let engine = open().map_err(|fault| format!("{name}: {}", fault.what()))?;
+            let engine = open().map_err(|fault| fault.of(&name))?;
             Ok((name, Some(lock), Box::new(engine)))
         }
         Where::Server(address) => {
             let engine = postgres::Postgres::open(address, false);
-            let engine = engine.map_err(|fault| format!("store: {}", fault.what()))?;
-            Ok(("store".to_string(), None, Box::new(engine)))
+            Ok(("store".to_string(), None, Box::new(engine.map_err(|fault| fault.of("store"))?)))
         }
     }
 }

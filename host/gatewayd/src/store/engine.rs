@@ -36,6 +36,11 @@ pub trait Engine {
     /// `head VALUES row, row, .. tail`; nothing where there is no row.
     fn put(&mut self, head: &str, rows: &[Row], tail: &str) -> Result<(), Fault>;
 
+    /// The same for rows that are all there, if the engine has a shorter way for them.
+    fn change(&mut self, head: &str, rows: &[Row], tail: &str) -> Result<(), Fault> {
+        self.put(head, rows, tail)
+    }
+
     /// The engine's words for what differs.
     fn words(&self) -> &'static Words;
 }
@@ -55,6 +60,16 @@ pub struct Words {
 }
 
 impl Fault {
+    /// The same, of a store with a name.
+    pub fn of(self, name: &str) -> Fault {
+        let told = |what: String| format!("{name}: {what}");
+        match self {
+            Fault::Again(what) => Fault::Again(told(what)),
+            Fault::Away(what) => Fault::Away(told(what)),
+            Fault::Broken(what) => Fault::Broken(told(what)),
+        }
+    }
+
     pub fn what(&self) -> &str {
         match self {
             Fault::Again(what) | Fault::Away(what) | Fault::Broken(what) => what,

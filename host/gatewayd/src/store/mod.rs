@@ -142,14 +142,15 @@ impl Store {
         clocks: Clocks,
     ) -> Result<(), Fault> {
         let now = self.engine.words().now;
+        let row = if self.is_shared() { row::of } else { row::changed };
         let rows: Vec<Row> = outcome
             .changed
             .iter()
-            .map(|(_, index)| row::of(&ships[*index], self.writer, clocks))
+            .map(|(_, index)| row(&ships[*index], self.writer, clocks))
             .collect();
         let into = format!("INSERT INTO ships ({COLUMNS})");
         let instead = format!("ON CONFLICT (identifier) DO UPDATE SET {CHANGED}, changed = {now}");
-        self.engine.put(&into, &rows, &instead)?;
+        self.engine.change(&into, &rows, &instead)?;
         let rows: Vec<Row> = outcome.reports.iter().map(|one| report(one, clocks.time)).collect();
         self.engine.put(
             "INSERT INTO reports (ship, opening, number, received, bytes)",
@@ -203,5 +204,6 @@ fn written(outcome: &Outcome, ships: &mut [Ship]) {
         let ship = &mut ships[*index];
         ship.version += 1;
         ship.saved = ship.tally;
+        ship.settled = ship.settled();
     }
 }

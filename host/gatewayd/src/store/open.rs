@@ -31,15 +31,14 @@ pub struct Opened {
 
 impl Store {
     /// Opens the store and brings back each planted session.
-    pub fn open(at: &Where, sessions: Vec<Session>, start: Start) -> Result<Opened, String> {
+    pub fn open(at: &Where, sessions: &[Session], start: Start) -> Result<Opened, Fault> {
         let (name, lock, engine) = connect(at)?;
-        let told = |what: &str| format!("{name}: {what}");
-        let writer = writer().map_err(|error| told(&error.to_string()))?;
+        let writer = writer().map_err(|what| Fault::Broken(what).of(&name))?;
         let mut store = Store { engine, writer, looked: 0, start, _lock: lock };
         let clocks = Clocks { time: Moment::now(), now: Instant::now() };
         let mut ships = Vec::new();
         for session in sessions {
-            ships.push(Ship::fresh(session, clocks.now)?);
+            ships.push(Ship::fresh(session.clone(), clocks.now).map_err(Fault::Broken)?);
         }
         let mut opened = || -> Result<(), Fault> {
             schema::check(store.engine.as_mut())?;
@@ -55,7 +54,7 @@ impl Store {
             store.start = Start::AsItWas;
             Ok(())
         };
-        opened().map_err(|fault| told(fault.what()))?;
+        opened().map_err(|fault| fault.of(&name))?;
         Ok(Opened { store, ships })
     }
 

@@ -1,7 +1,7 @@
 //! PostgreSQL, or what speaks its protocol: one store for several gateways. Rows are locked for the length of a transaction.
 
 use super::engine::{places, Engine, Fault, Row, Value, Words};
-use super::pq::{Client, Error};
+use super::pq::{self, Client, Error};
 
 pub struct Postgres {
     address: String,
@@ -44,7 +44,13 @@ impl Postgres {
             read_only,
             in_transaction: false,
         };
-        engine.client()?;
+        match engine.client() {
+            // It is there, and has nothing for us: no such role, no such database. Asked twice, since it may have come back just now.
+            Err(Fault::Away(_)) if pq::answers(address, &OPTIONS) => {
+                engine.client().map_err(|fault| Fault::Broken(fault.what().to_string()))?;
+            }
+            tried => drop(tried?),
+        }
         Ok(engine)
     }
 

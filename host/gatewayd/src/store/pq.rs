@@ -12,6 +12,11 @@ extern "C" {
         values: *const *const c_char,
         expand_dbname: c_int,
     ) -> *mut c_void;
+    fn PQpingParams(
+        keywords: *const *const c_char,
+        values: *const *const c_char,
+        expand_dbname: c_int,
+    ) -> c_int;
     fn PQstatus(connection: *const c_void) -> c_int;
     fn PQerrorMessage(connection: *const c_void) -> *const c_char;
     fn PQfinish(connection: *mut c_void);
@@ -65,16 +70,10 @@ pub struct Error {
 impl Client {
     /// The options come first; what the address says outweighs them.
     pub fn connect(address: &str, options: &[(&str, &str)]) -> Result<Client, Error> {
-        let named = options.iter().copied().chain([("dbname", address)]);
-        let mut texts = Vec::new();
-        for (name, value) in named {
-            texts.push((c_string(name)?, c_string(value)?));
-        }
-        let end = [null()];
-        let names: Vec<_> = texts.iter().map(|text| text.0.as_ptr()).chain(end).collect();
-        let values: Vec<_> = texts.iter().map(|text| text.1.as_ptr()).chain(end).collect();
-        // Safety: both lists end with a null, and what they point to lives until the call is over.
-        let client = Client(unsafe { PQconnectdbParams(names.as_ptr(), values.as_ptr(), 1) });
+        let client = Client(with_words(address, options, |names, values| {
+            // Safety: as `with_words` says.
+            unsafe { PQconnectdbParams(names, values, 1) }
+        })?);
         unsafe { PQsetNoticeProcessor(client.0, say_nothing, null_mut()) };
         match client.is_there() {
             true => Ok(client),
@@ -123,6 +122,33 @@ impl Client {
             Error { code, what: one_line(&what.unwrap_or_default()) }
         }
     }
+}
+
+/// Whether a server is there that takes connections, be it none of ours; or the address is none.
+pub fn answers(address: &str, options: &[(&str, &str)]) -> bool {
+    const PING_OK: c_int = 0;
+    const NO_ATTEMPT: c_int = 3;
+    let found = with_words(address, options, |names, values| {
+        // Safety: as `with_words` says.
+        unsafe { PQpingParams(names, values, 1) }
+    });
+    !matches!(found, Ok(other) if other != PING_OK && other != NO_ATTEMPT)
+}
+
+/// Names and values of the words, both lists with a null at the end; what they point to lives until the call is over.
+fn with_words<T>(
+    address: &str,
+    options: &[(&str, &str)],
+    call: impl FnOnce(*const *const c_char, *const *const c_char) -> T,
+) -> Result<T, Error> {
+    let mut texts = Vec::new();
+    for (name, value) in options.iter().copied().chain([("dbname", address)]) {
+        texts.push((c_string(name)?, c_string(value)?));
+    }
+    let end = [null()];
+    let names: Vec<_> = texts.iter().map(|text| text.0.as_ptr()).chain(end).collect();
+    let values: Vec<_> = texts.iter().map(|text| text.1.as_ptr()).chain(end).collect();
+    Ok(call(names.as_ptr(), values.as_ptr()))
 }
 
 impl Drop for Client {

@@ -25,6 +25,18 @@ pub const CHANGED: &str = "\
     barred = COALESCE(ships.barred, excluded.barred), version = excluded.version, \
     writer = excluded.writer";
 
+/// The same of one row, by the places of the columns.
+pub const UPDATE: &str = "\
+    UPDATE ships SET name = ?2, planting = ?3, connection = ?4, hello = ?5, handshakes = ?6, \
+    tally = ?7, route = ?8, newest = ?9, opening = ?10, mute = ?11, heard = ?12, \
+    barred = COALESCE(barred, ?13), version = ?14, writer = ?15, changed = ?16 \
+    WHERE identifier = ?1";
+
+/// What a report changes of it.
+pub const UPDATE_CONNECTION: &str = "\
+    UPDATE ships SET connection = ?2, tally = ?3, newest = ?4, heard = ?5, version = ?6 \
+    WHERE identifier = ?1";
+
 /// A row as it was read.
 pub struct Saved {
     pub identifier: Identifier,
@@ -56,10 +68,31 @@ pub struct Clocks {
     pub now: Instant,
 }
 
+impl Clocks {
+    /// When a ship was last heard, by the clock of the wall.
+    fn heard(&self, ship: &Ship) -> i64 {
+        let silent = self.now.saturating_duration_since(ship.heard).as_millis() as u64;
+        self.time.0.saturating_sub(silent) as i64
+    }
+}
+
+/// The row of a ship, one version on; of one whose row has the rest already, the connection and what goes with it.
+pub fn changed(ship: &Ship, writer: i64, clocks: Clocks) -> Row {
+    if ship.settled.is_none() || ship.settled != ship.settled() {
+        return of(ship, writer, clocks);
+    }
+    vec![
+        ship.session.id[..].into(),
+        secret::blanked(&ship.connection)[..].into(),
+        ship.tally.save()[..].into(),
+        i64::from(ship.newest).into(),
+        clocks.heard(ship).into(),
+        (ship.version + 1).into(),
+    ]
+}
+
 /// The row of a ship, one version on.
 pub fn of(ship: &Ship, writer: i64, clocks: Clocks) -> Row {
-    let silent = clocks.now.saturating_duration_since(ship.heard).as_millis() as u64;
-    let heard = clocks.time.0.saturating_sub(silent) as i64;
     vec![
         ship.session.id[..].into(),
         ship.session.ship[..].into(),
@@ -72,7 +105,7 @@ pub fn of(ship: &Ship, writer: i64, clocks: Clocks) -> Row {
         i64::from(ship.newest).into(),
         ship.opening.into(),
         i64::from(ship.mute).into(),
-        heard.into(),
+        clocks.heard(ship).into(),
         ship.barred.then_some(clocks.time.0 as i64).into(),
         (ship.version + 1).into(),
         writer.into(),
@@ -135,6 +168,7 @@ impl Saved {
     pub fn restore(&self, ship: &mut Ship, clocks: Clocks) -> Result<(), String> {
         let told = |refusal| format!("the connection of {}: {refusal}", self.name);
         ship.version = self.version;
+        ship.settled = None;
         ship.opening = self.opening;
         ship.barred = self.barred;
         ship.started = Vec::new();

@@ -38,7 +38,7 @@ CREATE TABLE reports (
     number INTEGER NOT NULL,
     received BIGINT NOT NULL,
     bytes BYTES NOT NULL,
-    UNIQUE (ship, opening, number)
+    UNIQUE (opening, number, ship)  -- in this order: ships that count in step are side by side
 );
 
 CREATE INDEX reports_received ON reports (received);

@@ -1,6 +1,7 @@
 //! SQLite: one file, one gateway. The write-ahead log and synchronous FULL: a commit is on the disk when it is done.
 
 use super::engine::{places, Engine, Fault, Row, Value, Words};
+use super::row::{UPDATE, UPDATE_CONNECTION};
 use rusqlite::config::DbConfig;
 use rusqlite::types::{ToSqlOutput, ValueRef};
 use rusqlite::{params_from_iter, Connection, ErrorCode, OpenFlags, ToSql};
@@ -31,7 +32,7 @@ impl Sqlite {
         let connection = &sqlite.connection;
         let mode: String = connection
             .query_row("PRAGMA journal_mode = WAL", [], |row| row.get(0))
-            .map_err(fault)?;
+            .map_err(fault_at_start)?;
         if mode != "wal" {
             return Err(Fault::Broken(format!("no write-ahead log here (journal mode {mode})")));
         }
@@ -48,7 +49,7 @@ impl Sqlite {
     }
 
     fn with(path: &Path, flags: OpenFlags) -> Result<Sqlite, Fault> {
-        let connection = Connection::open_with_flags(path, flags).map_err(fault)?;
+        let connection = Connection::open_with_flags(path, flags).map_err(fault_at_start)?;
         connection.busy_timeout(PATIENCE).map_err(fault)?;
         connection.set_prepared_statement_cache_capacity(STATEMENTS);
         Ok(Sqlite { connection })
@@ -98,6 +99,19 @@ impl Engine for Sqlite {
         Ok(())
     }
 
+    /// The rows of ships, which are all made at the start: not tried as new ones first, and only what has changed.
+    fn change(&mut self, _: &str, rows: &[Row], _: &str) -> Result<(), Fault> {
+        let mut whole = self.connection.prepare_cached(UPDATE).map_err(fault)?;
+        let mut part = self.connection.prepare_cached(UPDATE_CONNECTION).map_err(fault)?;
+        for row in rows {
+            let statement = if row.len() == part.parameter_count() { &mut part } else { &mut whole };
+            if statement.execute(params_from_iter(row)).map_err(fault)? != 1 {
+                return Err(Fault::Broken("the row of a ship is gone".to_string()));
+            }
+        }
+        Ok(())
+    }
+
     fn words(&self) -> &'static Words {
         &WORDS
     }
@@ -120,6 +134,14 @@ fn value(found: ValueRef) -> Value {
         ValueRef::Text(text) => Value::Text(String::from_utf8_lossy(text).into_owned()),
         ValueRef::Blob(bytes) => Value::Bytes(bytes.to_vec()),
         ValueRef::Null | ValueRef::Real(_) => Value::Null,
+    }
+}
+
+/// What cannot be opened at the start cannot be opened later: there are no rights to it.
+fn fault_at_start(error: rusqlite::Error) -> Fault {
+    match error.sqlite_error_code() {
+        Some(ErrorCode::CannotOpen) => Fault::Broken(error.to_string()),
+        _ => fault(error),
     }
 }
 

@@ -142,8 +142,32 @@ impl Gatewayd {
         child.wait().unwrap();
     }
 
+    /// Not waited for.
+    pub fn spawn(place: &Place, listen: &str) -> Child {
+        Gatewayd::command(place, listen, &[]).spawn().unwrap()
+    }
+
     pub fn start(place: &Place, listen: &str, more: &[&str]) -> Gatewayd {
         Gatewayd::begin(place, Gatewayd::command(place, listen, more))
+    }
+
+    /// The program at another path.
+    pub fn start_program(place: &Place, program: &Path, listen: &str) -> Gatewayd {
+        let plain = Gatewayd::command(place, listen, &[]);
+        let log = fs::OpenOptions::new().append(true).open(place.path.join("log")).unwrap();
+        let mut command = Command::new(program);
+        command.args(plain.get_args()).stdout(Stdio::piped()).stderr(log);
+        Gatewayd::begin(place, command)
+    }
+
+    /// Behind other words, which say where and as whom it runs.
+    pub fn start_behind(place: &Place, words: &[&str], listen: &str) -> Gatewayd {
+        let plain = Gatewayd::command(place, listen, &[]);
+        let log = fs::OpenOptions::new().append(true).open(place.path.join("log")).unwrap();
+        let mut command = Command::new(words[0]);
+        command.args(&words[1..]).arg(plain.get_program()).args(plain.get_args());
+        command.stdout(Stdio::piped()).stderr(log);
+        Gatewayd::begin(place, command)
     }
 
     /// On a disk that takes so many bytes in a file, until `room` is made.
