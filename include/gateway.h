@@ -50,7 +50,7 @@ extern "C" {
 #define GATEWAY_WRITTEN(result) ((size_t)((result) >> 16 & 0xffff))    /* bytes now at the front of `out` */
 #define GATEWAY_COUNT(result) ((size_t)((result) & 0xffff))            /* as each call says */
 
-/* The refusal numbers. */
+/* The refusal numbers. 18 is reserved: it was a hello while Open, and is not given any more. */
 enum gateway_refusal {
     GATEWAY_DONE = 0,
     GATEWAY_SIZE = 1,              /* datagram of 0 or over 1,400 bytes */
@@ -70,7 +70,6 @@ enum gateway_refusal {
     GATEWAY_SPENT = 15,            /* sending number spent */
     GATEWAY_ARGUMENT = 16,         /* argument out of range; also: the bytes lent are no saved connection */
     GATEWAY_WRONG_FINISHED = 17,   /* genuine Finished with wrong contents */
-    GATEWAY_HELLO_WHILE_OPEN = 18, /* clear ClientHello while Open */
     GATEWAY_MESSAGE_HEADER = 19,   /* no ports, an element past its end or of wrong length, total over 11, place 0 or above the total */
     GATEWAY_PART_DIFFERS = 20,     /* same place with other bytes, or same reference with another total */
     GATEWAY_GATHERER_FULL = 21,    /* a new reference while all four are in use */

@@ -23,7 +23,6 @@ pub enum Refusal {
     Spent = 15,
     Argument = 16,
     WrongFinished = 17,
-    HelloWhileOpen = 18,
     MessageHeader = 19,
     PartDiffers = 20,
     GathererFull = 21,
@@ -32,7 +31,7 @@ pub enum Refusal {
 
 use Refusal::*;
 
-const ALL: [Refusal; 22] = [
+const ALL: [Refusal; 21] = [
     Size,
     Header,
     Type,
@@ -50,7 +49,6 @@ const ALL: [Refusal; 22] = [
     Spent,
     Argument,
     WrongFinished,
-    HelloWhileOpen,
     MessageHeader,
     PartDiffers,
     GathererFull,
@@ -58,7 +56,8 @@ const ALL: [Refusal; 22] = [
 ];
 
 impl Refusal {
-    /// The number in the list of the rules, 1 to 22.
+    /// The number in the list of the rules, 1 to 22. (18 was a hello while open. It is not given any more, and the number is not used
+    /// again.)
     pub fn number(self) -> u8 {
         self as u8
     }
@@ -88,7 +87,6 @@ impl Refusal {
             Spent => "sending number spent",
             Argument => "argument out of range; also: the bytes lent are no saved connection",
             WrongFinished => "genuine Finished with wrong contents",
-            HelloWhileOpen => "clear ClientHello while Open",
             MessageHeader => {
                 "no ports, an element past its end or of wrong length, total over 11, place 0 or above the total"
             }

@@ -33,7 +33,7 @@ fn stored_bytes() {
     assert_eq!(Connection::load(&[]), Err(Refusal::Argument));
     let mut saved = *fresh().save();
     assert_eq!(Connection::load(&saved), Ok(fresh()));
-    saved[4] = 6;
+    saved[40] = 6;
     assert_eq!(Connection::load(&saved), Err(Refusal::Argument));
     assert!(!format!("{:?}", fresh()).contains('9'));
 }

@@ -44,12 +44,12 @@ fn sizes() {
     assert_eq!(size("REFERENCES_MOST"), gateway::REFERENCES_MOST);
 }
 
-/// `NotAllowed` is GATEWAY_NOT_ALLOWED, and prints as `refused 8: ` and the words of the header; so all twenty-two.
+/// `NotAllowed` is GATEWAY_NOT_ALLOWED, and prints as `refused 8: ` and the words of the header; so all twenty-one. 18 is reserved.
 #[test]
 fn refusals_by_name_number_and_meaning() {
     let refusals = refusals();
     assert_eq!(refusals[0], ("GATEWAY_DONE".to_string(), 0, String::new()));
-    assert_eq!(refusals.len(), 23);
+    assert_eq!(refusals.len(), 22);
     for (place, (name, number, comment)) in refusals.iter().enumerate().skip(1) {
         let refusal = Refusal::numbered(*number).expect(name);
         assert_eq!((usize::from(refusal.number()), *number as usize), (place, place));
@@ -63,5 +63,5 @@ fn refusals_by_name_number_and_meaning() {
         assert_eq!(refusal.meaning(), comment);
     }
     assert_eq!(Refusal::numbered(0), None);
-    assert_eq!(Refusal::numbered(23), None);
+    assert_eq!((Refusal::numbered(18), Refusal::numbered(23)), (None, None));
 }

@@ -4,13 +4,13 @@ use gateway::{Answer, Connection, Refusal, State, Tally};
 
 #[test]
 fn refusals_print_their_number_and_meaning() {
-    for number in 1..=22 {
+    for number in (1..=17).chain(19..=22) {
         let refusal = Refusal::numbered(number).expect("the list has it");
         assert_eq!(u32::from(refusal.number()), number);
         assert_eq!(refusal.to_string(), format!("refused {number}: {}", refusal.meaning()));
     }
     assert_eq!(Refusal::numbered(0), None);
-    assert_eq!(Refusal::numbered(23), None);
+    assert_eq!((Refusal::numbered(18), Refusal::numbered(23)), (None, None));
     assert_eq!(Refusal::Forged.to_string(), "refused 9: code not right");
 }
 
@@ -30,7 +30,7 @@ fn a_framing_fault_prints_its_offset() {
 
 #[test]
 fn what_is_no_saved_connection_does_not_load() {
-    assert_eq!(Connection::load(&[0; 940]), Err(Refusal::Argument));
+    assert_eq!(Connection::load(&[0; gateway::STATE_SIZE]), Err(Refusal::Argument));
     assert_eq!(Connection::load(&[]), Err(Refusal::Argument));
     let mut connection = Connection::fresh(&[1; 8], &[2; 20], 32).unwrap();
     connection.close().unwrap();
@@ -77,6 +77,6 @@ fn the_numbers_are_those_of_the_header() {
         assert_eq!(defined(name), Some(size), "{name}");
     }
     for (number, name) in [(7, "ENDED"), (9, "FORGED"), (16, "ARGUMENT"), (17, "WRONG_FINISHED")] {
-        assert!(header.contains(&format!("GATEWAY_{name} = {number},")), "{name}");
+        assert!(header.contains(&format!("GATEWAY_{name} = {number}")), "{name}");
     }
 }

@@ -26,8 +26,6 @@ const HELLOS_OF_A_SHARE: u32 = 100;
 const HELLOS_EACH_SECOND: u32 = 4_000;
 
 pub struct Rules {
-    /// How long a connection must have been silent before a hello is answered beside it.
-    pub reopen_after: Duration,
     /// At most one warning 57 for each ship in this time.
     pub warn_every: Duration,
     /// At most one no_connection to a sender in this time; none at all, if none.
@@ -39,7 +37,6 @@ pub struct Fleet {
     by_identifier: HashMap<Identifier, usize>,
     routes: Routes,
     handshakes: Handshakes,
-    reopen_after: Duration,
     warnings: Throttle<usize>,
     hints: Option<Hints>,
     hellos: Shares,
@@ -87,7 +84,6 @@ impl Fleet {
             by_identifier,
             routes: Routes::default(),
             handshakes,
-            reopen_after: rules.reopen_after,
             warnings: Throttle::new(rules.warn_every),
             hints: rules.hint_every.map(Hints::new),
             hellos: Shares::new(HELLOS_EACH_SECOND, HELLOS_OF_A_SHARE),
@@ -148,18 +144,15 @@ impl Fleet {
         if ship.barred {
             return noted(Some(index), Note::Refused { refusal: Refusal::Ended, record: 0 });
         }
-        let silent = arrival.now.saturating_duration_since(ship.heard) >= self.reopen_after;
         let same = |handshake: &Handshake| handshake.hello == hello.message;
         let under_way = ship.started.iter().position(same);
-        if ship.is_open() && under_way.is_none() && (!silent || ship.hello == hello.message) {
-            let refusal = Refusal::HelloWhileOpen;
-            return noted(Some(index), Note::Refused { refusal, record: 0 });
-        }
+        let is_of_open = ship.is_open() && ship.hello == hello.message;
         if !self.may_answer(index, arrival) {
             return noted(Some(index), Note::HelloPassedOver);
         }
         let taken = match under_way {
-            Some(place) => self.say_again(index, place, arrival),
+            _ if is_of_open => self.say_again(Target::Settled(index), arrival),
+            Some(place) => self.say_again(Target::Started(index, place), arrival),
             None => self.start(index, hello, arrival),
         };
         self.answered += u64::from(taken.notes.contains(&Note::Answered));
@@ -175,15 +168,17 @@ impl Fleet {
         }
     }
 
-    /// The hello of a handshake under way, once more: the same reply.
-    fn say_again(&mut self, index: usize, place: usize, arrival: &Arrival) -> Taken {
-        let sender = arrival.way.sender;
-        self.handshakes.said_again(&mut self.ships, index, place, sender);
-        let ship = &self.ships[index];
-        match arrival.tried_on(ship, Target::Started(index, place)) {
+    /// The hello of the open connection, or of a handshake under way, once more: the same reply, and
+    /// nothing starts.
+    fn say_again(&mut self, target: Target, arrival: &Arrival) -> Taken {
+        let index = target.ship();
+        if let Target::Started(_, place) = target {
+            self.handshakes.said_again(&mut self.ships, index, place, arrival.way.sender);
+        }
+        match arrival.tried_on(&self.ships[index], target) {
             Ok(trial) => {
                 let answered = trial.has_reply().then_some(Note::Answered);
-                let mut taken = self.settle(Target::Started(index, place), trial, arrival);
+                let mut taken = self.settle(target, trial, arrival);
                 taken.notes.extend(answered.filter(|_| !taken.send.is_empty()));
                 taken
             }
@@ -235,11 +230,40 @@ impl Fleet {
             Known { ships: &self.ships, routes: &self.routes, handshakes: &self.handshakes };
         match search::find(&known, &mut self.trials, arrival) {
             Found::Genuine(target, trial) | Found::Refused(target, trial) => {
+                let (target, trial) = self.beside_open(target, trial, arrival);
                 self.settle(target, trial, arrival)
             }
             Found::RefusedWhole(ship, refused) => noted(ship, refused_whole(refused)),
             Found::Nobodys => self.pass_over(arrival),
         }
+    }
+
+    /// Beside an open connection nothing counts under the keys of a handshake but its Finished: all
+    /// else that is protected is the open one's, and is counted as that finds it.
+    fn beside_open<'d>(
+        &mut self,
+        target: Target,
+        mut trial: Trial<'d>,
+        arrival: &Arrival<'d>,
+    ) -> (Target, Trial<'d>) {
+        let ship = &self.ships[target.ship()];
+        let open = Target::Settled(target.ship());
+        let records = datagram::records(arrival.datagram);
+        let codes = records.filter(|record| datagram::is_protected(record)).count();
+        if target == open || !ship.is_open() || codes == 0 || trial.opens() {
+            return (target, trial);
+        }
+        self.trials.made += 1;
+        self.trials.codes += codes as u64;
+        let Ok(found) = arrival.tried_on(ship, open) else { return (target, trial) };
+        let nobodys = trial.worth == Worth::Nothing;
+        if trial.hears_alert(arrival.datagram) || nobodys && found.worth != Worth::Nothing {
+            return (open, found);
+        }
+        if nobodys {
+            trial.tally = found.tally;
+        }
+        (target, trial)
     }
 
     /// A change cipher spec alone in a datagram says nothing of whose it is: it is for all handshakes that were begun at this address
@@ -332,7 +356,7 @@ impl Fleet {
     }
 
     /// Puts a connection where it belongs after a datagram. A handshake that opens takes the place
-    /// of what was there, and all others end.
+    /// of what was there, and those before it end. A ship may have rebooted once more since.
     fn put(&mut self, target: Target, trial: &Trial, taken: &mut Taken) {
         let index = target.ship();
         let state = trial.connection.state();
@@ -348,7 +372,7 @@ impl Fleet {
                 taken.notes.push(Note::Replaced);
             }
             self.ships[index].hello = self.ships[index].started[place].hello.clone();
-            self.handshakes.end_all_of(&mut self.ships, index);
+            self.handshakes.end_until(&mut self.ships, index, place);
         }
         let ship = &mut self.ships[index];
         ship.connection = trial.connection.clone();

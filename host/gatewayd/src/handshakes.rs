@@ -121,6 +121,13 @@ impl Handshakes {
         }
     }
 
+    /// Ends one of a ship and all that began before it.
+    pub fn end_until(&mut self, ships: &mut [Ship], ship: usize, place: usize) {
+        (0..=place).for_each(|_| {
+            self.end(ships, ship, 0);
+        });
+    }
+
     pub fn end_all_of(&mut self, ships: &mut [Ship], ship: usize) {
         while !ships[ship].started.is_empty() {
             self.end(ships, ship, 0);

@@ -28,8 +28,6 @@ gatewayd: the shore end of the link, over UDP. One connection for each planted s
     --listen-messages ADDRESS:PORT  where relays of short messages send to: the user data of one
                            message to a datagram  [none]
     --gather-for SECONDS   parts of a short message wait so long for the others  [300]
-    --reopen-after SECONDS a hello is answered beside an open connection that has been silent for so
-                           long  [5]
     --warn-every SECONDS   at most one warning 57 to a ship in this time  [60]
     --hint-every SECONDS   a datagram that no ship takes is answered by no_connection, at most once
                            to a host in this time  [never]
@@ -59,7 +57,6 @@ pub struct Options {
     pub listen: SocketAddr,
     pub listen_messages: Option<SocketAddr>,
     pub gather_for: Duration,
-    pub reopen_after: Duration,
     pub warn_every: Duration,
     pub hint_every: Option<Duration>,
     pub log_every: Duration,
@@ -74,7 +71,6 @@ struct Said {
     listen: SocketAddr,
     listen_messages: Option<SocketAddr>,
     gather_for: Duration,
-    reopen_after: Duration,
     warn_every: Duration,
     hint_every: Option<Duration>,
     log_every: Duration,
@@ -89,7 +85,6 @@ pub fn read(mut words: impl Iterator<Item = OsString>) -> Result<Command, String
         listen: SocketAddr::from(([127, 0, 0, 1], 9202)),
         listen_messages: None,
         gather_for: Duration::from_secs(300),
-        reopen_after: Duration::from_secs(5),
         warn_every: Duration::from_secs(60),
         hint_every: None,
         log_every: Duration::from_secs(10),
@@ -111,7 +106,6 @@ pub fn read(mut words: impl Iterator<Item = OsString>) -> Result<Command, String
         listen: said.listen,
         listen_messages: said.listen_messages,
         gather_for: said.gather_for,
-        reopen_after: said.reopen_after,
         warn_every: said.warn_every,
         hint_every: said.hint_every,
         log_every: said.log_every,
@@ -134,7 +128,6 @@ impl Said {
             "--listen" => self.listen = address(word, value()?)?,
             "--listen-messages" => self.listen_messages = Some(address(word, value()?)?),
             "--gather-for" => self.gather_for = seconds(word, value()?)?,
-            "--reopen-after" => self.reopen_after = seconds(word, value()?)?,
             "--warn-every" => self.warn_every = seconds(word, value()?)?,
             "--hint-every" => self.hint_every = Some(seconds(word, value()?)?),
             "--log-every" => self.log_every = seconds(word, value()?)?,
@@ -175,12 +168,11 @@ mod tests {
         let Ok(Command::Run(options)) = words("--state s --sessions f") else { panic!() };
         assert_eq!(options.listen.to_string(), "127.0.0.1:9202");
         assert_eq!(options.store, Where::Directory("s".into()));
-        assert_eq!(options.reopen_after, Duration::from_secs(5));
         assert_eq!(options.hint_every, None);
         assert_eq!(options.listen_messages, None);
-        let line = "--state s --sessions f --reopen-after 0.5 --hint-every 7";
+        let line = "--state s --sessions f --warn-every 0.5 --hint-every 7";
         let Ok(Command::Run(options)) = words(line) else { panic!() };
-        assert_eq!(options.reopen_after, Duration::from_millis(500));
+        assert_eq!(options.warn_every, Duration::from_millis(500));
         assert_eq!(options.hint_every, Some(Duration::from_secs(7)));
         assert_eq!(words("--help"), Ok(Command::Help));
         for line in [
@@ -192,6 +184,7 @@ mod tests {
             "--listen x",
             "--listen-messages x",
             "--warn-every -1",
+            "--state s --sessions f --reopen-after 5",
             "--log-every nan",
             "x",
         ] {

@@ -92,11 +92,7 @@ pub fn run(options: &Options) -> Result<Ended, Failure> {
         log.line(&format!("before this start the system dropped {} datagrams", socket.before));
     }
 
-    let rules = Rules {
-        reopen_after: options.reopen_after,
-        warn_every: options.warn_every,
-        hint_every: options.hint_every,
-    };
+    let rules = Rules { warn_every: options.warn_every, hint_every: options.hint_every };
     let shore = Shore::new(Fleet::new(ships, rules), store, randoms);
     let version = env!("CARGO_PKG_VERSION");
     let also = match &messages {

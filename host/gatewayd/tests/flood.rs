@@ -15,6 +15,8 @@ use std::time::{Duration, Instant};
 
 const HOSTS: usize = 300;
 const EACH_SECOND: usize = 20_000;
+/// Few enough that the system drops none.
+const HELLOS_EACH_SECOND: usize = 2_000;
 const REPORTS: u16 = 100;
 const AT_FULL_SPEED: Duration = Duration::from_secs(1);
 
@@ -27,6 +29,38 @@ fn floods() {
     withstands("protected garbage", protected, false);
     withstands("protected garbage, eight records each", eight_records, false);
     withstands("protected garbage at the ship's address", protected, true);
+    hellos_cost_an_open_ship_nothing();
+}
+
+/// Strangers say hello in the name of a ship that reports: its list is whole. Then it reboots among them, and is back.
+fn hellos_cost_an_open_ship_nothing() {
+    let place = Place::new("hellos");
+    place.plant(2);
+    let gatewayd = Gatewayd::start(&place, "127.0.0.1:0", &[]);
+    let address = gatewayd.address;
+    let mut ship = Ship::new(0, address);
+    ship.open(1);
+    let sockets = (0..HOSTS).map(stranger).collect();
+    let flood = Flood { address, datagram: of_the_first, sockets, done: AtomicBool::new(false) };
+    let mut rebooted = Ship::new(0, address);
+    let each_second = flood.beside(Some(HELLOS_EACH_SECOND), || {
+        for number in 1..=REPORTS {
+            ship.send(&ship.data(number));
+            thread::sleep(Duration::from_millis(10));
+        }
+        common::wait_for("all reports", || place.listed(0).len() == usize::from(REPORTS));
+        rebooted.shake_hands(2);
+        rebooted.send(&rebooted.data_behind_finished(1));
+        for number in 2..=REPORTS {
+            rebooted.send(&rebooted.data(number));
+            thread::sleep(Duration::from_millis(10));
+        }
+        common::wait_for("its reports", || place.listed(0).len() == 2 * usize::from(REPORTS));
+    });
+    println!("hellos of the ship that reports: at {each_second}/s all of {REPORTS} reports, twice");
+    let once: Vec<_> = (1..=REPORTS).map(|number| (number, text(0, number))).collect();
+    assert_eq!(place.listed(0), [&once[..], &once].concat());
+    gatewayd.end();
 }
 
 fn withstands(name: &str, datagram: fn(&mut Rng) -> Vec<u8>, at_its_address: bool) {
@@ -203,6 +237,10 @@ fn unknown_hello(rng: &mut Rng) -> Vec<u8> {
 fn hello(rng: &mut Rng) -> Vec<u8> {
     let id = identifier(rng.under(8));
     named(rng, &id)
+}
+
+fn of_the_first(rng: &mut Rng) -> Vec<u8> {
+    named(rng, &identifier(0))
 }
 
 fn named(rng: &mut Rng, id: &[u8; 8]) -> Vec<u8> {

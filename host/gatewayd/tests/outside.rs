@@ -72,38 +72,48 @@ fn barred_for_good() {
     }
 }
 
-/// A hello is answered beside an open connection that has been silent for `--reopen-after`; the open
-/// one goes on until the new one is open.
+/// A rebooted ship is back at once; the open connection goes on until the new one is open, and a
+/// handshake under way outlives the gateway.
 #[test]
 fn a_rebooted_ship() {
     let place = Place::new("rebooted");
     place.plant(1);
-    let gatewayd = Gatewayd::start(&place, ANY, &["--reopen-after", "3600"]);
+    let gatewayd = Gatewayd::start(&place, ANY, &[]);
     let address = gatewayd.address;
     let mut ship = Ship::new(0, address);
     ship.open(1);
     ship.send(&ship.data(1));
     wait_for("the first report", || place.listed(0).len() == 1);
     let mut rebooted = Ship::new(0, address);
-    let hello = rebooted.hello(2);
-    rebooted.send(&hello);
-    assert!(!rebooted.hear(NO_ANSWER));
-    gatewayd.end();
-
-    let gatewayd = Gatewayd::start(&place, &address.to_string(), &["--reopen-after", "0"]);
-    // The hello from which the open connection came starts nothing.
-    let mut old = Ship::new(0, address);
-    let hello = old.hello(1);
-    old.send(&hello);
-    assert!(!old.hear(NO_ANSWER));
     rebooted.shake_hands(2);
     ship.send(&ship.data(2));
     wait_for("the second report", || place.listed(0).len() == 2);
     gatewayd.end();
-    // A handshake under way outlives the gateway, too.
     let gatewayd = Gatewayd::start(&place, &address.to_string(), &[]);
     rebooted.send(&rebooted.data_behind_finished(1));
     wait_for("the report of the rebooted ship", || place.listed(0).len() == 3);
+    ship.send(&ship.data(3));
+    rebooted.send(&rebooted.data(2));
+    wait_for("its next report", || place.listed(0).len() == 4);
+    assert_eq!(place.listed(0)[3], (2, text(0, 2)));
+    gatewayd.end();
+}
+
+/// The hello from which the open connection came gets its reply again, and starts nothing.
+#[test]
+fn the_hello_of_the_open_connection() {
+    let place = Place::new("same-hello");
+    place.plant(1);
+    let gatewayd = Gatewayd::start(&place, ANY, &[]);
+    let mut ship = Ship::new(0, gatewayd.address);
+    ship.open(1);
+    ship.send(&ship.data(1));
+    wait_for("the report", || place.listed(0).len() == 1);
+    let first = ship.random.clone();
+    ship.shake_hands(1);
+    assert_eq!(ship.random, first);
+    ship.send(&ship.data(2));
+    wait_for("the next report", || place.listed(0).len() == 2);
     gatewayd.end();
 }
 

@@ -35,10 +35,10 @@ fn way(sender: SocketAddr) -> Way {
 
 impl World {
     fn new(ships: usize) -> World {
-        World::with(ships, 100, None)
+        World::with(ships, None)
     }
 
-    fn with(ships: usize, reopen_after: u64, hint_every: Option<u64>) -> World {
+    fn with(ships: usize, hint_every: Option<u64>) -> World {
         let start = Instant::now();
         let session = |ship| Session {
             id: identifier(ship),
@@ -49,7 +49,6 @@ impl World {
         let ships =
             (0..ships).map(|ship| gatewayd::ship::Ship::fresh(session(ship), start).unwrap());
         let rules = Rules {
-            reopen_after: Duration::from_secs(reopen_after),
             warn_every: Duration::from_secs(60),
             hint_every: hint_every.map(Duration::from_secs),
         };
@@ -144,16 +143,19 @@ fn the_route_follows_the_key() {
     assert_eq!(world.fleet.ships[1].tally.forged(), 0);
 }
 
+/// A hello beside an open connection is answered, and neither that nor silence touches it.
 #[test]
-fn an_18_moves_no_route_and_silence_closes_nothing() {
+fn a_strangers_hello_moves_no_route_and_silence_closes_nothing() {
     let mut world = World::new(1);
     let mut unit = ship(0);
     world.open(&mut unit, 1);
     for second in [0, 99] {
+        let before = world.fleet.ships[0].connection.clone();
         let hello = ship(0).hello(2);
         let taken = world.take(2, &hello, second);
-        assert_eq!(refusals(&taken), [18]);
-        assert!(!taken.changed && taken.send.is_empty());
+        assert_eq!((&taken.notes[..], taken.send.len()), (&[Note::Answered][..], 1));
+        assert_eq!(taken.send[0].0, way(address(2)));
+        assert!(before == world.fleet.ships[0].connection);
     }
     assert_eq!((world.route(0), world.state(0)), (Some(address(1)), State::Open));
     let year = 365 * 86_400;
@@ -191,9 +193,11 @@ fn an_overheard_hello() {
         }
         assert_eq!(world.take(1, &unit.data(1), 0).reports.len(), 1);
         assert_eq!((world.route(0), world.state(0)), (Some(address(1)), State::Open));
-        // From now on that hello starts nothing, however silent the ship is.
+        // From now on that hello gets its reply and starts nothing, however silent the ship is.
         let late = world.take(2, &hello, 1_000_000);
-        assert_eq!((refusals(&late), late.changed), (vec![18], false));
+        assert_eq!((&late.send, late.changed), (&vec![(way(address(2)), reply)], false));
+        assert!(world.fleet.ships[0].started.is_empty());
+        assert_eq!((world.route(0), world.state(0)), (Some(address(1)), State::Open));
         assert_eq!(world.take(1, &unit.data(2), 1_000_000).reports.len(), 1);
     }
 }
@@ -287,7 +291,6 @@ fn handshakes_under_fire() {
     assert_eq!(world.fleet.ships[0].started.len(), 8);
     assert!(world.take(1, &unit.unit.flight().unwrap(), 7).changed);
     assert_eq!((world.state(0), world.route(0)), (State::Open, Some(address(1))));
-    assert!(world.fleet.ships[0].started.is_empty());
     // It closes, and hundreds of addresses say hello; from its own host it comes back at once.
     world.take(1, &unit.alert(2, 0, 1), 7);
     for from in 2..200 {
@@ -399,35 +402,143 @@ fn forged_hellos_at_a_ships_address() {
     assert_eq!(world.take(1, &unit.data(1), 0).reports.len(), 1);
 }
 
+/// At once, and from wherever: nobody waits for silence.
 #[test]
-fn a_silent_ship_comes_back_with_a_hello() {
+fn a_rebooted_ship_comes_back_with_a_hello() {
     let mut world = World::new(1);
     let mut unit = ship(0);
     world.open(&mut unit, 1);
-    let first = unit.data(1);
-    assert_eq!(world.take(1, &first, 50).reports.len(), 1);
-    // A replay is no sign of life, else a stranger could keep the ship out.
-    assert_eq!(refusals(&world.take(1, &first, 149)), [11]);
-    let mut rebooted = ship(0);
-    let hello = rebooted.hello(9);
-    let early = world.take(2, &hello, 149);
-    assert_eq!((refusals(&early), early.changed), (vec![18], false));
+    assert_eq!(world.take(1, &unit.data(1), 50).reports.len(), 1);
     // A hello that would get no reply starts nothing.
     let unacceptable = Hello { version: 2, ..Hello::plain(&[3; 16], &identifier(0), Kind::Sha, 0) };
     let unacceptable = ship(0).unit.say_hello(&unacceptable.message());
-    assert!(!world.take(2, &unacceptable, 150).changed);
+    assert_eq!(refusals(&world.take(2, &unacceptable, 50)), [13]);
     assert!(world.fleet.ships[0].started.is_empty());
 
     // The hello is answered beside the open connection, which goes on.
-    world.greet(&mut rebooted, 9, 2, 150);
+    let mut rebooted = ship(0);
+    world.greet(&mut rebooted, 9, 2, 50);
     assert_eq!((world.route(0), world.state(0)), (Some(address(1)), State::Open));
-    assert_eq!(world.take(1, &unit.data(2), 150).reports.len(), 1);
+    assert_eq!(world.take(1, &unit.data(2), 50).reports.len(), 1);
     // Its Finished replaces it, from where it comes.
-    let taken = world.take(2, &rebooted.data_behind_finished(1), 150);
+    let taken = world.take(2, &rebooted.data_behind_finished(1), 50);
     assert_eq!((taken.reports.len(), taken.notes), (1, vec![Note::Opened, Note::Replaced]));
     assert_eq!((world.route(0), world.state(0)), (Some(address(2)), State::Open));
-    assert_eq!(world.take(1, &unit.data(3), 150).notes, [Note::Stranger]);
-    assert_eq!(world.take(2, &rebooted.data(2), 150).reports.len(), 1);
+    assert_eq!(world.take(1, &unit.data(3), 50).notes, [Note::Stranger]);
+    assert_eq!(world.take(2, &rebooted.data(2), 50).reports.len(), 1);
+}
+
+/// Twice, and with a stranger's hellos between; what the first reboot wrote comes late.
+#[test]
+fn a_ship_that_rebooted_twice() {
+    for late in [false, true] {
+        let mut world = World::new(1);
+        let (mut unit, mut first, mut second) = (ship(0), ship(0), ship(0));
+        world.open(&mut unit, 1);
+        world.greet(&mut first, 2, 1, 1);
+        let strangers = |world: &mut World| {
+            for from in 3..8 {
+                world.take(from, &ship(0).hello(100 + from), 1);
+            }
+        };
+        strangers(&mut world);
+        world.greet(&mut second, 3, 1, 1);
+        strangers(&mut world);
+        assert_eq!(world.take(1, &unit.data(1), 1).reports.len(), 1);
+        if late {
+            let taken = world.take(1, &first.data_behind_finished(1), 1);
+            assert_eq!((taken.reports.len(), taken.notes), (1, vec![Note::Opened, Note::Replaced]));
+        }
+        let taken = world.take(1, &second.data_behind_finished(1), 2);
+        assert_eq!((taken.reports.len(), taken.notes), (1, vec![Note::Opened, Note::Replaced]));
+        assert_eq!(world.take(1, &second.data(2), 2).reports.len(), 1);
+        assert_eq!(world.route(0), Some(address(1)));
+        for before in [&unit, &first] {
+            assert_eq!(refusals(&world.take(1, &before.data(9), 2)), [9]);
+        }
+    }
+}
+
+/// A stranger says hello in the name of an open ship, as often as he likes and from anywhere, while
+/// it reports: its list is whole, its connection is its own, and it can still reboot.
+#[test]
+fn hellos_beside_reports_cost_nothing() {
+    let mut world = World::new(1);
+    let mut unit = ship(0);
+    world.open(&mut unit, 1);
+    let mut listed = Vec::new();
+    for number in 1..=300_u16 {
+        let at = Duration::from_millis(100 * u64::from(number));
+        for n in 0..40_u32 {
+            let from = match n % 4 {
+                0 => address(1).ip(),
+                1 => address(2).ip(),
+                _ => (u32::from(number) * 977 + n).wrapping_mul(2_654_435_769).to_be_bytes().into(),
+            };
+            let hello = ship(0).hello((n % 250) as u8);
+            let taken = world.take_at(SocketAddr::new(from, 5000), &hello, at);
+            assert!(taken.reports.is_empty() && taken.send.len() <= 1);
+        }
+        let taken = world.take_at(address(1), &unit.data(number), at);
+        listed.extend(taken.reports.into_iter().map(|report| report.number));
+        assert_eq!((world.state(0), world.route(0)), (State::Open, Some(address(1))));
+    }
+    assert_eq!(listed, (1..=300).collect::<Vec<_>>());
+    let tally = world.fleet.ships[0].tally;
+    assert_eq!((tally.handed_out(), tally.forged(), tally.repeated()), (300, 0, 0));
+    let mut rebooted = ship(0);
+    let at = Duration::from_secs(40);
+    let reply = world.take_at(address(1), &rebooted.hello(251), at).send.remove(0).1;
+    rebooted.unit.hear_reply(&reply).unwrap();
+    assert_eq!(world.take_at(address(1), &rebooted.data_behind_finished(1), at).reports.len(), 1);
+}
+
+/// Beside an open connection nothing counts under the keys of a handshake but its Finished: an alert
+/// is forged, moves no route and bars nothing.
+#[test]
+fn an_alert_before_its_finished() {
+    for level in 1..=3 {
+        let mut world = World::new(1);
+        let (mut unit, mut rebooted) = (ship(0), ship(0));
+        world.open(&mut unit, 1);
+        world.greet(&mut rebooted, 2, 2, 0);
+        let change = rebooted.unit.clear(Content::ChangeCipherSpec, true, 1, &[1]);
+        assert!(world.take(2, &change, 0).changed);
+        let taken = world.take(2, &rebooted.alert(level, 40, 1), 0);
+        assert_eq!((refusals(&taken), taken.changed), (vec![9], false));
+        let tally = world.fleet.ships[0].tally;
+        assert_eq!((tally.forged(), world.fleet.ships[0].barred), (1, false));
+        assert_eq!((world.route(0), world.state(0)), (Some(address(1)), State::Open));
+        assert_eq!(world.take(1, &unit.data(1), 0).reports.len(), 1);
+        assert_eq!(world.take(2, &rebooted.data_behind_finished(1), 0).reports.len(), 1);
+    }
+}
+
+/// Protected records that are nobody's count as the open connection finds them, also from where a
+/// handshake was begun beside it.
+#[test]
+fn forged_records_beside_an_open_connection() {
+    let mut world = World::new(1);
+    let (mut unit, mut rebooted) = (ship(0), ship(0));
+    world.open(&mut unit, 1);
+    world.greet(&mut rebooted, 2, 1, 0);
+    let forged = |world: &World| world.fleet.ships[0].tally.forged();
+    let damaged = |mut datagram: Vec<u8>, place: usize| {
+        datagram[place] ^= 1;
+        datagram
+    };
+    // Data of before; a flight whose change cipher spec counts, and neither Finished nor data.
+    assert_eq!(refusals(&world.take(1, &damaged(unit.data(1), 9), 0)), [8]);
+    assert_eq!(forged(&world), 1);
+    let flight = rebooted.data_behind_finished(1);
+    assert_eq!(refusals(&world.take(1, &damaged(flight.clone(), 20), 0)), [9, 8]);
+    assert_eq!(forged(&world), 3);
+    assert_eq!(world.take(1, &unit.data(2), 0).reports.len(), 1);
+    // Sound, it opens, and only its data is taken.
+    let taken = world.take(1, &damaged(flight.clone(), flight.len() - 1), 0);
+    assert_eq!((taken.reports.len(), refusals(&taken)), (0, vec![8, 9]));
+    assert_eq!((forged(&world), world.fleet.ships[0].opening), (4, 2));
+    assert_eq!(world.take(1, &rebooted.data(2), 0).reports.len(), 1);
 }
 
 /// What was begun beside an open connection ends when that is heard, but not before its time.
@@ -543,7 +654,7 @@ fn one_stranger_has_a_share_of_the_budget() {
 
 #[test]
 fn a_hint_that_there_is_no_connection() {
-    let mut world = World::with(1, 100, Some(60));
+    let mut world = World::with(1, Some(60));
     let mut unit = ship(0);
     world.open(&mut unit, 1);
     let mut garbage = unit.data(1);
@@ -651,7 +762,7 @@ fn a_barred_session_stays_out() {
         };
         Store::open(&place.at(), &[session(0), session(1)], Start::AsItWas).unwrap()
     };
-    let mut world = World::with(2, 0, None);
+    let mut world = World::new(2);
     let mut store = open(secret).store;
     let mut unit = ship(0);
     world.open(&mut unit, 1);

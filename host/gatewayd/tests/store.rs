@@ -34,7 +34,7 @@ impl World {
         let sessions = vec![Session { id: identifier(0), secret: secret(0), width: 32, ship: name(0) }];
         let opened = Store::open(&Where::Directory(state.into()), &sessions, start).unwrap();
         let rules =
-            Rules { reopen_after: Duration::ZERO, warn_every: Duration::ZERO, hint_every: None };
+            Rules { warn_every: Duration::ZERO, hint_every: None };
         let fleet = Fleet::new(opened.ships, rules);
         World { shore: Shore::new(fleet, opened.store, Randoms::open().unwrap()) }
     }

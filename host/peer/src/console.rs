@@ -4,10 +4,11 @@ use std::io::{self, BufRead, Write};
 
 use crate::hex;
 use crate::macs::{self, Kind, UnknownEdition};
-use crate::set;
 use crate::messages;
-use crate::shore::{Answer, Judged, Received, Refusal, Shore, State, Tally};
+use crate::set;
+use crate::shore::{Answer, Judged, Phase, Received, Refusal, Shore, Started, State, Tally};
 use crate::short::Gathering;
+use crate::window::Window;
 
 pub(crate) const LONGEST_LINE: usize = 8192;
 pub(crate) const MOST_ROOM: usize = 2048;
@@ -107,26 +108,54 @@ impl Console {
     fn state_line(&self) -> String {
         let Some(shore) = &self.shore else {
             return "state None n=- marks=0000000000000000 arrived=0 sent=-,- checksum=00000000 \
-                    tally=0,0,0,0 parts=-"
+                    tally=0,0,0,0 parts=- started=-"
                 .to_string();
         };
-        let newest = shore.window().newest();
-        let mask: u64 =
-            newest.iter().zip(0u32..).filter(|(mark, _)| **mark).map(|(_, i)| 2u64.pow(i)).sum();
-        let arrived = newest.iter().filter(|mark| **mark).count();
-        let highest = shore.window().highest().map_or("-".to_string(), |n| n.to_string());
-        let sent = match shore.next_numbers() {
-            Some((protected, clear)) => format!("{protected},{clear}"),
-            None => "-,-".to_string(),
-        };
+        let window = shore.handshake().window();
+        let arrived = window.newest().iter().filter(|mark| **mark).count();
         let Tally { handed_out, forged, too_old, repeated } = self.tally;
         format!(
-            "state {:?} n={highest} marks={mask:016x} arrived={arrived} sent={sent} checksum={} \
-             tally={handed_out},{forged},{too_old},{repeated} parts={}",
+            "state {:?} n={} marks={:016x} arrived={arrived} sent={} checksum={} \
+             tally={handed_out},{forged},{too_old},{repeated} parts={} started={}",
             shore.state(),
+            highest(window),
+            marks(window),
+            numbers(shore.handshake().next_numbers()),
             hex::write(&shore.last_checksum()),
-            messages::parts(&self.gathering)
+            messages::parts(&self.gathering),
+            started(shore.started())
         )
+    }
+}
+
+fn highest(window: &Window) -> String {
+    window.highest().map_or("-".to_string(), |n| n.to_string())
+}
+
+/// The least significant bit is the highest number itself.
+fn marks(window: &Window) -> u64 {
+    let newest = window.newest();
+    newest.iter().zip(0u32..).filter(|(mark, _)| **mark).map(|(_, i)| 2u64.pow(i)).sum()
+}
+
+fn numbers(next: Option<(u32, u32)>) -> String {
+    match next {
+        Some((protected, clear)) => format!("{protected},{clear}"),
+        None => "-,-".to_string(),
+    }
+}
+
+/// The handshake that is started beside the open one: its phase and sending numbers, in Spec also its
+/// highest number and its marks.
+fn started(started: Option<&Started>) -> String {
+    let Some(Started { phase, handshake }) = started else { return "-".to_string() };
+    let sent = numbers(handshake.next_numbers());
+    match phase {
+        Phase::Replied => format!("Replied,{sent}"),
+        Phase::Spec => {
+            let window = handshake.window();
+            format!("Spec,{sent},{},{:016x}", highest(window), marks(window))
+        }
     }
 }
 

@@ -2,10 +2,12 @@
 //! strangers on it, and a caller who makes mistakes. Every call goes to the model first, since
 //! the unit must hear what the shore would say.
 
+mod reboots;
 mod records;
 mod sent;
 mod short;
 mod traffic;
+mod voices;
 
 use crate::alert;
 use crate::console::Console;
@@ -16,6 +18,7 @@ use crate::sets;
 use crate::shore::{Checksum, State};
 use crate::unit::Unit;
 use crate::wire;
+use voices::Voice;
 
 /// Takes each line with the lines that it must give; false once no more are wanted.
 pub type Sink<'a> = dyn FnMut(&[u8], Vec<String>) -> bool + 'a;
@@ -33,14 +36,31 @@ pub fn random(seed: u64, model: &mut Console, sink: &mut Sink) {
     }
 }
 
-/// A day on which the protected or the clear sending numbers run out.
-pub fn spent(seed: u64, protected: bool, model: &mut Console, sink: &mut Sink) {
+/// Which sending numbers run out.
+#[derive(Clone, Copy, PartialEq, Eq, Debug)]
+pub enum Spent {
+    Protected,
+    Clear,
+    /// The clear ones of a handshake that is started beside an open one.
+    Started,
+}
+
+impl Spent {
+    pub const ALL: [Spent; 3] = [Spent::Protected, Spent::Clear, Spent::Started];
+}
+
+/// A day on which sending numbers run out.
+pub fn spent(seed: u64, which: Spent, model: &mut Console, sink: &mut Sink) {
     let mut day = Day::new(seed, model, sink);
     day.by_messages = 0;
     day.fresh();
-    day.reach(if protected { State::Open } else { State::Replied });
-    while !day.over && !day.is_spent(protected) {
-        day.spend(protected);
+    day.reach(if which == Spent::Clear { State::Replied } else { State::Open });
+    while !day.over && which == Spent::Started && day.started().is_none() {
+        day.reach(State::Open);
+        day.hello();
+    }
+    while !day.over && !day.is_spent(which) {
+        day.spend(which);
     }
     for _ in 0..60 {
         match day.rng.percent(50) {
@@ -59,10 +79,10 @@ struct Day<'a> {
     session: Vec<u8>,
     secret: Vec<u8>,
     unit: Unit,
-    /// Whether the unit heard the reply that the shore goes by.
-    in_step: bool,
     /// The unit's next protected number.
     next: u32,
+    /// The connection that the unit had before it lost its power.
+    other: Option<Voice>,
     /// Datagrams on their way, and those that arrived.
     link: Vec<Vec<u8>>,
     arrived: Vec<Vec<u8>>,
@@ -106,8 +126,8 @@ impl<'a> Day<'a> {
             over: false,
             session,
             secret,
-            in_step: false,
             next: 0,
+            other: None,
             link: Vec::new(),
             arrived: Vec::new(),
             hellos: Vec::new(),
@@ -151,6 +171,7 @@ impl<'a> Day<'a> {
     }
 
     fn step(&mut self) {
+        self.choose_voice();
         match self.rng.under(100) {
             0..=5 => self.replay(),
             6..=12 => self.damage(),
@@ -228,9 +249,13 @@ impl<'a> Day<'a> {
     }
 
     fn ordinary_open(&mut self) {
+        if self.started().is_some() && self.rng.percent(70) {
+            return self.ordinary_started();
+        }
         match self.rng.under(100) {
             0..=19 if self.restless => self.close(),
-            0..=69 => self.traffic(),
+            0..=59 => self.traffic(),
+            60..=69 => self.reboot(),
             70..=73 => self.flight(),
             74..=75 => self.resend_hello(),
             76 => self.wrong_hello(),
@@ -272,7 +297,6 @@ impl<'a> Day<'a> {
 /// The calls themselves.
 impl Day<'_> {
     fn fresh(&mut self) {
-        self.in_step = false;
         let any = self.rng.between(32, 64);
         let width = self.rng.weigh(&[(1, 32), (1, 64), (4, any)]);
         let line = format!("fresh {} {} {width}", word(&self.session), word(&self.secret));
@@ -314,10 +338,7 @@ impl Day<'_> {
     fn odd_line(&mut self) {
         let good = self.last_line.clone();
         let line = lines::odd(&mut self.rng, &good);
-        let before = self.model.shore().map(|shore| shore.last_checksum());
         self.call(line);
-        let after = self.model.shore().map(|shore| shore.last_checksum());
-        self.in_step &= before == after;
         if good.starts_with(b"fresh") {
             self.fresh();
         }
@@ -325,7 +346,7 @@ impl Day<'_> {
 
     /// Lends a datagram to the shore; the unit hears the reply unless it is lost.
     fn receive(&mut self, datagram: &[u8]) {
-        let random = self.rng.bytes(16);
+        let random = self.random();
         let room = self.rng.weigh(&[(8, 128), (1, 129), (1, 2048)]);
         if self.rng.percent(self.by_messages) {
             return self.by_messages(datagram);
@@ -346,7 +367,6 @@ impl Day<'_> {
             self.arrived.remove(0);
         }
         if let Some(reply) = out {
-            self.in_step = false;
             if self.rng.percent(93) {
                 self.hear_reply(datagram, &reply);
             }
@@ -357,13 +377,9 @@ impl Day<'_> {
     fn hear_reply(&mut self, datagram: &[u8], reply: &[u8]) {
         let records = wire::frame(datagram).expect("the shore replied to a sound datagram");
         let own = datagram[records[0].fragment.clone()] == *self.unit.last_hello();
+        let before = self.voice();
         match self.unit.hear_reply(reply) {
-            Ok(()) => {
-                self.in_step = true;
-                self.next = 0;
-                let left = self.rng.under(2);
-                self.link.truncate(left);
-            }
+            Ok(()) => self.go_by(before),
             Err(error) => assert!(!own, "the unit refuses the model's reply: {error}"),
         }
     }
@@ -425,14 +441,6 @@ impl Day<'_> {
         self.hear(out);
     }
 
-    /// What the shore sent must satisfy the unit, unless it is lost.
-    fn hear(&mut self, out: Option<Vec<u8>>) {
-        let Some(record) = out else { return };
-        if self.in_step && self.rng.percent(90) {
-            self.unit.hear(&record).expect("the unit reads what the model sends");
-        }
-    }
-
     /// Exactly what is needed, one less, or something else.
     fn room(&mut self, needed: usize) -> usize {
         let any = self.rng.under(2049);
@@ -442,7 +450,8 @@ impl Day<'_> {
     }
 
     fn code_size(&self) -> usize {
-        self.unit.connection().map_or(10, |connection| connection.keys.kind.code_size())
+        let keys = self.model.shore().and_then(|shore| shore.handshake().keys());
+        keys.map_or(10, |keys| keys.kind.code_size())
     }
 
     /// Mostly assigned.
@@ -454,20 +463,24 @@ impl Day<'_> {
         }
     }
 
-    fn is_spent(&self, protected: bool) -> bool {
-        match self.model.shore().and_then(|shore| shore.next_numbers()) {
-            Some((next_protected, next_clear)) => {
-                (if protected { next_protected } else { next_clear }) == 65536
-            }
+    fn is_spent(&self, which: Spent) -> bool {
+        let Some(shore) = self.model.shore() else { return true };
+        let numbers = match which {
+            Spent::Started => shore.started().and_then(|one| one.handshake.next_numbers()),
+            Spent::Protected | Spent::Clear => shore.handshake().next_numbers(),
+        };
+        match numbers {
+            Some((protected, _)) if which == Spent::Protected => protected == 65536,
+            Some((_, clear)) => clear == 65536,
             None => true,
         }
     }
 
-    fn spend(&mut self, protected: bool) {
-        let line = match protected {
-            false => "alert clear 1 0 - 9",
-            true if self.next % 50 == 49 => "alert protected 1 90 - 2048",
-            true => "send 2a 24",
+    fn spend(&mut self, which: Spent) {
+        let line = match which {
+            Spent::Clear | Spent::Started => "alert clear 1 0 - 9",
+            Spent::Protected if self.next % 50 == 49 => "alert protected 1 90 - 2048",
+            Spent::Protected => "send 2a 24",
         };
         self.next += 1;
         self.call(line.into());

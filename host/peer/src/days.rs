@@ -11,7 +11,7 @@ use std::sync::mpsc::{sync_channel, Receiver};
 use std::thread;
 
 use crate::console::{self, Console};
-use crate::day::{self, Sink};
+use crate::day::{self, Sink, Spent};
 use crate::report::{Counts, Difference, Report};
 use crate::rng::Rng;
 use crate::shipconsole::{self, ShipConsole};
@@ -22,7 +22,8 @@ use crate::shrink;
 pub trait End {
     type Model: Default;
     fn random(seed: u64, model: &mut Self::Model, sink: &mut Sink);
-    fn spent(seed: u64, protected: bool, model: &mut Self::Model, sink: &mut Sink);
+    /// One of the days on which numbers are spent, by turns.
+    fn spent(seed: u64, turn: usize, model: &mut Self::Model, sink: &mut Sink);
     fn run(input: &[u8], output: &mut Vec<u8>) -> io::Result<()>;
 }
 
@@ -36,8 +37,8 @@ impl End for Ashore {
         day::random(seed, model, sink)
     }
 
-    fn spent(seed: u64, protected: bool, model: &mut Console, sink: &mut Sink) {
-        day::spent(seed, protected, model, sink)
+    fn spent(seed: u64, turn: usize, model: &mut Console, sink: &mut Sink) {
+        day::spent(seed, Spent::ALL[turn % Spent::ALL.len()], model, sink)
     }
 
     fn run(input: &[u8], output: &mut Vec<u8>) -> io::Result<()> {
@@ -52,8 +53,8 @@ impl End for Aboard {
         shipday::random(seed, model, sink)
     }
 
-    fn spent(seed: u64, protected: bool, model: &mut ShipConsole, sink: &mut Sink) {
-        shipday::spent(seed, protected, model, sink)
+    fn spent(seed: u64, turn: usize, model: &mut ShipConsole, sink: &mut Sink) {
+        shipday::spent(seed, turn % 2 == 0, model, sink)
     }
 
     fn run(input: &[u8], output: &mut Vec<u8>) -> io::Result<()> {
@@ -66,7 +67,8 @@ impl End for Aboard {
 pub struct Plan {
     pub seed: u64,
     pub calls: u64,
-    /// Days on which the sending numbers run out, by turns the protected and the clear ones.
+    /// Days on which sending numbers run out, by turns the protected ones, the clear ones, and the
+    /// clear ones of a started handshake.
     pub spent: u64,
     /// Where to leave the few lines that make a difference.
     pub keep: Option<PathBuf>,
@@ -97,7 +99,7 @@ impl Plan {
                     return Some(Plan {
                         seed: seed?,
                         calls,
-                        spent: spent.unwrap_or(2 * (calls / 200_000)),
+                        spent: spent.unwrap_or(3 * (calls / 200_000)),
                         keep,
                         program: std::iter::once(program.to_string()).chain(rest).collect(),
                     });
@@ -172,7 +174,7 @@ pub fn make_days<E: End>(
             break;
         }
         days += 1;
-        E::spent(seeds.draw(), turn % 2 == 0, &mut model, &mut |line, lines| {
+        E::spent(seeds.draw(), turn as usize, &mut model, &mut |line, lines| {
             gone = !hand_on(days, line, lines);
             calls += 1;
             !gone
@@ -315,7 +317,7 @@ mod tests {
     fn plans() {
         let plan =
             Plan::read(&["--seed", "7", "--calls", "400000", "--console", "x", "y"]).unwrap();
-        assert_eq!((plan.seed, plan.calls, plan.spent), (7, 400_000, 4));
+        assert_eq!((plan.seed, plan.calls, plan.spent), (7, 400_000, 6));
         assert_eq!(plan.program, ["x", "y"]);
         assert_eq!(Plan::read(&["--seed", "7", "--console", "x"]), None);
         assert_eq!(Plan::read(&["--seed", "x", "--calls", "1", "--console", "x"]), None);

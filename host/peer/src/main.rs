@@ -4,7 +4,7 @@ use std::io::{self, BufWriter, Read, Write};
 use std::process::ExitCode;
 
 use peer::{
-    capture, console, dayconsole, dayfiles, days, handshakes, links, lists, parts, rng, setlines,
+    capture, console, dayconsole, dayfiles, days, handshakes, links, lists, parts, rng, rows, setlines,
     shipconsole, shipcover, shipstored, stored, wire,
 };
 
@@ -24,8 +24,9 @@ peer setlines --seed S --count N    lines for the console: N calls, explicit set
                                    in hellos, sound and wrong
 peer days --seed S --calls N [--spent K] [--keep FILE] --console PROGRAM [ARGUMENT ..]
                                    random days through PROGRAM, each line compared; K days on
-                                   which sending numbers run out (else 2 to each 200,000 calls);
+                                   which sending numbers run out (else 3 to each 200,000 calls);
                                    FILE gets the few lines that make a difference
+peer rows --seed S --days N          how often random days meet each row of Open; 1 if one is missing
 peer shipdays --seed S --calls N [--spent K] [--keep FILE] --console PROGRAM [ARGUMENT ..]
                                    the same for the ship's console
 peer shiplines --seed S --calls N   the calls of such days, as input for the ship's console
@@ -64,6 +65,9 @@ fn main() -> ExitCode {
         ["shiplines", "--seed", seed, "--calls", calls] => ship_lines(seed, calls),
         ["shipcover", "--seed", seed, "--calls", calls] => ship_cover(seed, calls),
         ["links", ..] => return run_links(&words[1..]),
+        ["rows", "--seed", seed, "--days", days] => {
+            return run_rows(seed.parse().ok(), days.parse().ok())
+        }
         ["lists", "--seed", seed, "--count", count, "--lister", ..] => {
             return run_many(lists::run, seed.parse().ok(), count.parse().ok(), &words[6..])
         }
@@ -213,4 +217,14 @@ fn run_many(run: Run, seed: Option<u64>, count: Option<u64>, program: &[&str]) -
             ExitCode::FAILURE
         }
     }
+}
+
+fn run_rows(seed: Option<u64>, days: Option<u64>) -> ExitCode {
+    let (Some(seed), Some(days)) = (seed, days) else {
+        eprint!("{USAGE}");
+        return ExitCode::from(2);
+    };
+    let rows = rows::of_days(seed, days);
+    print!("{rows}");
+    ExitCode::from(u8::from(!rows.missing().is_empty()))
 }

@@ -5,7 +5,7 @@ use crate::console::Console;
 use crate::day::word;
 use crate::hex;
 use crate::keys::Kind;
-use crate::unit::{Hello, Unit};
+use crate::unit::{Connection, Hello, Unit};
 use crate::wire::{self, Content};
 
 pub struct Script {
@@ -71,11 +71,27 @@ impl Script {
     pub fn receive(&mut self, datagram: &[u8]) -> Vec<String> {
         let random = self.next_random();
         self.receives += 1;
-        let lines = self.line(&format!("receive {} {} 128", word(datagram), word(&random)));
+        self.receive_with(datagram, &random)
+    }
+
+    fn hear_reply(&mut self, lines: &[String]) {
         if let Some(reply) = lines.iter().find_map(|line| line.strip_prefix("out ")) {
             let reply = hex::read(reply.as_bytes()).expect("the model writes hex");
             self.unit.hear_reply(&reply).expect("the unit reads the model's reply");
         }
+    }
+
+    /// Lends a datagram that the unit did not send; it hears no reply.
+    pub fn stranger(&mut self, datagram: &[u8]) -> Vec<String> {
+        let random = self.next_random();
+        self.receives += 1;
+        self.line(&format!("receive {} {} 128", word(datagram), word(&random)))
+    }
+
+    /// Lends a datagram with this random. The unit hears a reply.
+    pub fn receive_with(&mut self, datagram: &[u8], random: &[u8]) -> Vec<String> {
+        let lines = self.line(&format!("receive {} {} 128", word(datagram), word(random)));
+        self.hear_reply(&lines);
         lines
     }
 
@@ -84,10 +100,7 @@ impl Script {
         let random = self.next_random();
         self.receives += 1;
         let lines = self.line(&format!("message {} {} 128", word(message), word(&random)));
-        if let Some(reply) = lines.iter().find_map(|line| line.strip_prefix("out ")) {
-            let reply = hex::read(reply.as_bytes()).expect("the model writes hex");
-            self.unit.hear_reply(&reply).expect("the unit reads the model's reply");
-        }
+        self.hear_reply(&lines);
         lines
     }
 
@@ -127,6 +140,25 @@ impl Script {
     pub fn stray_hello(&mut self, message: &[u8]) -> Vec<String> {
         let datagram = self.unit.clear(Content::Handshake, false, 0, message);
         self.receive(&datagram)
+    }
+
+    /// The unit lost its power and says hello: what it knew till then, to be lent to `under`.
+    pub fn reboot(&mut self, first: u8, kind: Kind, refresh: u8) -> Connection {
+        let before = self.connection();
+        self.hello(first, kind, refresh);
+        before
+    }
+
+    pub fn connection(&self) -> Connection {
+        self.unit.connection().expect("a reply was heard").clone()
+    }
+
+    /// What the unit does as another connection knows it.
+    pub fn under<T>(&mut self, connection: &Connection, act: impl FnOnce(&mut Script) -> T) -> T {
+        let now = self.unit.exchange(connection.clone()).expect("a reply was heard");
+        let done = act(self);
+        self.unit.exchange(now);
+        done
     }
 
     pub fn flight(&mut self) -> Vec<String> {

@@ -6,7 +6,8 @@ mod judge;
 
 use crate::alert;
 use crate::keys::{Keys, Kind, Writer};
-use crate::shore::{remember, unspent, Checksum, Refusal, Tally, LARGEST_DATA, ROOM_OF_RECEIVE};
+use crate::handshake::unspent;
+use crate::shore::{remember, Checksum, Refusal, Tally, LARGEST_DATA, ROOM_OF_RECEIVE};
 use crate::unit::Hello;
 use crate::window::Window;
 use crate::wire::{self, Content, Fault};

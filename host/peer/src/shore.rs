@@ -1,14 +1,19 @@
 //! The shore's rules: one connection with one ship's unit. Each call is one function here, and
 //! the order of its tests is the order of its refusals in the rules.
+//!
+//! A unit that rebooted says hello while its connection is open. Its handshake is then held beside
+//! the open one, by the rows of Idle, Replied and Spec, and takes its place once the unit's new
+//! Finished is verified. Until then the open one goes on.
 
 use crate::alert::{self, Alert, Level};
-use crate::finished;
+use crate::handshake::Handshake;
 use crate::hello;
-use crate::keys::{Keys, Writer};
-use crate::window::{Verdict, Window};
+use crate::keys::Keys;
+use crate::window::Window;
 use crate::wire::{self, Content, Fault, Record};
 
-/// The refusal numbers that the calls and the records give; 1 to 5 are those of the framing.
+/// The refusal numbers that the calls and the records give; 1 to 5 are those of the framing. 18 is
+/// not given any more.
 #[derive(Clone, Copy, PartialEq, Eq, Debug)]
 pub enum Refusal {
     Room = 6,
@@ -23,7 +28,6 @@ pub enum Refusal {
     Spent = 15,
     Argument = 16,
     WrongFinished = 17,
-    HelloWhileOpen = 18,
 }
 
 #[derive(Clone, Copy, PartialEq, Eq, Debug)]
@@ -74,32 +78,29 @@ pub struct Shore {
     state: State,
     identifier: Vec<u8>,
     secret: Vec<u8>,
-    window: Window,
-    handshake: Option<Handshake>,
-    sending: Option<Sending>,
+    /// The only handshake, or in Open the open one.
+    handshake: Handshake,
+    /// Only in Open.
+    started: Option<Started>,
     records_sent: Vec<Checksum>,
 }
 
-/// What a reply leaves behind for the rest of its handshake.
+/// A handshake that the unit started beside the open one.
 #[derive(Clone, PartialEq, Eq, Debug)]
-struct Handshake {
-    hello: Vec<u8>,
-    reply: Vec<u8>,
-    keys: Keys,
-    unit_verify_data: Vec<u8>,
+pub struct Started {
+    pub phase: Phase,
+    pub handshake: Handshake,
+}
+
+#[derive(Clone, Copy, PartialEq, Eq, Debug)]
+pub enum Phase {
+    Replied,
+    Spec,
 }
 
 /// The checksum of a record that we sent.
 pub type Checksum = [u8; 4];
 
-/// Our next numbers (65,536 once spent).
-#[derive(Clone, PartialEq, Eq, Debug)]
-struct Sending {
-    protected: u32,
-    clear: u32,
-}
-
-const SPENT: u32 = 65536;
 pub(crate) const ROOM_OF_RECEIVE: usize = 128;
 pub(crate) const LARGEST_DATA: usize = 1300;
 /// How many of the records that we sent an alert may be about.
@@ -116,9 +117,8 @@ impl Shore {
             state: State::Idle,
             identifier: identifier.to_vec(),
             secret: secret.to_vec(),
-            window,
-            handshake: None,
-            sending: None,
+            handshake: Handshake::none(window),
+            started: None,
             records_sent: Vec::new(),
         })
     }
@@ -145,9 +145,10 @@ impl Shore {
         let mut answers = Vec::new();
         let mut out = None;
         for (place, record) in records.iter().enumerate() {
+            let hello = &datagram[record.fragment.clone()];
             let answer = self.judge(datagram, place, record, random);
             if let Ok(Answer::Reply(_) | Answer::Resent(_)) = answer {
-                out = self.handshake.as_ref().map(|handshake| handshake.reply.clone());
+                out = self.reply_to(hello).map(<[u8]>::to_vec);
             }
             tally.count(&answer);
             answers.push(answer);
@@ -160,12 +161,14 @@ impl Shore {
         if data.is_empty() || data.len() > LARGEST_DATA {
             return Err(Refusal::Argument);
         }
-        self.allow_sending(&[State::Open])?;
-        self.send_protected(Content::Data, data, room)
+        allow_sending(self.state, &[State::Open])?;
+        let record = self.handshake.protect(Content::Data, data, room)?;
+        Ok(self.sent(record))
     }
 
-    /// Send alert: 16, 7, 8, 15, 6. Protected in Replied, Spec and Open, clear in Replied and
-    /// Spec. The checksum is over exactly the bytes lent.
+    /// Send alert: 16, 7, 8, 15, 6. Protected in Replied, Spec and Open, on the open handshake where
+    /// there is one; clear in Replied and Spec, in Open on the one that is started. The checksum is
+    /// over exactly the bytes lent.
     pub fn alert(
         &mut self,
         protected: bool,
@@ -179,13 +182,14 @@ impl Shore {
             return Err(Refusal::Argument);
         }
         let content = alert::write(level, description, alert::checksum(record));
-        if protected {
-            self.allow_sending(&[State::Replied, State::Spec, State::Open])?;
-            self.send_protected(Content::Alert, &content, room)
+        let record = if protected {
+            allow_sending(self.state, &[State::Replied, State::Spec, State::Open])?;
+            self.handshake.protect(Content::Alert, &content, room)?
         } else {
-            self.allow_sending(&[State::Replied, State::Spec])?;
-            self.send_clear_alert(&content, room)
-        }
+            allow_sending(self.unfinished(), &[State::Replied, State::Spec])?;
+            self.unfinished_handshake().clear_alert(&content, room)?
+        };
+        Ok(self.sent(record))
     }
 
     /// Close: 7 in Barred, else to Closed.
@@ -193,7 +197,7 @@ impl Shore {
         if self.state == State::Barred {
             return Err(Refusal::Closed);
         }
-        self.state = State::Closed;
+        self.end(State::Closed);
         Ok(())
     }
 
@@ -204,8 +208,7 @@ impl Shore {
             State::Barred => Err(Refusal::Closed),
             State::Closed => {
                 self.state = State::Idle;
-                self.window = self.window.emptied();
-                self.handshake = None;
+                self.handshake.forget();
                 self.records_sent.clear();
                 Ok(())
             }
@@ -217,13 +220,14 @@ impl Shore {
         self.state
     }
 
-    pub fn window(&self) -> &Window {
-        &self.window
+    /// The only handshake, or in Open the open one.
+    pub fn handshake(&self) -> &Handshake {
+        &self.handshake
     }
 
-    /// The next protected and clear sending numbers; none before the first reply.
-    pub fn next_numbers(&self) -> Option<(u32, u32)> {
-        self.sending.as_ref().map(|sending| (sending.protected, sending.clear))
+    /// The one that is started beside the open one.
+    pub fn started(&self) -> Option<&Started> {
+        self.started.as_ref()
     }
 
     /// The checksums of the last eight records that we sent since the last start, fewer if fewer
@@ -238,7 +242,47 @@ impl Shore {
     }
 }
 
-/// Judging a received record: 7; place and state (18, 8); code and window; content.
+/// The handshake that is not finished: beside an open one the started one, else the only one.
+impl Shore {
+    /// Where it stands. Beside an open one there may be none: then as in Idle.
+    fn unfinished(&self) -> State {
+        match (self.state, &self.started) {
+            (State::Open, None) => State::Idle,
+            (State::Open, Some(Started { phase: Phase::Replied, .. })) => State::Replied,
+            (State::Open, Some(Started { phase: Phase::Spec, .. })) => State::Spec,
+            (state, _) => state,
+        }
+    }
+
+    fn unfinished_handshake(&mut self) -> &mut Handshake {
+        match &mut self.started {
+            Some(started) => &mut started.handshake,
+            None => &mut self.handshake,
+        }
+    }
+
+    /// An alert in the clear closes it, and nothing else.
+    fn end_unfinished(&mut self) {
+        match self.state {
+            State::Open => self.started = None,
+            _ => self.state = State::Closed,
+        }
+    }
+
+    /// What closes or bars the open one drops the started one too.
+    fn end(&mut self, state: State) {
+        self.state = state;
+        self.started = None;
+    }
+
+    /// The kept reply to a hello: of the started one, or of the only or the open one.
+    fn reply_to(&self, message: &[u8]) -> Option<&[u8]> {
+        let of_started = self.started.as_ref().and_then(|one| one.handshake.reply_to(message));
+        of_started.or(self.handshake.reply_to(message))
+    }
+}
+
+/// Judging a received record: 7; place and state (8); code and window; content.
 impl Shore {
     fn judge(&mut self, datagram: &[u8], place: usize, record: &Record, random: &[u8]) -> Judged {
         if matches!(self.state, State::Closed | State::Barred) {
@@ -252,8 +296,8 @@ impl Shore {
         }
     }
 
-    /// The clear rows of the state table. A clear handshake record that begins with byte 1 counts
-    /// as a ClientHello, whatever follows.
+    /// The clear rows of the state table; they touch only the handshake that is not finished. A
+    /// clear handshake record that begins with byte 1 counts as a ClientHello, whatever follows.
     fn judge_clear(
         &mut self,
         place: usize,
@@ -263,8 +307,7 @@ impl Shore {
     ) -> Judged {
         use State::*;
         let is_hello = record.content == Content::Handshake && fragment[0] == 1;
-        match (self.state, record.content) {
-            (Open, _) if is_hello => Err(Refusal::HelloWhileOpen),
+        match (self.unfinished(), record.content) {
             (Idle | Replied | Spec, _) if is_hello && place == 0 => {
                 self.judge_hello(fragment, random)
             }
@@ -274,13 +317,11 @@ impl Shore {
         }
     }
 
-    /// The same message gets the same reply and changes nothing; another acceptable one gets a
-    /// new reply.
+    /// The same message gets the same reply and changes nothing, that of the open connection too;
+    /// another acceptable one gets a new reply.
     fn judge_hello(&mut self, message: &[u8], random: &[u8]) -> Judged {
-        if let Some(kept) = &self.handshake {
-            if kept.hello == message {
-                return Ok(Answer::Resent(kept.reply.len()));
-            }
+        if let Some(reply) = self.reply_to(message) {
+            return Ok(Answer::Resent(reply.len()));
         }
         let hello = hello::read(message).ok_or(Refusal::Malformed)?;
         let kind = hello::choose(&hello, &self.identifier).ok_or(Refusal::NotAcceptable)?;
@@ -291,47 +332,37 @@ impl Shore {
             kind,
             refresh: hello.refresh,
         };
-        let length = self.reply(message, keys);
-        Ok(Answer::Reply(length))
+        Ok(Answer::Reply(self.reply(message, keys)))
     }
 
-    /// A new reply: ServerHello, change cipher spec, Finished. Afterwards our protected records
-    /// count on from 1, the clear ones from 2, and the window is left alone.
-    fn reply(&mut self, client_hello: &[u8], keys: Keys) -> usize {
-        let server_hello =
-            hello::write_server(&keys.server_random, &self.identifier, keys.kind, keys.refresh);
-        let ours = finished::write(&finished::verify_data(
-            &self.secret,
-            Writer::Shore,
-            &[client_hello, &server_hello],
-        ));
-        let unit_verify_data = finished::verify_data(
-            &self.secret,
-            Writer::Unit,
-            &[client_hello, &server_hello, &ours],
-        );
-        let clear = |content| wire::type_byte(content, false, true);
-        let records = [
-            wire::write(clear(Content::Handshake), 0, &server_hello),
-            wire::write(clear(Content::ChangeCipherSpec), 1, &[1]),
-            keys.protect(Writer::Shore, Content::Handshake, false, 0, &ours),
-        ];
-        let reply = records.concat();
-        let length = reply.len();
-        let hello = client_hello.to_vec();
-        self.handshake = Some(Handshake { hello, reply, keys, unit_verify_data });
-        self.sending = Some(Sending { protected: 1, clear: 2 });
-        records.iter().for_each(|record| remember(&mut self.records_sent, record));
-        self.state = State::Replied;
-        length
+    /// A new reply. In Open it makes the started handshake, in place of any earlier; else the only
+    /// one is answered anew.
+    fn reply(&mut self, message: &[u8], keys: Keys) -> usize {
+        let records = match self.state {
+            State::Open => {
+                let mut handshake = Handshake::none(self.handshake.window().emptied());
+                let records = handshake.reply(message, &self.identifier, keys);
+                self.started = Some(Started { phase: Phase::Replied, handshake });
+                records
+            }
+            _ => {
+                self.state = State::Replied;
+                self.handshake.reply(message, &self.identifier, keys)
+            }
+        };
+        records.iter().for_each(|record| self.remember(record));
+        records.concat().len()
     }
 
     fn judge_change_cipher_spec(&mut self, fragment: &[u8]) -> Judged {
         if fragment != [1] {
             return Err(Refusal::Malformed);
         }
-        self.state = State::Spec;
-        self.window = self.window.emptied();
+        self.unfinished_handshake().empty_window();
+        match &mut self.started {
+            Some(started) => started.phase = Phase::Spec,
+            None => self.state = State::Spec,
+        }
         Ok(Answer::Spec)
     }
 
@@ -345,36 +376,34 @@ impl Shore {
         match alert.level {
             Level::Warning => Ok(Answer::Warning(alert.description)),
             Level::Critical => {
-                self.state = State::Closed;
+                self.end_unfinished();
                 Ok(Answer::Critical(alert.description))
             }
             Level::Fatal => {
-                self.state = State::Closed;
+                self.end_unfinished();
                 Ok(Answer::Fatal(alert.description))
             }
         }
     }
 
-    /// Protected records: allowed kind, code, too old, repeated, content. A genuine new record
-    /// marks its number even if its content is then refused.
+    /// Protected records: allowed kind, code, too old, repeated, content. A handshake record is
+    /// tried under the started one first, once its change cipher spec has come, and is that one's
+    /// alone if its code is right there; all else goes to the open one, or to the only one. A
+    /// genuine new record marks its number even if its content is then refused.
     fn judge_protected(&mut self, record: &Record, fragment: &[u8]) -> Judged {
         let allowed = match self.state {
             State::Spec => matches!(record.content, Content::Handshake | Content::Alert),
             State::Open => true,
             _ => false,
         };
-        let keys = match &self.handshake {
-            Some(handshake) if allowed => &handshake.keys,
-            _ => return Err(Refusal::NotAllowed),
-        };
-        let length = keys
-            .verify(Writer::Unit, record.type_byte, record.number, fragment)
-            .ok_or(Refusal::Forged)?;
-        match self.window.verdict(record.number) {
-            Verdict::TooOld => return Err(Refusal::TooOld),
-            Verdict::Repeated => return Err(Refusal::Repeated),
-            Verdict::New => self.window.accept(record.number),
+        if !allowed {
+            return Err(Refusal::NotAllowed);
         }
+        if let Some(length) = self.length_under_started(record, fragment) {
+            return self.judge_started_finished(record.number, &fragment[..length]);
+        }
+        let length = self.handshake.content_length(record, fragment).ok_or(Refusal::Forged)?;
+        self.handshake.mark(record.number)?;
         let content = &fragment[..length];
         match record.content {
             Content::ChangeCipherSpec => Err(Refusal::Malformed),
@@ -385,6 +414,33 @@ impl Shore {
         }
     }
 
+    /// Of a handshake record whose code is right under the keys of a started one in Spec.
+    fn length_under_started(&self, record: &Record, fragment: &[u8]) -> Option<usize> {
+        match &self.started {
+            Some(Started { phase: Phase::Spec, handshake })
+                if record.content == Content::Handshake =>
+            {
+                handshake.content_length(record, fragment)
+            }
+            _ => None,
+        }
+    }
+
+    /// The right contents put the started one in the place of the open one; a well-formed Finished
+    /// with wrong ones drops it, and nothing else.
+    fn judge_started_finished(&mut self, number: u16, content: &[u8]) -> Judged {
+        let started = self.unfinished_handshake();
+        started.mark(number)?;
+        let is_right = started.is_right(content)?;
+        match self.started.take() {
+            Some(started) if is_right => {
+                self.handshake = started.handshake;
+                Ok(Answer::Open)
+            }
+            _ => Err(Refusal::WrongFinished),
+        }
+    }
+
     /// Trusted by its code; the checksum is not compared. A fatal one bars the session, and all
     /// that could resume it is forgotten (10.2.2).
     fn judge_protected_alert(&mut self, content: &[u8]) -> Judged {
@@ -392,14 +448,14 @@ impl Shore {
         match level {
             Level::Warning => Ok(Answer::Warning(description)),
             Level::Critical => {
-                self.state = State::Closed;
+                self.end(State::Closed);
                 Ok(Answer::Critical(description))
             }
             Level::Fatal => {
-                self.state = State::Barred;
+                self.end(State::Barred);
                 self.identifier.clear();
                 self.secret.clear();
-                self.handshake = None;
+                self.handshake.blank();
                 Ok(Answer::Barred(description))
             }
         }
@@ -408,10 +464,8 @@ impl Shore {
     /// The right contents open, or are heard again; a well-formed Finished with wrong ones
     /// closes.
     fn judge_finished(&mut self, content: &[u8]) -> Judged {
-        let data = finished::read(content).ok_or(Refusal::Malformed)?;
-        let right = matches!(&self.handshake, Some(kept) if kept.unit_verify_data == data);
-        if !right {
-            self.state = State::Closed;
+        if !self.handshake.is_right(content)? {
+            self.end(State::Closed);
             return Err(Refusal::WrongFinished);
         }
         if self.state == State::Open {
@@ -422,46 +476,15 @@ impl Shore {
     }
 }
 
-/// Sending: 7 and 8, then 15, then 6.
+/// The records that we sent.
 impl Shore {
-    fn allow_sending(&self, states: &[State]) -> Result<(), Refusal> {
-        match self.state {
-            State::Closed | State::Barred => Err(Refusal::Closed),
-            state if states.contains(&state) => Ok(()),
-            _ => Err(Refusal::NotAllowed),
-        }
+    fn sent(&mut self, record: Vec<u8>) -> Vec<u8> {
+        self.remember(&record);
+        record
     }
 
-    fn send_protected(
-        &mut self,
-        content: Content,
-        bytes: &[u8],
-        room: usize,
-    ) -> Result<Vec<u8>, Refusal> {
-        let (Some(handshake), Some(sending)) = (&self.handshake, &mut self.sending) else {
-            return Err(Refusal::NotAllowed);
-        };
-        let number = unspent(sending.protected)?;
-        let record = handshake.keys.protect(Writer::Shore, content, false, number, bytes);
-        if room < record.len() {
-            return Err(Refusal::Room);
-        }
-        sending.protected += 1;
-        remember(&mut self.records_sent, &record);
-        Ok(record)
-    }
-
-    fn send_clear_alert(&mut self, content: &[u8], room: usize) -> Result<Vec<u8>, Refusal> {
-        let Some(sending) = &mut self.sending else { return Err(Refusal::NotAllowed) };
-        let number = unspent(sending.clear)?;
-        let type_byte = wire::type_byte(Content::Alert, false, false);
-        let record = wire::write(type_byte, number, content);
-        if room < record.len() {
-            return Err(Refusal::Room);
-        }
-        sending.clear += 1;
-        remember(&mut self.records_sent, &record);
-        Ok(record)
+    fn remember(&mut self, record: &[u8]) {
+        remember(&mut self.records_sent, record);
     }
 }
 
@@ -471,11 +494,13 @@ pub(crate) fn remember(records_sent: &mut Vec<Checksum>, record: &[u8]) {
     records_sent.truncate(RECORDS_SENT);
 }
 
-pub(crate) fn unspent(next: u32) -> Result<u16, Refusal> {
-    if next == SPENT {
-        return Err(Refusal::Spent);
+/// Sending: 7 and 8.
+fn allow_sending(state: State, states: &[State]) -> Result<(), Refusal> {
+    match state {
+        State::Closed | State::Barred => Err(Refusal::Closed),
+        state if states.contains(&state) => Ok(()),
+        _ => Err(Refusal::NotAllowed),
     }
-    Ok(next as u16)
 }
 
 impl Tally {

@@ -1,6 +1,7 @@
 //! The one stored day: both MAC kinds, loss, repetition, late records across a refresh, forged
 //! and malformed datagrams, alerts of each level, hellos of all sorts, closing and barring. Every
-//! refusal occurs but 15, which takes 65,535 sends: `long_day` is for that one.
+//! refusal occurs but 15, which takes 65,535 sends (`long_day` is for that one), and 18, which is not
+//! given any more.
 //!
 //! Lines that begin with # are headings. To the console they are bad lines like any other.
 
@@ -11,6 +12,7 @@ use crate::hex;
 use crate::keys::Kind;
 use crate::script::Script;
 use crate::shore::{Received, Shore, Tally};
+use crate::storedreboots;
 use crate::storedsets;
 use crate::unit::{Hello, Identifier, KeyId, Parameters};
 use crate::wire::{self, Content};
@@ -45,6 +47,7 @@ pub fn written() -> Script {
     bad_lines(&mut day);
     barred(&mut day);
     storedsets::hellos(&mut day);
+    storedreboots::lines(&mut day);
     day
 }
 
@@ -63,7 +66,9 @@ fn before_the_connection(day: &mut Script) {
 }
 
 fn mac_kinds(day: &mut Script) {
-    day.heading("the MAC kinds: an unknown edition, each number of both lists, lines that ask for none");
+    day.heading(
+        "the MAC kinds: an unknown edition, each number of both lists, lines that ask for none",
+    );
     for edition in ["0", "3", "255"] {
         day.line(&format!("mac {edition} 2"));
     }
@@ -220,7 +225,9 @@ fn malformed_under_protection(day: &mut Script) {
 }
 
 fn clear_in_open(day: &mut Script) {
-    day.heading("clear records in Open: hello 18 in any place, all else 8; nothing closes");
+    day.heading(
+        "clear records in Open: its own hello gets the reply again, 12 is malformed, all else 8",
+    );
     let message = day.unit.last_hello().to_vec();
     day.stray_hello(&message);
     day.stray_hello(&[1]);
@@ -629,7 +636,8 @@ fn store_and_forward(day: &mut Script) {
     day.data(0, "again");
 }
 
-/// A day on which first the clear and then the protected sending numbers are spent: 131,000 lines.
+/// A day on which the clear and then the protected sending numbers are spent, and then the clear ones
+/// of a started handshake: 197,000 lines.
 pub fn long_day() -> String {
     let mut day = Script::new(&session(), &secret());
     day.heading("clear numbers 2 to 65,535, then 15; 16 comes before it, 6 behind it");
@@ -650,10 +658,19 @@ pub fn long_day() -> String {
         day.line(line);
     }
     day.data(1, "still open");
+    day.heading("a started handshake counts by itself: 2 to 65,535, then 15, and 8 in its place");
+    day.hello(0x11, Kind::Sha, 0);
+    for _ in 2..65537 {
+        day.line("alert clear 1 0 - 9");
+    }
+    day.line("send 2a 14");
+    day.flight();
+    day.line("send 2a 24");
+    day.line("alert clear 1 0 - 9");
     day.heading("a new reply counts from the start again");
     day.line("close");
     day.line("start");
-    day.hello(0x11, Kind::Sha, 0);
+    day.hello(0x12, Kind::Sha, 0);
     day.flight();
     day.line("send 2a 24");
     day.input().to_string()

@@ -60,6 +60,8 @@ pub struct Unit {
 /// What the unit knows after a reply.
 #[derive(Clone)]
 pub struct Connection {
+    /// The hello that was replied to.
+    pub hello: Vec<u8>,
     pub keys: Keys,
     /// The unit's Finished message.
     pub finished: Vec<u8>,
@@ -148,6 +150,15 @@ impl Unit {
         self.connection.as_ref()
     }
 
+    pub fn connection_mut(&mut self) -> Option<&mut Connection> {
+        self.connection.as_mut()
+    }
+
+    /// Goes on with another connection, and gives the one that it had.
+    pub fn exchange(&mut self, connection: Connection) -> Option<Connection> {
+        self.connection.replace(connection)
+    }
+
     /// The hello as a datagram: clear, number 0, no length. It is remembered for the Finished.
     pub fn say_hello(&mut self, message: &[u8]) -> Vec<u8> {
         self.hello = message.to_vec();
@@ -185,6 +196,7 @@ impl Unit {
         let messages = [&self.hello[..], server_hello, theirs];
         let ours = finished::verify_data(&self.secret, Writer::Unit, &messages);
         self.connection = Some(Connection {
+            hello: self.hello.clone(),
             keys,
             finished: finished::write(&ours),
             last_heard: reply[third.start..].to_vec(),
@@ -248,12 +260,17 @@ impl Unit {
 
     /// Checks a datagram of one record from the shore and gives its content: data, or an alert.
     pub fn hear(&mut self, datagram: &[u8]) -> Result<Vec<u8>, String> {
-        let connection = self.connection.as_mut().ok_or("nothing was agreed")?;
+        self.connection.as_mut().ok_or("nothing was agreed")?.hear(datagram)
+    }
+}
+
+impl Connection {
+    pub fn hear(&mut self, datagram: &[u8]) -> Result<Vec<u8>, String> {
         let records = wire::frame(datagram).map_err(|fault| format!("{fault:?}"))?;
         let [record] = &records[..] else { return Err("more than one record".to_string()) };
         let fragment = &datagram[record.fragment.clone()];
         let content = if record.protected {
-            let length = connection
+            let length = self
                 .keys
                 .verify(Writer::Shore, record.type_byte, record.number, fragment)
                 .ok_or("the shore's code is wrong")?;
@@ -266,7 +283,7 @@ impl Unit {
             Content::Alert if alert::read(content).is_some() => {}
             _ => return Err("neither data nor an alert".to_string()),
         }
-        connection.last_heard = datagram.to_vec();
+        self.last_heard = datagram.to_vec();
         Ok(content.to_vec())
     }
 }

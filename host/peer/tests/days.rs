@@ -7,6 +7,7 @@ use peer::alert;
 use peer::console::Console;
 use peer::day;
 use peer::hex;
+use peer::rows::{self, Rows};
 use peer::stored;
 use peer::wire;
 
@@ -30,11 +31,11 @@ fn kinds(lines: &[String]) -> BTreeSet<String> {
 }
 
 #[test]
-fn the_stored_day_has_everything_but_spent_numbers() {
+fn the_stored_day_has_everything_but_spent_numbers_and_18() {
     let day = stored::written();
     let kinds = kinds(day.output());
     let mut wanted: Vec<String> =
-        (1..=22).filter(|r| *r != 15).map(|r| format!("refused {r}")).collect();
+        (1..=22).filter(|r| ![15, 18].contains(r)).map(|r| format!("refused {r}")).collect();
     let answers =
         "reply resent spec open again data warning critical fatal barred waiting received gathered";
     let states = "None Idle Replied Spec Open Closed Barred";
@@ -44,8 +45,9 @@ fn the_stored_day_has_everything_but_spent_numbers() {
     for kind in wanted {
         assert!(kinds.contains(&kind), "the stored day lacks {kind}");
     }
+    assert!(!kinds.contains("refused 18"));
     let lines = day.input().lines().count();
-    assert!((150..=800).contains(&lines), "{lines} lines");
+    assert!((150..=1000).contains(&lines), "{lines} lines");
 }
 
 #[test]
@@ -54,8 +56,10 @@ fn the_long_day_spends_both_numbers_and_nothing_closes() {
     peer::console::run(stored::long_day().as_bytes(), &mut output).unwrap();
     let text = String::from_utf8(output).unwrap();
     assert_eq!(text.matches("alert refused 15\nstate Replied ").count(), 2);
-    assert_eq!(text.matches("alert refused 15\nstate Open ").count(), 1);
-    assert_eq!(text.matches("send refused 15\nstate Open ").count(), 2);
+    assert_eq!(text.matches("alert refused 15\nstate Open ").count(), 2);
+    assert!(text.contains("started=Replied,1,65536\n"));
+    assert!(text.contains("state Open n=0 marks=0000000000000001 arrived=1 sent=2,65536 "));
+    assert_eq!(text.matches("send refused 15\nstate Open ").count(), 3);
     assert!(text.contains(" sent=65536,65536 "));
     assert!(text
         .lines()
@@ -97,7 +101,9 @@ fn differences_are_found() {
         "s/^0 again/0 open/",
         "s/^message refused 20/message refused 21/",
         "s/parts=\\(.*\\):1\\/2/parts=\\1:2\\/2/",
-        "2000d",
+        "s/started=Spec/started=Replied/",
+        "s/started=Replied,1,3/started=Replied,2,3/",
+        "20000d",
         "$d",
         "$a more",
         "15000q",
@@ -189,4 +195,72 @@ fn random_days_have_alerts_about_each_of_eight_records_and_no_more() {
     let AlertsHeard { good, ninth, before_start, .. } = alerts;
     assert!(good.iter().all(|count| *count > 0), "{good:?}");
     assert!(ninth > 0 && before_start > 0, "{ninth} {before_start}");
+}
+
+/// What is due in Open, with and without a started handshake beside it, occurs.
+#[test]
+fn random_days_meet_every_row_of_open() {
+    let rows = rows::of_days(1, 300);
+    assert_eq!(rows.missing(), Vec::<String>::new());
+    assert!(rows.seen().keys().all(|row| !row.ends_with(": 18")));
+}
+
+/// The stored day has them too, but for those that take chance.
+#[test]
+fn the_stored_day_meets_the_rows_of_a_reboot() {
+    let mut rows = Rows::default();
+    stored::day().lines().for_each(|line| rows.line(line.as_bytes()));
+    for row in [
+        "Open: hello of the open one: resent",
+        "Open: hello of neither: reply",
+        "Open: hello of neither: 12",
+        "Open: hello behind another record: 8",
+        "Open: clear alert: 8",
+        "Open+Replied: hello of the open one: resent",
+        "Open+Replied: hello of the started one: resent",
+        "Open+Replied: hello of neither: 12",
+        "Open+Replied: hello of neither: 13",
+        "Open+Replied: hello of neither: reply",
+        "Open+Replied: hello behind another record: 8",
+        "Open+Replied: clear change cipher spec: spec",
+        "Open+Replied: clear change cipher spec: 12",
+        "Open+Replied: clear alert: 12",
+        "Open+Replied: clear alert: 14",
+        "Open+Replied: clear alert: warning",
+        "Open+Replied: clear alert: critical",
+        "Open+Replied: clear alert: fatal",
+        "Open+Replied: protected data under open: data",
+        "Open+Replied: protected data under started: 9",
+        "Open+Replied: protected alert under started: 9",
+        "Open+Replied: protected handshake under started: 9",
+        "Open+Replied: protected data under both: data",
+        "Open+Replied: protected alert under open: barred",
+        "Open+Replied: send: ok",
+        "Open+Replied: alert clear: ok",
+        "Open+Replied: alert clear: 6",
+        "Open+Replied: alert protected: ok",
+        "Open+Replied: close: ok",
+        "Open+Spec: clear change cipher spec: 8",
+        "Open+Spec: clear alert: warning",
+        "Open+Spec: hello of neither: reply",
+        "Open+Spec: protected data under open: data",
+        "Open+Spec: protected data under started: 9",
+        "Open+Spec: protected alert under started: 9",
+        "Open+Spec: protected change cipher spec under started: 9",
+        "Open+Spec: protected alert under open: critical",
+        "Open+Spec: protected handshake under open: again",
+        "Open+Spec: protected handshake under open: 11",
+        "Open+Spec: protected handshake under open: 12",
+        "Open+Spec: protected handshake under open: 17",
+        "Open+Spec: protected handshake under neither: 9",
+        "Open+Spec: protected handshake under started: open",
+        "Open+Spec: protected handshake under started: 10",
+        "Open+Spec: protected handshake under started: 11",
+        "Open+Spec: protected handshake under started: 12",
+        "Open+Spec: protected handshake under started: 17",
+        "Open+Spec: protected handshake under both: open",
+        "Open+Spec: protected handshake under both: 17",
+    ] {
+        assert!(rows.seen().contains_key(row), "the stored day lacks {row}");
+    }
 }

@@ -19,7 +19,8 @@ fn message(script: &mut Script, hex: &str) -> Vec<String> {
 }
 
 fn parts(lines: &[String]) -> &str {
-    lines[lines.len() - 1].split(" parts=").nth(1).unwrap()
+    let behind = lines[lines.len() - 1].split(" parts=").nth(1).unwrap();
+    behind.split(" started=").next().unwrap()
 }
 
 #[test]

@@ -45,11 +45,11 @@ receive 43000001002501101112131415161718191a1b1c1d1e1f08a0a1a2a3a4a5a6a700000000
 ";
     let expected = "\
 fresh ok
-state Idle n=- marks=0000000000000000 arrived=0 sent=-,- checksum=00000000 tally=0,0,0,0 parts=-
+state Idle n=- marks=0000000000000000 arrived=0 sent=-,- checksum=00000000 tally=0,0,0,0 parts=- started=-
 receive records 1
 0 reply 74
 out c30000002302002001808182838485868788898a8b8c8d8e8f08a0a1a2a3a4a5a6a7000002000203c1000100010163000014000cfa4961929527af28decdac18e8e0268c07a8c14188c6
-state Replied n=- marks=0000000000000000 arrived=0 sent=1,2 checksum=e663d639 tally=0,0,0,0 parts=-
+state Replied n=- marks=0000000000000000 arrived=0 sent=1,2 checksum=e663d639 tally=0,0,0,0 parts=- started=-
 ";
     let mut output = Vec::new();
     console::run(input.as_bytes(), &mut output).unwrap();
@@ -70,15 +70,15 @@ fresh a0a1a2a3a4a5a6a7 303132333435363738393a3b3c3d3e3f40414243 65
 ";
     let expected = "\
 0 data 3 1
-state Open n=50 marks=0004000000000001 arrived=2 sent=1,2 checksum=e663d639 tally=1,0,0,0 parts=-
+state Open n=50 marks=0004000000000001 arrived=2 sent=1,2 checksum=e663d639 tally=1,0,0,0 parts=- started=-
 receive records 1
 0 data 3 1
-state Open n=50 marks=0004010000000001 arrived=3 sent=1,2 checksum=e663d639 tally=2,0,0,0 parts=-
+state Open n=50 marks=0004010000000001 arrived=3 sent=1,2 checksum=e663d639 tally=2,0,0,0 parts=- started=-
 receive records 1
 0 refused 11
-state Open n=50 marks=0004010000000001 arrived=3 sent=1,2 checksum=e663d639 tally=2,0,0,1 parts=-
+state Open n=50 marks=0004010000000001 arrived=3 sent=1,2 checksum=e663d639 tally=2,0,0,1 parts=- started=-
 fresh refused 16
-state Open n=50 marks=0004010000000001 arrived=3 sent=1,2 checksum=e663d639 tally=2,0,0,1 parts=-
+state Open n=50 marks=0004010000000001 arrived=3 sent=1,2 checksum=e663d639 tally=2,0,0,1 parts=- started=-
 ";
     let mut output = Vec::new();
     console::run(input.as_bytes(), &mut output).unwrap();
@@ -348,4 +348,178 @@ fn who_has_seen_nothing_knows_the_change_cipher_spec() {
     let mut script = open(Kind::Sha80);
     let lines = script.receive(&fatal);
     assert_eq!((answers(&lines), state(&lines)), (vec!["refused 8"], "Open"));
+}
+
+/// What stands behind `started=`.
+fn started(lines: &[String]) -> &str {
+    lines.last().unwrap().rsplit_once("started=").unwrap().1
+}
+
+/// The request's example: a hello beside an open connection, until its Finished replaces that.
+#[test]
+fn a_unit_that_rebooted() {
+    let input = "\
+fresh a0a1a2a3a4a5a6a7 303132333435363738393a3b3c3d3e3f40414243 32
+receive 43000001002501101112131415161718191a1b1c1d1e1f08a0a1a2a3a4a5a6a70000000002000201000203 808182838485868788898a8b8c8d8e8f 128
+receive c1000100010163000014000c04ac9a5ad2e142cb90d95633ccdaaafd3f9109660126 808182838485868788898a8b8c8d8e8f 128
+receive 43000001002501505152535455565758595a5b5c5d5e5f08a0a1a2a3a4a5a6a70000000002000301000200 00000000000000000000000000000000 128
+receive 6400017374696c6c206f70656e149dff1b88ad8ee1252b 808182838485868788898a8b8c8d8e8f 128
+receive 43000001002501101112131415161718191a1b1c1d1e1f08a0a1a2a3a4a5a6a70000000002000201000203 808182838485868788898a8b8c8d8e8f 128
+alert clear 1 11 - 100
+receive c10001000101 808182838485868788898a8b8c8d8e8f 128
+receive 640001746f6f20736f6f6e6fa705e01a155edca22b8a08647eed4addc72e71 808182838485868788898a8b8c8d8e8f 128
+receive 63000014000cf01788370d52a993a3648482dd550b1e2436d83be8a8abe9714d11363d3cba45 808182838485868788898a8b8c8d8e8f 128
+receive 640002746f6f206c6174654ee6bdb75e3f5f9cea7e 808182838485868788898a8b8c8d8e8f 128
+";
+    let expected = "\
+receive records 1
+0 reply 84
+out c300000023020020010000000000000000000000000000000008a0a1a2a3a4a5a6a7000003000200c1000100010163000014000c1006930495fff0af0500a05e476ea02bdb4b5a44f93f99e2136022427fed192c
+state Open n=0 marks=0000000000000001 arrived=1 sent=1,2 checksum=f81a897a tally=0,0,0,0 parts=- started=Replied,1,2
+receive records 1
+0 data 3 10
+state Open n=1 marks=0000000000000003 arrived=2 sent=1,2 checksum=f81a897a tally=1,0,0,0 parts=- started=Replied,1,2
+receive records 1
+0 resent 74
+out c30000002302002001808182838485868788898a8b8c8d8e8f08a0a1a2a3a4a5a6a7000002000203c1000100010163000014000cfa4961929527af28decdac18e8e0268c07a8c14188c6
+state Open n=1 marks=0000000000000003 arrived=2 sent=1,2 checksum=f81a897a tally=1,0,0,0 parts=- started=Replied,1,2
+alert ok
+out 420002010b00000000
+state Open n=1 marks=0000000000000003 arrived=2 sent=1,2 checksum=49000201 tally=1,0,0,0 parts=- started=Replied,1,3
+receive records 1
+0 spec
+state Open n=1 marks=0000000000000003 arrived=2 sent=1,2 checksum=49000201 tally=1,0,0,0 parts=- started=Spec,1,3,-,0000000000000000
+receive records 1
+0 refused 9
+state Open n=1 marks=0000000000000003 arrived=2 sent=1,2 checksum=49000201 tally=1,1,0,0 parts=- started=Spec,1,3,-,0000000000000000
+receive records 1
+0 open
+state Open n=0 marks=0000000000000001 arrived=1 sent=1,3 checksum=49000201 tally=1,1,0,0 parts=- started=-
+receive records 1
+0 refused 9
+state Open n=0 marks=0000000000000001 arrived=1 sent=1,3 checksum=49000201 tally=1,2,0,0 parts=- started=-
+";
+    let mut output = Vec::new();
+    console::run(input.as_bytes(), &mut output).unwrap();
+    let output = String::from_utf8(output).unwrap();
+    assert!(output.ends_with(expected), "{output}");
+}
+
+#[test]
+fn what_ends_the_started_one_leaves_the_open_one() {
+    for how in ["critical", "fatal", "wrong Finished"] {
+        let mut script = open(Kind::Sha80);
+        let before = script.reboot(0x20, Kind::Sha, 3);
+        script.receive(&[0x41, 0, 1, 1]);
+        let lines = match how {
+            "critical" => script.clear_alert(2, 40),
+            "fatal" => script.clear_alert(3, 40),
+            _ => {
+                let mut wrong = script.finished_message();
+                wrong[3] ^= 1;
+                script.protected(Content::Handshake, 0, &wrong)
+            }
+        };
+        assert_eq!((state(&lines), started(&lines)), ("Open", "-"), "{how}");
+        let finished = script.finished_message();
+        let lines = script.protected(Content::Handshake, 1, &finished);
+        assert_eq!(answers(&lines), ["refused 9"], "{how}");
+        let lines = script.under(&before, |script| script.data(1, "data"));
+        assert_eq!(answers(&lines), ["data 3 4"], "{how}");
+    }
+}
+
+#[test]
+fn what_ends_the_open_one_ends_both() {
+    for how in ["close", "critical", "fatal", "wrong Finished"] {
+        let mut script = open(Kind::Sha80);
+        let before = script.reboot(0x20, Kind::Sha, 3);
+        script.receive(&[0x41, 0, 1, 1]);
+        let lines = script.under(&before, |script| match how {
+            "close" => script.line("close"),
+            "critical" => script.protected_alert(1, 2, 40),
+            "fatal" => script.protected_alert(1, 3, 40),
+            _ => {
+                let mut wrong = script.finished_message();
+                wrong[3] ^= 1;
+                script.protected(Content::Handshake, 1, &wrong)
+            }
+        });
+        let ended = if how == "fatal" { "Barred" } else { "Closed" };
+        assert_eq!((state(&lines), started(&lines)), (ended, "-"), "{how}");
+        assert_eq!(answers(&script.flight()), ["refused 7", "refused 7"], "{how}");
+    }
+}
+
+#[test]
+fn the_replacement_takes_all_but_the_records_sent() {
+    let mut script = open(Kind::Sha80);
+    script.data(7, "data");
+    let named = reply_sums(&script.hello(0x20, Kind::Sha, 3));
+    script.line("alert clear 1 90 - 9");
+    let lines = script.flight();
+    assert_eq!(answers(&lines), ["spec", "open"]);
+    assert!(lines
+        .last()
+        .unwrap()
+        .contains("state Open n=0 marks=0000000000000001 arrived=1 sent=1,3 "));
+    assert_eq!(answers(&script.data(7, "data")), ["data 3 4"]);
+    // The next hello starts another one, for which the earlier records may still be named.
+    script.hello(0x21, Kind::Sha, 3);
+    assert_eq!(answers(&script.receive(&warning(named[0]))), ["warning 90"]);
+}
+
+/// The code decides whose a record is: what the started one refuses is not tried again.
+#[test]
+fn a_record_of_the_started_one_is_not_the_open_ones() {
+    let mut script = open(Kind::Sha80);
+    script.reboot(0x20, Kind::Sha, 3);
+    script.receive(&[0x41, 0, 1, 1]);
+    let finished = script.finished_message();
+    assert_eq!(answers(&script.protected(Content::Handshake, 90, &[20, 0, 0])), ["refused 12"]);
+    assert_eq!(answers(&script.protected(Content::Handshake, 90, &finished)), ["refused 11"]);
+    let lines = script.protected(Content::Handshake, 58, &finished);
+    assert_eq!(
+        (answers(&lines), started(&lines)),
+        (vec!["refused 10"], "Spec,1,2,90,0000000000000001")
+    );
+    assert_eq!(answers(&script.protected(Content::Handshake, 59, &finished)), ["open"]);
+}
+
+/// The caller lends an old random to a hello with an old random.
+#[test]
+fn with_equal_keys_the_started_one_goes_first() {
+    let mut script = open(Kind::Sha80);
+    let before = script.connection();
+    let mut hello = script.plain(0x10, Kind::Sha80, 3);
+    hello.compressions.push(1);
+    let datagram = script.unit.say_hello(&hello.message());
+    script.receive_with(&datagram, &before.keys.server_random);
+    assert_eq!(script.connection().keys, before.keys);
+    script.receive(&[0x41, 0, 1, 1]);
+    assert_eq!(answers(&script.data(1, "data")), ["data 3 4"]);
+    let lines = script.under(&before, |script| {
+        let finished = script.finished_message();
+        script.protected(Content::Handshake, 2, &finished)
+    });
+    assert_eq!(
+        (answers(&lines), state(&lines), started(&lines)),
+        (vec!["refused 17"], "Open", "-")
+    );
+}
+
+#[test]
+fn the_hello_of_the_open_one_starts_nothing() {
+    let mut script = open(Kind::Sha);
+    let hello = script.unit.last_hello().to_vec();
+    let lines = script.stray_hello(&hello);
+    assert_eq!((answers(&lines), started(&lines)), (vec!["resent 84"], "-"));
+    script.reboot(0x20, Kind::Sha80, 3);
+    script.receive(&[0x41, 0, 1, 1]);
+    let datagram = script.unit.clear(Content::Handshake, false, 9, &hello);
+    let lines = script.stranger(&datagram);
+    let spec = "Spec,1,2,-,0000000000000000";
+    assert_eq!((answers(&lines), started(&lines)), (vec!["resent 84"], spec));
+    let flight = script.unit.flight().unwrap();
+    assert_eq!(answers(&script.receive(&flight[6..])), ["open"]);
 }

@@ -1,7 +1,7 @@
 //! Random days of the second implementation, each call made by the exported library too, in one process.
 
 use peer::console::Console;
-use peer::day;
+use peer::day::{self, Spent};
 use peer::report::{Counts, Report};
 use peer::rng::Rng;
 
@@ -15,8 +15,8 @@ struct Trial {
     difference: Option<String>,
 }
 
-/// Days until so many datagrams are received; then one day on which the protected sending numbers run out, and one on which
-/// the clear ones do.
+/// Days until so many datagrams are received; then one day on which the protected sending numbers run out, one on which the
+/// clear ones do, and one on which those of a started handshake do.
 pub fn run(datagrams: u64, seed: u64) -> Result<String, String> {
     let mut seeds = Rng::new(seed);
     let mut model = Console::default();
@@ -29,10 +29,10 @@ pub fn run(datagrams: u64, seed: u64) -> Result<String, String> {
         });
     }
     let (received, calls) = (trial.library.datagrams, trial.calls);
-    for protected in [true, false] {
+    for which in Spent::ALL {
         if trial.difference.is_none() {
             days += 1;
-            day::spent(seeds.draw(), protected, &mut model, &mut |line, expected| {
+            day::spent(seeds.draw(), which, &mut model, &mut |line, expected| {
                 trial.compare(line, &expected)
             });
         }

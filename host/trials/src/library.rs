@@ -236,20 +236,14 @@ impl Library {
     /// The state as the bytes of the connection and of the tally show it (crates/lent/specs/Saved.antt has the places).
     fn state_line(&self) -> String {
         let Some(connection) = &self.connection else {
-            return "state None n=- marks=0000000000000000 arrived=0 sent=-,- checksum=00000000 tally=0,0,0,0 parts=-"
+            return "state None n=- marks=0000000000000000 arrived=0 sent=-,- checksum=00000000 tally=0,0,0,0 parts=- started=-"
                 .to_string();
         };
         let saved = connection.save();
-        let (highest, marks) = (big(&saved[472..474]), big(&saved[474..482]));
-        let (protected, clear) = (big(&saved[482..486]), big(&saved[486..490]));
-        let n = if marks == 0 { "-".to_string() } else { highest.to_string() };
-        let sent = match protected {
-            0 => "-,-".to_string(),
-            _ => format!("{protected},{clear}"),
-        };
+        let Shown { n, marks, sent, .. } = shown(&saved[OPEN..]);
         let tally = self.tally;
         format!(
-            "state {:?} n={n} marks={marks:016x} arrived={} sent={sent} checksum={} tally={},{},{},{} parts={}",
+            "state {:?} n={n} marks={marks} arrived={} sent={sent} checksum={} tally={},{},{},{} parts={} started={}",
             connection.state(),
             connection.arrived(),
             hex(&saved[8..12]),
@@ -257,7 +251,8 @@ impl Library {
             tally.forged(),
             tally.too_old(),
             tally.repeated(),
-            parts(&self.gatherer)
+            parts(&self.gatherer),
+            started(&saved[STARTED..])
         )
     }
 }
@@ -286,6 +281,42 @@ fn parts(gatherer: &Gatherer) -> String {
         .map(|held| format!("{}:{}/{}", held.reference, held.have, held.total))
         .collect();
     if words.is_empty() { "-".to_string() } else { words.join(",") }
+}
+
+/// Where the two handshakes stand among the saved bytes.
+const OPEN: usize = 40;
+const STARTED: usize = 490;
+
+/// What the state line tells of a handshake.
+struct Shown {
+    state: u8,
+    n: String,
+    marks: String,
+    sent: String,
+}
+
+fn shown(handshake: &[u8]) -> Shown {
+    let (highest, marks) = (big(&handshake[432..434]), big(&handshake[434..442]));
+    let (protected, clear) = (big(&handshake[442..446]), big(&handshake[446..450]));
+    Shown {
+        state: handshake[0],
+        n: if marks == 0 { "-".to_string() } else { highest.to_string() },
+        marks: format!("{marks:016x}"),
+        sent: match protected {
+            0 => "-,-".to_string(),
+            _ => format!("{protected},{clear}"),
+        },
+    }
+}
+
+fn started(handshake: &[u8]) -> String {
+    let Shown { state, n, marks, sent } = shown(handshake);
+    match state {
+        0 => "-".to_string(),
+        1 => format!("Replied,{sent}"),
+        2 => format!("Spec,{sent},{n},{marks}"),
+        other => format!("in state {other}"),
+    }
 }
 
 fn refused(call: &str, refusal: Refusal) -> String {

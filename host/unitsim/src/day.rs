@@ -24,14 +24,19 @@ pub struct Day<'a> {
     unconfirmed: usize,
     pub sent: usize,
     pub said_again: usize,
+    pub reboots: usize,
 }
 
 /// A hello is said again as it is so many times, then another one is said.
 const SAME_HELLOS: usize = 5;
 const MOST_HELLOS: usize = 200;
+/// A unit that lost its power takes so long to be there again.
+const BOOT: Duration = Duration::from_millis(300);
 /// After so many reports without an answer the handshake may have failed: another hello.
 const DOUBT_AFTER: usize = 32;
 
+/// The type byte of a hello as the unit writes it.
+const CLEAR_HELLO: u8 = 0x43;
 const CRITICAL: u8 = 2;
 const CONNECTION_CLOSE_NOTIFY: u8 = 0;
 
@@ -48,6 +53,7 @@ impl Day<'_> {
             unconfirmed: 0,
             sent: 0,
             said_again: 0,
+            reboots: 0,
             options,
         })
     }
@@ -55,6 +61,9 @@ impl Day<'_> {
     pub fn run(&mut self) -> Result<(), String> {
         self.shake_hands()?;
         for index in 0..self.options.reports {
+            if self.loses_power_before(index) {
+                self.reboot()?;
+            }
             self.report(index)?;
         }
         for datagram in self.out.empty() {
@@ -70,6 +79,32 @@ impl Day<'_> {
         Ok(())
     }
 
+    /// At even distances over the day.
+    fn loses_power_before(&self, index: usize) -> bool {
+        let Options { reports, reboots, .. } = self.options;
+        (1..=*reboots).any(|nth| index == nth * reports / (reboots + 1))
+    }
+
+    fn reboot(&mut self) -> Result<(), String> {
+        self.reboots += 1;
+        self.lose_power()?;
+        if self.reboots % 2 == 0 {
+            let hello = self.hello()?;
+            self.send(hello)?;
+            self.lose_power()?;
+        }
+        self.shake_hands()
+    }
+
+    /// Keys and numbers are gone, and so are the hellos that the modem still held. Reports that are
+    /// on their way arrive.
+    fn lose_power(&mut self) -> Result<(), String> {
+        (self.ship, self.other, self.unconfirmed) = (fresh(self.options)?, None, 0);
+        self.out.drop_those(|datagram| datagram[0] == CLEAR_HELLO);
+        thread::sleep(BOOT);
+        Ok(())
+    }
+
     /// Says hello, and says it again each time that the timer runs out.
     fn shake_hands(&mut self) -> Result<(), String> {
         for said in 0..MOST_HELLOS {
@@ -81,11 +116,26 @@ impl Day<'_> {
             } else {
                 self.say_again()?;
             }
+            if said == 0 {
+                self.strangers()?;
+            }
             if self.listen_until(Instant::now() + self.options.timer)? {
                 return Ok(());
             }
         }
         Err(format!("no reply to {MOST_HELLOS} hellos"))
+    }
+
+    /// Others say hello in the ship's name. That is nothing to it.
+    fn strangers(&mut self) -> Result<(), String> {
+        for _ in 0..self.options.strangers {
+            let random = self.rng.bytes(16);
+            let macs = [self.options.kind.number()];
+            let mut other = fresh(self.options)?;
+            let hello = other.hello(&random, &macs, self.options.refresh).map_err(refused)?;
+            self.gateway.strange(&hello)?;
+        }
+        Ok(())
     }
 
     fn hello(&mut self) -> Result<Vec<u8>, String> {

@@ -55,6 +55,11 @@ impl Link {
         self.take_out(|due| due <= now)
     }
 
+    /// Some that are under way are gone.
+    pub fn drop_those(&mut self, gone: impl Fn(&[u8]) -> bool) {
+        self.under_way.retain(|(_, datagram)| !gone(datagram));
+    }
+
     /// Everything that is still under way.
     pub fn empty(&mut self) -> Vec<Vec<u8>> {
         self.take_out(|_| true)
@@ -131,6 +136,16 @@ mod tests {
             highest - datagram[0]
         });
         behind.filter(|places| *places > 0).collect()
+    }
+
+    #[test]
+    fn dropped_ones_do_not_come() {
+        let mut link = Link::new(Rates { delay: 100, ..Rates::default() }, 7);
+        let out = (0..100).flat_map(|n| link.pass(vec![n, 0, 0])).count();
+        let left = link.under_way.len();
+        link.drop_those(|datagram| datagram[0] % 2 == 0);
+        assert!(link.under_way.len() < left && out + left == 100);
+        assert!(link.empty().iter().all(|datagram| datagram[0] % 2 == 1));
     }
 
     fn sent() -> Vec<Vec<u8>> {

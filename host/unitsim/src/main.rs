@@ -44,8 +44,12 @@ fn run(options: &Options) -> Result<(), String> {
         0 => String::new(),
         some => format!(", forwarded {some}"),
     };
+    let reboots = match day.reboots {
+        0 => String::new(),
+        some => format!(", reboots {some}"),
+    };
     println!(
-        "{}: {} reports sent; the link lost {}, repeated {}, delayed {}, reordered {}, damaged {}{forwarded}",
+        "{}: {} reports sent; the link lost {}, repeated {}, delayed {}, reordered {}, damaged {}{forwarded}{reboots}",
         options.ship, day.sent, did.lost, did.repeated, did.delayed, did.reordered, did.damaged
     );
     println!("{}: said again {} hellos and flights", options.ship, day.said_again);

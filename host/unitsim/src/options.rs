@@ -21,6 +21,10 @@ unitsim: a ship's unit behind a bad link, for trying a gateway.
                          up to 40 datagrams, lets the next ones pass, changes a byte of  [0]
     --forward P          per cent of the reports that take the store-and-forward routing and come forty
                          places late, once the gateway has our Finished  [0]
+    --reboots N          so many times in the middle of the day the unit loses its power, forgets all and says
+                         hello anew; each second time once more, as soon as it has heard the reply  [0]
+    --strangers N        so many hellos in the ship's name, from another host, after each reply that the
+                         ship heard and before its Finished  [0]
     --every MILLISECONDS pause behind each datagram  [1]
     --timer MILLISECONDS how long the ship waits for a reply before it says its hello again  [20]
     --messages SECONDS   sends by short messages, one to a datagram, and the link has its faults for
@@ -46,6 +50,8 @@ pub struct Options {
     pub reports: usize,
     pub seed: u64,
     pub rates: Rates,
+    pub reboots: usize,
+    pub strangers: usize,
     pub every: Duration,
     pub timer: Duration,
     pub kind: Kind,
@@ -72,6 +78,7 @@ pub fn read(mut words: impl Iterator<Item = String>) -> Result<Option<Options>, 
     let (mut expected, mut capture, mut close) = (None, None, false);
     let mut messages = None;
     let (mut reports, mut seed, mut every, mut timer) = (300, 1, 1, 20);
+    let (mut reboots, mut strangers) = (0, 0);
     let mut rates = Rates::default();
     let (mut kind, mut refresh) = (Kind::Sha80, 4);
     while let Some(word) = words.next() {
@@ -97,6 +104,8 @@ pub fn read(mut words: impl Iterator<Item = String>) -> Result<Option<Options>, 
             "--reorder" => rates.reorder = percent(&word, &value)?,
             "--damage" => rates.damage = percent(&word, &value)?,
             "--forward" => rates.forward = percent(&word, &value)?,
+            "--reboots" => reboots = number(&word, &value)?,
+            "--strangers" => strangers = number(&word, &value)?,
             "--every" => every = number(&word, &value)?,
             "--timer" => timer = number(&word, &value)?,
             "--refresh" => refresh = number(&word, &value)?,
@@ -120,6 +129,8 @@ pub fn read(mut words: impl Iterator<Item = String>) -> Result<Option<Options>, 
         reports,
         seed,
         rates,
+        reboots,
+        strangers,
         every,
         timer,
         kind,

@@ -7,11 +7,13 @@ use peer::capture::{Capture, Way};
 use peer::shore::{Answer, Received, Shore, Tally};
 use peer::wire;
 use std::io;
-use std::net::{SocketAddr, UdpSocket};
+use std::net::{IpAddr, SocketAddr, UdpSocket};
 use std::time::Duration;
 
 pub struct Gateway {
     socket: UdpSocket,
+    /// Somebody else's, on another host where there is one.
+    stranger: UdpSocket,
     rules: Shore,
     pub tally: Tally,
     /// What must be in the list, in its order: number and bytes.
@@ -24,6 +26,7 @@ pub struct Gateway {
 }
 
 const REPLY_WITHIN: Duration = Duration::from_secs(5);
+const STRANGER_WAITS: Duration = Duration::from_millis(100);
 const ROOM: usize = 128;
 /// In a reply: record header 5, message header 3, version 1.
 const RANDOM_AT: usize = 9;
@@ -37,6 +40,7 @@ impl Gateway {
         let capture = options.capture.as_deref().map(Capture::create).transpose().map_err(told)?;
         Ok(Gateway {
             socket,
+            stranger: strangers(options.to).map_err(told)?,
             rules,
             tally: Tally::default(),
             handed_out: Vec::new(),
@@ -89,6 +93,14 @@ impl Gateway {
             self.judge(datagram, &random);
         }
         self.hear(Duration::ZERO)
+    }
+
+    /// A hello of somebody else, which the gateway answers to him, or not. The rules do not hear of
+    /// it: what they say of the ship must stay as it is.
+    pub fn strange(&mut self, hello: &[u8]) -> Result<(), String> {
+        self.stranger.send(hello).map_err(|error| error.to_string())?;
+        let _ = self.stranger.recv(&mut [0; 2048]);
+        Ok(())
     }
 
     fn judge(&mut self, datagram: &[u8], random: &[u8]) -> Received {
@@ -162,6 +174,20 @@ fn connected(to: SocketAddr) -> io::Result<UdpSocket> {
     let any = if to.is_ipv4() { "0.0.0.0:0" } else { "[::]:0" };
     let socket = UdpSocket::bind(any)?;
     socket.connect(to)?;
+    Ok(socket)
+}
+
+/// For a gateway on this machine, on another of its addresses.
+fn strangers(to: SocketAddr) -> io::Result<UdpSocket> {
+    let socket = match to.ip() {
+        IpAddr::V4(ip) if ip.is_loopback() => {
+            let socket = UdpSocket::bind("127.0.0.99:0")?;
+            socket.connect(to)?;
+            socket
+        }
+        _ => connected(to)?,
+    };
+    socket.set_read_timeout(Some(STRANGER_WAITS))?;
     Ok(socket)
 }
 

@@ -29,6 +29,9 @@ impl Day<'_> {
     }
 
     fn record(&mut self, with_length: bool) -> Vec<u8> {
+        if self.started().is_some() && self.rng.percent(20) {
+            self.turn();
+        }
         match self.rng.under(100) {
             0..=4 => self.clear_record(with_length),
             5..=10 => self.forged_record(with_length),
@@ -47,7 +50,7 @@ impl Day<'_> {
 
     /// Mostly the next number; at times a gap, a late one, the window's edge, or a leap.
     pub(super) fn number(&mut self) -> u16 {
-        let window = self.model.shore().map(|shore| shore.window());
+        let window = self.window();
         let highest = usize::from(window.and_then(|window| window.highest()).unwrap_or(0));
         let width = usize::from(window.map_or(32, |window| window.width()));
         let next = self.next as usize;
@@ -117,12 +120,12 @@ impl Day<'_> {
         content
     }
 
-    fn finished_message(&self) -> Vec<u8> {
+    pub(super) fn finished_message(&self) -> Vec<u8> {
         self.unit.connection().map_or(Vec::new(), |connection| connection.finished.clone())
     }
 
     /// Well formed, with one bit of its data wrong.
-    fn wrong_finished(&mut self) -> Vec<u8> {
+    pub(super) fn wrong_finished(&mut self) -> Vec<u8> {
         let mut message = self.finished_message();
         if message.len() == 15 {
             message[self.rng.between(3, 14)] ^= 1 << self.rng.under(8);
@@ -131,7 +134,7 @@ impl Day<'_> {
     }
 
     /// No Finished at all, or one of another length.
-    fn wrong_message(&mut self) -> Vec<u8> {
+    pub(super) fn wrong_message(&mut self) -> Vec<u8> {
         let mut message = self.finished_message();
         match self.rng.under(6) {
             0 => message.clear(),

@@ -72,7 +72,7 @@ impl Day<'_> {
     /// Lends a message to the shore; the unit hears the reply unless it is lost. Where a new
     /// reference finds no room, mostly one that waits is dropped.
     fn message(&mut self, message: &[u8]) {
-        let random = self.rng.bytes(16);
+        let random = self.random();
         let room = self.rng.weigh(&[(8, 128), (1, 129), (1, 2048)]);
         self.message_with(message, &random, room);
         let waiting = self.model.gathering().waiting();

@@ -28,7 +28,7 @@ impl Day<'_> {
         self.say(&message);
     }
 
-    fn say(&mut self, message: &[u8]) {
+    pub(super) fn say(&mut self, message: &[u8]) {
         let mut datagram = self.unit.say_hello(message);
         self.hellos.push(message.to_vec());
         if self.rng.percent(20) {
