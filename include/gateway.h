@@ -1,9 +1,9 @@
 /* The shore end of one link, for C: WTLS (WAP-261, 6 April 2001) with one ship's unit, proved in Rattle.
 
    Link target/staticlib/libgateway.a (`rt staticlib gateway`). There is no heap, no global and no system call: a connection,
-   a tally and a gatherer of short messages live in bytes that the caller lends, and nothing is kept between calls. A call may be made on any bytes whatever: what
-   is lent is tested, and what is wrong is refused with a number. A refused call leaves every lent byte as it was, but for what
-   gateway_message says of its gathering.
+   a tally and a gatherer of short messages live in bytes that the caller lends, and nothing is kept between calls. A call may
+   be made on any bytes whatever: what is lent is tested, and what is wrong is refused with a number. A refused call leaves
+   every lent byte as it was, but for what gateway_gather and gateway_message say of the gathering.
 
    Lent bytes may be copied, stored and lent again later, by this program or another one: they are the connection. They hold the
    session's master secret.
@@ -196,8 +196,9 @@ uint64_t gateway_gather(uint8_t *gatherer, size_t gatherer_size, const uint8_t *
 /* Takes one short message for a connection: it is gathered as gateway_gather does it, and the datagram that it then shows is
    received as gateway_receive does it. The gatherer is no part of the connection: whichever messages are to be gathered together
    are lent the same one.
-   Done: `said` tells what became of it. A message that waits leaves the connection, the tally, `assembly`, `out` and `answers`. One that shows a datagram, where it was received or at the front of `assembly`, is answered as
-   gateway_receive answers that datagram: the count, what is written, the answers with their places counted in the datagram.
+   Done: `said` tells what became of it. A message that waits leaves the connection, the tally, `assembly`, `out` and `answers`.
+   One that shows a datagram, where it was received or at the front of `assembly`, is answered as gateway_receive answers that
+   datagram: the count, what is written, the answers with their places counted in the datagram.
    Refused, in this order: 16 (as for a receive; also: no saved gatherer, or `said` of another size), 6 (room under 128, or
    `assembly` under 1,400), 19, 20, 21, 22; these change nothing, save that 22 drops the reference. Then the framing of the
    datagram that is shown, 1 to 5, as for a receive: it leaves the connection, the tally, `out` and `answers`; but the

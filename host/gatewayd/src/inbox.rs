@@ -24,7 +24,7 @@ struct Shared {
 /// How many datagrams may wait.
 const WAITING: usize = 4096;
 /// So long the one who takes them waits for the first, so that signals are looked at.
-const WAIT: Duration = Duration::from_millis(50);
+pub const WAIT: Duration = Duration::from_millis(50);
 
 impl Inbox {
     pub fn open(socket: &Socket) -> io::Result<Inbox> {
@@ -38,8 +38,13 @@ impl Inbox {
 
     /// The datagrams that wait, about so many at most, and those that come within the pause behind the first; none if there came
     /// none for a while. Once it is closed, none means that all are taken.
-    pub fn next(&mut self, most: usize, pause: Duration) -> io::Result<Vec<Datagram>> {
-        let mut run = match self.first()? {
+    pub fn next(
+        &mut self,
+        most: usize,
+        pause: Duration,
+        wait: Duration,
+    ) -> io::Result<Vec<Datagram>> {
+        let mut run = match self.first(wait)? {
             Some(batch) => batch,
             None => return Ok(Vec::new()),
         };
@@ -56,7 +61,7 @@ impl Inbox {
     /// The datagrams that wait, about so many at most. Waits for none; but once it is closed, none means that all are taken.
     pub fn poll(&mut self, most: usize) -> io::Result<Vec<Datagram>> {
         if self.is_closed {
-            return self.next(most, Duration::ZERO);
+            return self.next(most, Duration::ZERO, WAIT);
         }
         let mut run = Vec::new();
         while run.len() < most {
@@ -69,12 +74,12 @@ impl Inbox {
         Ok(run)
     }
 
-    fn first(&self) -> io::Result<Option<Vec<Datagram>>> {
+    fn first(&self, wait: Duration) -> io::Result<Option<Vec<Datagram>>> {
         if self.is_closed {
             // The receiver ends within its own wait; until then it may bring some more.
             return self.batches.recv().ok().transpose();
         }
-        match self.batches.recv_timeout(WAIT) {
+        match self.batches.recv_timeout(wait) {
             Ok(batch) => batch.map(Some),
             Err(RecvTimeoutError::Timeout) => Ok(None),
             Err(RecvTimeoutError::Disconnected) => Err(io::Error::other("the receiver ended")),

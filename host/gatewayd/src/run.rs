@@ -1,7 +1,7 @@
 //! The gateway at work: datagrams in runs, each run committed, then answered.
 
 use crate::fleet::{Fleet, Rules};
-use crate::inbox::Inbox;
+use crate::inbox::{Inbox, WAIT};
 use crate::log::{say, Log, Progress};
 use crate::messages::Messages;
 use crate::note::Note;
@@ -38,6 +38,8 @@ pub enum Ended {
 const RUN: usize = 256;
 /// What was only counted is saved so often.
 const COUNTS_EVERY: Duration = Duration::from_secs(10);
+/// Short messages have an inbox of their own, which is looked into so often while nothing comes to the other.
+const MESSAGES_WAIT: Duration = Duration::from_millis(5);
 /// The pause in which more datagrams may join a run, as a part of what the last one took.
 const PAUSE_PART: u32 = 16;
 const LONGEST_PAUSE: Duration = Duration::from_millis(1);
@@ -161,10 +163,11 @@ impl Gateway {
     /// A commit is shared by what has arrived: where it takes long, what follows closely is waited for.
     fn next(&mut self) -> Result<Vec<Datagram>, String> {
         let pause = (self.last_run / PAUSE_PART).min(LONGEST_PAUSE);
+        let wait = if self.messages.is_some() { MESSAGES_WAIT } else { WAIT };
         let told = |error: io::Error| error.to_string();
         let mut shown = self.next_messages().map_err(told)?;
         let run = match shown.is_empty() {
-            true => self.inbox.next(RUN, pause),
+            true => self.inbox.next(RUN, pause, wait),
             false => self.inbox.poll(RUN),
         };
         shown.extend(run.map_err(told)?);
