@@ -128,7 +128,10 @@ fn measure(
     let mut store = Counted { engine: open_to_read(at)?, reports: 0 };
     store.wait_for(ships)?;
     if std::env::var_os("APART").is_some() {
-        fleet.iter_mut().enumerate().for_each(|(index, ship)| ship.number += (index * 601 % 40_000) as u16);
+        fleet
+            .iter_mut()
+            .enumerate()
+            .for_each(|(index, ship)| ship.number += (index * 601 % 40_000) as u16);
     }
     // Made before the clock runs: the ships' work is not the gateway's.
     let made: Vec<(usize, Vec<u8>)> =

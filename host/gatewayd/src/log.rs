@@ -100,7 +100,8 @@ impl Log {
 
     pub fn progress(&mut self, counts: &Progress, now: Instant) {
         self.progress_at = Some(now);
-        let Progress { datagrams, handed_out, forged, too_old, repeated, dropped, not_sent } = counts;
+        let Progress { datagrams, handed_out, forged, too_old, repeated, dropped, not_sent } =
+            counts;
         let taken = format!("datagrams {datagrams}, handed out {handed_out}");
         let refused = format!("forged {forged}, too old {too_old}, repeated {repeated}");
         let lost = format!("dropped by the system {dropped}, not sent {not_sent}");

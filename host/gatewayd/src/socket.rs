@@ -78,7 +78,11 @@ impl Socket {
         let mut values = [0_u32; 9];
         let (to, mut size) = ((&raw mut values).cast(), size_of::<[u32; 9]>() as u32);
         let done = unsafe { getsockopt(self.fd(), SOL_SOCKET, SO_MEMINFO, to, &raw mut size) };
-        if done == 0 { values[8] } else { 0 }
+        if done == 0 {
+            values[8]
+        } else {
+            0
+        }
     }
 
     pub fn address(&self) -> io::Result<SocketAddr> {

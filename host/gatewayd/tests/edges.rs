@@ -63,7 +63,9 @@ fn what_the_system_drops_is_told() {
         told.push(dropped(&log()));
         other.send(&other.data(turn));
         ship.send(&ship.data(1 + turn));
-        wait_for("reports", || place.listed(0).len() + place.listed(1).len() == 1 + 2 * usize::from(turn));
+        wait_for("reports", || {
+            place.listed(0).len() + place.listed(1).len() == 1 + 2 * usize::from(turn)
+        });
     }
     thread::sleep(Duration::from_millis(300));
     assert_eq!(told, [dropped(&log()), dropped(&log())]);
@@ -112,7 +114,9 @@ fn a_send_does_not_wait() {
         let said = [ran.stdout, ran.stderr].map(|text| String::from_utf8_lossy(&text).into_owned());
         match ran.status.code() {
             Some(0) => {}
-            Some(1 | 77) if !said[0].contains("running 1 test") => println!("skipped: no slow link can be made here"),
+            Some(1 | 77) if !said[0].contains("running 1 test") => {
+                println!("skipped: no slow link can be made here")
+            }
             _ => panic!("{}", said.concat()),
         }
         return;
@@ -120,7 +124,15 @@ fn a_send_does_not_wait() {
     let place = Place::new("slow-link");
     place.plant(3);
     // Without the right to more, the system holds what it holds for everybody.
-    let words = ["nsenter", "-t", &far, "-n", "setpriv", "--bounding-set=-net_admin", "--inh-caps=-net_admin"];
+    let words = [
+        "nsenter",
+        "-t",
+        &far,
+        "-n",
+        "setpriv",
+        "--bounding-set=-net_admin",
+        "--inh-caps=-net_admin",
+    ];
     let gatewayd = Gatewayd::start_behind(&place, &words, "10.9.0.1:9202");
     let at = |host: String| {
         let socket = UdpSocket::bind(host).unwrap();
@@ -260,7 +272,9 @@ fn a_new_start_without_a_program() {
     ships.iter_mut().for_each(|ship| ship.open(1));
     let report = |number: u16| {
         ships.iter().for_each(|ship| ship.send(&ship.data(number)));
-        wait_for("reports", || [0, 1].iter().all(|ship| place.listed(*ship).len() == usize::from(number)));
+        wait_for("reports", || {
+            [0, 1].iter().all(|ship| place.listed(*ship).len() == usize::from(number))
+        });
     };
     let told = || {
         let log = fs::read_to_string(place.path.join("log")).unwrap();

@@ -443,7 +443,15 @@ fn roles_and_refusals_to_start() {
     let server = Server::start(&place);
     let refused = |address: &str, expected: &str| {
         let output = Command::new("timeout")
-            .args(["20", env!("CARGO_BIN_EXE_gatewayd"), "--listen", ANY, "--store", address, "--sessions"])
+            .args([
+                "20",
+                env!("CARGO_BIN_EXE_gatewayd"),
+                "--listen",
+                ANY,
+                "--store",
+                address,
+                "--sessions",
+            ])
             .arg(place.sessions())
             .output()
             .unwrap();
@@ -458,7 +466,10 @@ fn roles_and_refusals_to_start() {
     server.sql("fleet", "UPDATE store SET version = 7");
     refused(&server.address("gatewayd"), "tables of version 7");
     server.sql("fleet", "UPDATE store SET version = 1");
-    refused(&server.address("gatewayd").replace("/fleet", "/other"), "database \"other\" does not exist");
+    refused(
+        &server.address("gatewayd").replace("/fleet", "/other"),
+        "database \"other\" does not exist",
+    );
     refused("postgres:///fleet?nonsense=1", "nonsense");
     place.server = Some(server.address("gatewayd"));
     let gatewayd = Gatewayd::start(&place, ANY, &[]);

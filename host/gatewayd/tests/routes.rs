@@ -237,7 +237,10 @@ fn a_ship_that_lost_its_state() {
     // The hello of the handshake under way, once more, is no new one: the same reply.
     let hello = scene.ship.hello(2);
     scene.ship.send(&hello);
-    assert!(scene.ship.hear(Duration::from_secs(1)), "no reply to the hello of a handshake under way");
+    assert!(
+        scene.ship.hear(Duration::from_secs(1)),
+        "no reply to the hello of a handshake under way"
+    );
     scene.ship.send(&scene.ship.unit.flight().unwrap());
     scene.report(100..=100 + REPORTS);
     scene.end(0);

@@ -31,10 +31,10 @@ impl World {
     }
 
     fn with(state: &Path, start: Start) -> World {
-        let sessions = vec![Session { id: identifier(0), secret: secret(0), width: 32, ship: name(0) }];
+        let sessions =
+            vec![Session { id: identifier(0), secret: secret(0), width: 32, ship: name(0) }];
         let opened = Store::open(&Where::Directory(state.into()), &sessions, start).unwrap();
-        let rules =
-            Rules { warn_every: Duration::ZERO, hint_every: None };
+        let rules = Rules { warn_every: Duration::ZERO, hint_every: None };
         let fleet = Fleet::new(opened.ships, rules);
         World { shore: Shore::new(fleet, opened.store, Randoms::open().unwrap()) }
     }
@@ -234,7 +234,8 @@ fn another_layout() {
     let store = rusqlite::Connection::open(place.state().join("store.db")).unwrap();
     let sql = "UPDATE store SET layout = '1, 457 and 16 bytes'; UPDATE ships SET connection = x'00', tally = x'00'";
     store.execute_batch(sql).unwrap();
-    let sessions = || vec![Session { id: identifier(0), secret: secret(0), width: 32, ship: name(0) }];
+    let sessions =
+        || vec![Session { id: identifier(0), secret: secret(0), width: 32, ship: name(0) }];
     let refused = Store::open(&place.at(), &sessions(), Start::AsItWas).err().unwrap();
     assert!(refused.what().contains("connections of layout 1, 457 and 16 bytes"), "{refused:?}");
     let mut world = World::with(&place.state(), Start::Afresh);
@@ -316,8 +317,19 @@ fn gaps_of_a_span() {
     let store = rusqlite::Connection::open(place.state().join("store.db")).unwrap();
     let day = |day: i64| 86_400_000 * day;
     let rows: [(usize, i64, i64, i64); 13] = [
-        (0, 1, 1, 0), (0, 1, 2, 0), (0, 1, 4, 0), (1, 1, 2, 0), (0, 1, 3, 1), (0, 1, 6, 1), (0, 2, 3, 1), (0, 2, 4, 1),
-        (1, 1, 900, 1), (1, 1, 902, 1), (2, 1, 1200, 1), (0, 2, 1, 2), (2, 1, 700, 2),
+        (0, 1, 1, 0),
+        (0, 1, 2, 0),
+        (0, 1, 4, 0),
+        (1, 1, 2, 0),
+        (0, 1, 3, 1),
+        (0, 1, 6, 1),
+        (0, 2, 3, 1),
+        (0, 2, 4, 1),
+        (1, 1, 900, 1),
+        (1, 1, 902, 1),
+        (2, 1, 1200, 1),
+        (0, 2, 1, 2),
+        (2, 1, 700, 2),
     ];
     for (ship, opening, number, on) in rows {
         let values = (&identifier(ship)[..], opening, number, day(on));
@@ -327,7 +339,10 @@ fn gaps_of_a_span() {
     let on = |day: &str| said(&place, &["--missing", "--day", day]);
     assert_eq!(on("1970-01-01"), "ship 1\t1\t1\t1\t1\n");
     let second = "ship 0\t1\t5\t5\t1\nship 0\t2\t2\t2\t1\nship 1\t1\t901\t901\t1\n";
-    assert_eq!(on("1970-01-02"), format!("{second}ship 2\t1\t1\t699\t699\nship 2\t1\t701\t1199\t499\n"));
+    assert_eq!(
+        on("1970-01-02"),
+        format!("{second}ship 2\t1\t1\t699\t699\nship 2\t1\t701\t1199\t499\n")
+    );
 }
 
 /// Somebody takes the row of a ship away: nothing is sent or listed that is not in the store.

@@ -4,8 +4,8 @@ use std::io::{self, BufWriter, Read, Write};
 use std::process::ExitCode;
 
 use peer::{
-    capture, console, dayconsole, dayfiles, days, handshakes, links, lists, parts, rng, rows, setlines,
-    shipconsole, shipcover, shipstored, stored, wire,
+    capture, console, dayconsole, dayfiles, days, handshakes, links, lists, parts, rng, rows,
+    setlines, shipconsole, shipcover, shipstored, stored, wire,
 };
 
 const USAGE: &str = "\

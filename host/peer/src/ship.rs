@@ -5,8 +5,8 @@
 mod judge;
 
 use crate::alert;
-use crate::keys::{Keys, Kind, Writer};
 use crate::handshake::unspent;
+use crate::keys::{Keys, Kind, Writer};
 use crate::shore::{remember, Checksum, Refusal, Tally, LARGEST_DATA, ROOM_OF_RECEIVE};
 use crate::unit::Hello;
 use crate::window::Window;

@@ -110,7 +110,8 @@ fn taken(bytes: &[u8], report: &[u8]) -> Option<&'static str> {
     }
     // The window: highest number and marks, and apart from them its width; one that it cannot have becomes the nearest that it can.
     let width = [bytes[471], bytes[471].clamp(32, 64)].contains(&lent.state[471]);
-    let unchanged = width && [&lent.state[..471], &lent.state[482..]] == [&bytes[..471], &bytes[482..]];
+    let unchanged =
+        width && [&lent.state[..471], &lent.state[482..]] == [&bytes[..471], &bytes[482..]];
     match (unchanged, lent.answers[0]) {
         (false, _) => Some("a report changes more than the window"),
         (true, 11) if lent.state != bytes => Some("a refused report changes the window"),
@@ -145,7 +146,9 @@ fn written(bytes: &[u8], hello: &[u8]) -> Option<&'static str> {
             Some("another size is sent")
         }
         0 if !counted(&lent.out, given.written) => Some("a send writes more than it counts"),
-        0 if [&lent.state[40..482], &lent.state[490..]] != [&bytes[40..482], &bytes[490..]] => Some("a send changes more than our numbers"),
+        0 if [&lent.state[40..482], &lent.state[490..]] != [&bytes[40..482], &bytes[490..]] => {
+            Some("a send changes more than our numbers")
+        }
         0 => None,
         7 | 8 | 15 if lent == Lent::new(bytes) && given.written == 0 => None,
         _ => Some("a send is refused with another number, or touches something"),

@@ -57,7 +57,9 @@ impl Cases {
                     let (refusal, name, count) = mac_expected(edition, number, room);
                     let mut left = name.as_bytes().to_vec();
                     left.resize(room.max(name.len()), 0x5a);
-                    let right = (given.refusal, given.written, given.count) == (refusal, name.len(), count) && out == left;
+                    let right = (given.refusal, given.written, given.count)
+                        == (refusal, name.len(), count)
+                        && out == left;
                     self.expect(&format!("mac {edition} {number} with room {room}"), right, given);
                 }
             }
@@ -290,6 +292,10 @@ fn mac_expected(edition: u32, number: u32, room: usize) -> (u32, &'static str, u
         Err(macs::UnknownEdition) => (16, "", 0),
         Ok(_) if room < 10 => (6, "", 0),
         Ok(None) => (0, "", 0),
-        Ok(Some(kind)) => (0, kind.name, kind.sizes.map_or(0, |(key, code)| 0x8000 + usize::from(key) * 256 + usize::from(code))),
+        Ok(Some(kind)) => (
+            0,
+            kind.name,
+            kind.sizes.map_or(0, |(key, code)| 0x8000 + usize::from(key) * 256 + usize::from(code)),
+        ),
     }
 }

@@ -33,7 +33,8 @@ pub fn gaps(engine: &mut dyn Engine, wanted: &Wanted) -> Result<Vec<Gap>, Fault>
          ORDER BY name, opening, number"
     );
     for row in engine.query(&sql, &values)? {
-        let hole = Hole::read(&row).ok_or_else(|| Fault::Broken("a report's row is damaged".to_string()))?;
+        let hole = Hole::read(&row)
+            .ok_or_else(|| Fault::Broken("a report's row is damaged".to_string()))?;
         gaps.extend(hole.gaps(engine)?);
     }
     Ok(gaps)
@@ -73,10 +74,17 @@ impl Hole {
             if self.previous.is_none() && there.iter().any(|(_, id)| *id < self.earliest) {
                 return Ok(Vec::new());
             }
-            for number in (start..end).rev().filter(|number| there.iter().all(|(one, _)| one != number)) {
+            for number in
+                (start..end).rev().filter(|number| there.iter().all(|(one, _)| one != number))
+            {
                 match gaps.last_mut() {
                     Some(gap) if gap.first == number + 1 => gap.first = number,
-                    _ => gaps.push(Gap { ship: self.name.clone(), opening: self.opening, first: number, last: number }),
+                    _ => gaps.push(Gap {
+                        ship: self.name.clone(),
+                        opening: self.opening,
+                        first: number,
+                        last: number,
+                    }),
                 }
             }
             end = start;
@@ -86,13 +94,20 @@ impl Hole {
     }
 
     /// Which of these numbers were received at all, and their places in the order of arrival.
-    fn there(&self, engine: &mut dyn Engine, start: i64, end: i64) -> Result<Vec<(i64, i64)>, Fault> {
+    fn there(
+        &self,
+        engine: &mut dyn Engine,
+        start: i64,
+        end: i64,
+    ) -> Result<Vec<(i64, i64)>, Fault> {
         let sql = format!(
             "SELECT number, id FROM reports WHERE ship = $1 AND opening = $2 AND number IN ({})",
             places(3, (end - start) as usize)
         );
-        let values: Vec<Value> =
-            [self.ship.clone(), self.opening.into()].into_iter().chain((start..end).map(Value::Int)).collect();
+        let values: Vec<Value> = [self.ship.clone(), self.opening.into()]
+            .into_iter()
+            .chain((start..end).map(Value::Int))
+            .collect();
         let pair = |row: &Row| Some((row.first()?.int()?, row.get(1)?.int()?));
         Ok(engine.query(&sql, &values)?.iter().filter_map(pair).collect())
     }

@@ -69,7 +69,8 @@ pub fn statements(words: &Words) -> Vec<String> {
 
 /// The layout of what the library saves: the number in its mark, and the sizes.
 pub fn layout() -> String {
-    let fresh = Connection::fresh(&[1; ID_SIZE], &[1; SECRET_SIZE], WIDTH_LEAST).expect("sizes are right");
+    let fresh =
+        Connection::fresh(&[1; ID_SIZE], &[1; SECRET_SIZE], WIDTH_LEAST).expect("sizes are right");
     format!("{}, {STATE_SIZE} and {TALLY_SIZE} bytes", fresh.save()[3])
 }
 

@@ -104,7 +104,8 @@ impl Engine for Sqlite {
         let mut whole = self.connection.prepare_cached(UPDATE).map_err(fault)?;
         let mut part = self.connection.prepare_cached(UPDATE_CONNECTION).map_err(fault)?;
         for row in rows {
-            let statement = if row.len() == part.parameter_count() { &mut part } else { &mut whole };
+            let statement =
+                if row.len() == part.parameter_count() { &mut part } else { &mut whole };
             if statement.execute(params_from_iter(row)).map_err(fault)? != 1 {
                 return Err(Fault::Broken("the row of a ship is gone".to_string()));
             }

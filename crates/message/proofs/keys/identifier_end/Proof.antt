@@ -68,11 +68,12 @@ unfolding identifierEnd
 returns-7 c =
     let s = now (c .before .before .before .before .args .s) in
     let at = c .before .before .before .before .args .at in
-    let kind = getD s at 0 in
-    (if-lt _ at (length s) (omega arith)
-    (if-ne _ kind 0 (omega arith)
-    (if-ne _ kind 1 (omega arith) (if-ne _ kind 2 (omega arith) (if-ne _ kind 254 (omega arith) (if-ne _ kind 255 (omega arith) refl))))),
-    omega arith)
+    let kind = getD s at 0 in (
+      if-lt _ at (length s) (omega arith)
+          (if-ne _ kind 0 (omega arith)
+          (if-ne _ kind 1 (omega arith) (if-ne _ kind 2 (omega arith) (if-ne _ kind 254 (omega arith) (if-ne _ kind 255 (omega arith) refl))))),
+      omega arith,
+    )
 
 pub identifier-end-spec : {M : Type 1} → statement M
 identifier-end-spec =
