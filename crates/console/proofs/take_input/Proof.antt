@@ -55,8 +55,8 @@ loop-less : tie.Need-loop-less Inv-loop μ-loop
 loop-less c = search needs
 
 loop-again : tie.Need-loop-again Inv-loop μ-loop
-loop-again c = let inv = c .loop .inv in
-    (omega (arith, c .read .kept .1 .0, inv .0), omega (arith, c .feed .kept .1 .1 .0, inv .1), omega (arith, c .feed .kept .1 .1 .1 .1 .0, inv .2))
+loop-again c = let inv = c .before .before .before .before .before .before .before .before .before .before .before .before .before .before .before .before .before .loop .inv in
+    (omega (arith, c .before .before .before .before .before .before .before .before .before .before .before .before .before .before .read .kept .1 .0, inv .0), omega (arith, c .before .before .before .before .before .feed .kept .1 .1 .0, inv .1), omega (arith, c .before .before .before .before .before .feed .kept .1 .1 .1 .1 .0, inv .2))
 
 same-length-4 : tie.Need-same-length-4 Inv-loop μ-loop
 same-length-4 c = search needs
