@@ -1,7 +1,10 @@
 -- `load::is_saved`: the tests in their order.
-use mathlib.Core.Path.{_≡_, refl, sym}
+use mathlib.Core.Path.{_≡_, refl, sym, _∙_}
 use mathlib.Core.Bool.{Bool, false}
-use Rattle.digest.proofs.Picks.{picks}
+use native.Mathlib.Omega.{arith}
+use lib.ListN.{length}
+use Rattle.digest.specs.Bytes.{wordAt}
+use Rattle.digest.proofs.Picks.{picks, pick-yes, if-eq}
 use Rattle.lent.specs.Saved.{isSaved}
 use borrow.Author.Needs.{needs}
 use Rattle.lent.proofs.load.is_saved.Statement.{statement}
@@ -44,7 +47,11 @@ is-handshake-requires-2 c κs = search needs
 
 returns-3 : tie.Need-returns-3
 unfolding isSaved
-returns-3 c = let is = c .is-handshake2 .ensures in rw (sym (c .before .before .before .before .before .before .four-in .ensures)) (rw (sym (c .before .before .before .is-handshake .ensures)) (search picks))
+returns-3 c =
+    let b = c .before .before .before .before .before .before .before .before .before .args .b .now in
+    if-eq _ (length b) 940 (omega arith)
+    (if-eq _ (wordAt b 0) 0x57544704 (omega (arith, c .before .before .before .before .before .before .four-in .ensures))
+    (pick-yes _ _ _ _ _ (sym (c .before .before .before .is-handshake .ensures) ∙ c .before .before .if3 .taken) (c .is-handshake2 .ensures)))
 
 returns-4 : tie.Need-returns-4
 unfolding isSaved
