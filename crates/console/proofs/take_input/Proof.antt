@@ -1,6 +1,7 @@
 -- `take_input`: the measure is the number of turns that are left, and the buffers keep their lengths.
 use mathlib.Core.Path.{_≡_}
 use lib.ListN.{length}
+use native.Mathlib.Omega.{arith}
 use borrow.Author.Needs.{needs}
 use Rattle.console.proofs.take_input.Statement.{statement}
 use Rattle.console.proofs.take_input.Tie as tie
@@ -54,7 +55,8 @@ loop-less : tie.Need-loop-less Inv-loop μ-loop
 loop-less c = search needs
 
 loop-again : tie.Need-loop-again Inv-loop μ-loop
-loop-again c = search needs
+loop-again c = let inv = c .loop .inv in
+    (omega (arith, c .read .kept .1 .0, inv .0), omega (arith, c .feed .kept .1 .1 .0, inv .1), omega (arith, c .feed .kept .1 .1 .1 .1 .0, inv .2))
 
 same-length-4 : tie.Need-same-length-4 Inv-loop μ-loop
 same-length-4 c = search needs
