@@ -26,7 +26,7 @@ use Rattle.record.specs.Window.{Held}
 use Rattle.demands.specs.Runs.{freshWith}
 use Rattle.demands.specs.Example.{exampleId, exampleSecret, exampleWidth, exampleHello, shaHello, exampleRandom, examplePlan, shaPlan, exampleOut, exampleData}
 use Rattle.demands.proofs.Table.{row-is}
-use Rattle.demands.proofs.Works.{Walk, walk, walk-mac, walk-refresh, walk-clear}
+use Rattle.demands.proofs.Works.{Walk, walk, walk-mac, walk-refresh, walk-clear, walk-hello}
 use Rattle.connection.specs.Sent.{noRecords}
 use Rattle.connection.specs.Handshake.{noneStarted}
 use Rattle.connection.specs.Connection.{connectionOf}
@@ -72,6 +72,10 @@ example-refresh = walk-refresh exampleId exampleSecret exampleWidth example-held
 pub example-clear : example-walk .h₁ .protection .clear ≡ 2
 unfolding example-walk
 example-clear = walk-clear exampleId exampleSecret exampleWidth example-held exampleHello exampleRandom exampleOut exampleData examplePlan refl (lit≤ tt) example-heard (lit≤ tt) (lit≤ tt)
+
+pub example-greeted : example-walk .greeted ≡ exampleHello
+unfolding example-walk
+example-greeted = walk-hello exampleId exampleSecret exampleWidth example-held exampleHello exampleRandom exampleOut exampleData examplePlan refl (lit≤ tt) example-heard (lit≤ tt) (lit≤ tt)
 
 -- a walk as events: the first three from fresh are Open, and the fourth is data
 module _ (id secret random bytes : List ℕ) (lr : length random ≡ 16) {width : ℕ} (w : Walk id secret width random bytes) where

@@ -1,11 +1,11 @@
 -- The premises are met by the worked handshake.
 use mathlib.Core.Path.{_≡_, refl, sym, _∙_, ap, ap₂, subst}
-use mathlib.Core.Logic.{_⊎_, inl, inr}
+use mathlib.Core.Logic.{_⊎_, inl, inr, _≢_}
 use mathlib.Core.Bool.{Bool, true, false}
 use mathlib.Core.List.{List, [], _∷_, _++_}
 use Prim.Native.Nat.{ℕ, suc, _+_, _≤_, _<_}
 use native.Mathlib.Omega.{arith}
-use lib.ListN.{length, length-append}
+use lib.ListN.{length, length-append, getD}
 use lib.Dec.{lit≤}
 use Rattle.digest.specs.Mac.{sizeOf}
 use Rattle.record.specs.Datagram.{Framing, framed, framingOf}
@@ -18,34 +18,39 @@ use Rattle.message.specs.declared.alert.Description.the-variants as D
 use Rattle.message.specs.declared.alert.Level.the-variants as L
 use Rattle.message.proofs.AlertLaws.{alert-back, level-back, description-back}
 use Rattle.connection.specs.Answer.{judged}
-use Rattle.connection.specs.Handshake.{withWindow, barred}
+use Rattle.connection.specs.Handshake.{withWindow, barred, noneStarted}
 use Rattle.connection.specs.Judge.{judgedRecord}
 use Rattle.connection.specs.Send.{dataSent, alertSent}
 use Rattle.connection.specs.declared.state.State.the-variants as S
 use Rattle.connection.specs.declared.answer.Answer.the-variants as W
 use Rattle.connection.specs.declared.calls.Outcome.the-variants as O
 use Rattle.connection.specs.declared.handshake.Handshake.{Handshake}
-use Rattle.demands.specs.Runs.{send-data, send-alert, stepOf, freshWith}
+use Rattle.demands.specs.Runs.{send-data, send-alert, stepOf, freshWith, freshOne}
 use Rattle.record.specs.declared.keys.Keys.{Keys}
 use Rattle.demands.specs.Genuine.{Genuine, RecordOf, keysOf}
-use Rattle.demands.specs.Table.{Row, New, row-barred}
+use Rattle.demands.specs.Table.{Row, New, row-barred, Hears}
 use Rattle.demands.specs.Calls.{mayAlert, data-sent, alert-sent}
 use Rattle.demands.specs.Events.{Event, took, Sound, AllSound, next, after}
 use Rattle.demands.specs.Past.{isData}
 use Rattle.demands.specs.LeftOut.{NoneGenuine}
 use Rattle.demands.specs.Traps.{lastProtected, JustOpen}
-use Rattle.demands.specs.Example.{exampleId, exampleSecret, exampleWidth, exampleRandom, exampleOut, exampleData}
+use Rattle.demands.specs.Example.{exampleId, exampleSecret, exampleWidth, exampleRandom, exampleOut, exampleData, shaHello, shaPlan, exampleHello}
 use Rattle.demands.specs.Instances.{exampleFresh, OpenRun, Instances}
 use Rattle.demands.proofs.Genuine.{true-false}
 use Rattle.demands.proofs.Table.{row-is}
 use Rattle.demands.proofs.Calls.{call-is}
 use Rattle.demands.proofs.Refusals.{outcomeIn}
-use Rattle.demands.proofs.Works.{Walk}
-use Rattle.demands.proofs.Example.{example-heard, example-held, example-walk, opening, opening-sound, opening-leaves, opening-open}
+use Rattle.demands.proofs.Works.{Walk, reboots}
+use Rattle.demands.proofs.Example.{example-heard, example-held, example-walk, opening, opening-sound, opening-leaves, opening-open, example-greeted, sha-heard, acts, acts-sound, acts-open, acts-leave}
 use Rattle.demands.proofs.Gateways.{two, one-of-two, two-of-two, two-framed}
 use Rattle.demands.proofs.Traps.{w₀, w₇, new-7, single, single-framed, single-protected}
-use Rattle.connection.specs.Connection.{alone}
+use Rattle.connection.specs.Connection.{alone, connectionOf}
 use Rattle.connection.specs.Sent.{noRecords}
+use Rattle.demands.specs.Works.{Rebooted, Reboots}
+use Rattle.demands.specs.Acts.{Act, behind}
+use Rattle.connection.specs.Calls.{sessionOf}
+use Rattle.connection.specs.declared.sent.SentRecords.{SentRecords}
+use Rattle.connection.specs.declared.connection.Connection.{Connection}
 
 abbrev w : Walk exampleId exampleSecret exampleWidth exampleRandom exampleData
 w = example-walk
@@ -107,6 +112,25 @@ alert-is-done h s n =
     ap (λ x. outcomeIn (x .result))
     (call-is (alone h) (alert-sent {protected = true} {out = exampleOut} {l = L.Warning} {k = D.ConnectionCloseNotify} (record { level-is = level-back L.Warning; description-is = description-back D.ConnectionCloseNotify; lent-most = lit≤ tt }) (ap (mayAlert true) s) (omega arith) (omega (arith, size-most (h .protection .keys .mac)))))
 
+-- a reboot: the hello with SHA on the connection that the one with SHA_80 has opened
+other-hello : shaHello ≢ exampleHello
+other-hello z = let n : _≡_ {A = ℕ} 3 2 = ap (λ l. getD l 35 0) z in omega arith
+
+none-hears : {P : Type 0} → Hears S.Idle → P
+none-hears (inl e) = let n : _≡_ {A = ℕ} 0 1 = cc in absurd (omega arith)
+none-hears (inr e) = let n : _≡_ {A = ℕ} 0 1 = cc in absurd (omega arith)
+
+abbrev boot : List Act
+boot = acts exampleId exampleSecret exampleRandom exampleData refl example-walk
+
+from-open : (c : Connection) (s : SentRecords) → c ≡ connectionOf (w .h₃) noneStarted s
+    → Rebooted stepOf exampleSecret c (sessionOf exampleId exampleSecret) shaHello exampleRandom exampleOut exampleData shaPlan
+unfolding Reboots
+from-open c s e =
+    subst (λ x. Rebooted stepOf exampleSecret x (sessionOf exampleId exampleSecret) shaHello exampleRandom exampleOut exampleData shaPlan) (sym e)
+    (reboots exampleId exampleSecret exampleWidth example-held (connectionOf (w .h₃) noneStarted s) (w .open-is) (w .planted-is) (ap (λ x. x .width) (w .window-is))
+    shaHello exampleRandom exampleOut exampleData shaPlan refl (lit≤ tt) (λ z. other-hello (z ∙ w .kept-is ∙ example-greeted)) (λ h. none-hears h) sha-heard (lit≤ tt) (lit≤ tt))
+
 pub instances : Instances
 unfolding run w₀
 instances =
@@ -133,5 +157,11 @@ instances =
         fatal = took noRecords exampleRandom fatal-datagram fatal-record;
         fatal-sound = (refl, record { before = []; behind = []; framing = fatal-framed });
         fatal-bars = ap (λ x. judgedRecord x noRecords exampleRandom fatal-datagram fatal-record .handshake .state) run-leaves ∙ ap (λ j. j .handshake .state) (row-is (w .h₃) noRecords exampleRandom fatal-datagram fatal-record fatal-row);
+      };
+      reboot = record {
+        acts = boot;
+        sound = acts-sound exampleId exampleSecret exampleRandom exampleData refl example-walk;
+        is-open = acts-open exampleId exampleSecret exampleRandom exampleData refl example-walk;
+        rebooted = from-open (behind (freshOne exampleId exampleSecret exampleWidth) boot) _ (acts-leave exampleId exampleSecret exampleRandom exampleData refl example-walk);
       };
     }

@@ -86,7 +86,7 @@ module _ (a b f z : List ℕ) (la : length a ≡ 40) (lb : length b ≡ 6) where
   third-is : take (length flight - 46) (drop 46 (flight ++ z)) ≡ f
   third-is =
       ap (take (length flight - 46)) (sym (drop-drop 6 40 (flight ++ z)) ∙ ap (drop 6) behind-first ∙ drop-at b (f ++ z) 6 lb)
-      ∙ take-at f z (length flight - 46) (omega (arith, length-append a (b ++ f), length-append b f))
+      ∙ take-at f z (length flight - 46) (omega (arith, la, lb, length-append a (b ++ f), length-append b f))
 
 our-hello-size : (session : Session) (random : List ℕ) (plan : Plan) → length random ≡ 16 → length (session .id) ≡ 8
     → length (ourHello session random plan) ≡ 35

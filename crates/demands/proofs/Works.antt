@@ -167,6 +167,9 @@ pub record Walk (id secret : List ℕ) (width : ℕ) (random bytes : List ℕ) :
   pub window-is : h₃ .protection .window ≡ windowOf width (0 ∷ [])
   pub next-is : h₃ .protection .protected ≡ 1
   pub protected₄ : r₄ .protected ≡ true
+  pub greeted : List ℕ
+  pub kept-is : keptHello h₃ ≡ greeted
+  pub planted-is : planted h₃ ≡ sessionOf id secret
 
 module _ (id secret : List ℕ) (width : ℕ) (held : Held width) (m random out bytes : List ℕ) (plan : Plan) (lr : length random ≡ 16) (lo : 128 ≤ length out) (e : heardOf m id ≡ H.Accepted plan) (some : 1 ≤ length bytes) (most : length bytes ≤ 1300) where
   abbrev session : Session
@@ -384,6 +387,9 @@ module _ (id secret : List ℕ) (width : ℕ) (held : Held width) (m random out 
         window-is = refl;
         next-is = refl;
         protected₄ = refl;
+        greeted = m;
+        kept-is = take-at m (replicate (256 - length m) 0) (length m) refl;
+        planted-is = refl;
       }
 
   -- what it agreed
@@ -398,6 +404,10 @@ module _ (id secret : List ℕ) (width : ℕ) (held : Held width) (m random out 
   pub walk-clear : walk .h₁ .protection .clear ≡ 2
   unfolding walk h₁ answeredWith
   walk-clear = refl
+
+  pub walk-hello : walk .greeted ≡ m
+  unfolding walk
+  walk-hello = refl
 
   -- from fresh
   abbrev fresh : Connection

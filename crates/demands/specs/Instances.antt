@@ -15,15 +15,18 @@ use Rattle.connection.specs.declared.state.State.the-variants.{Open, Barred}
 use Rattle.connection.specs.declared.connection.Connection.{Connection}
 use Rattle.connection.specs.declared.calls.Outcome.the-variants.{Done}
 use Rattle.connection.specs.declared.handshake.Handshake.{Handshake}
-use Rattle.demands.specs.Runs.{freshWith}
+use Rattle.demands.specs.Runs.{freshWith, freshOne, stepOf}
 use Rattle.demands.specs.Genuine.{keysOf}
 use Rattle.demands.specs.Events.{Event, took, Sound, AllSound, next, after}
 use Rattle.demands.specs.Past.{isData}
 use Rattle.demands.specs.LeftOut.{NoneGenuine}
 use Rattle.demands.specs.Traps.{JustOpen}
-use Rattle.demands.specs.Example.{exampleId, exampleSecret, exampleWidth, exampleHello, examplePlan}
+use Rattle.demands.specs.Example.{exampleData, exampleHello, exampleId, exampleOut, examplePlan, exampleRandom, exampleSecret, exampleWidth, shaHello, shaPlan}
 use Rattle.connection.specs.Connection.{alone}
 use Rattle.connection.specs.Sent.{noRecords}
+use Rattle.demands.specs.Acts.{Act, SoundActs, behind}
+use Rattle.demands.specs.Works.{Rebooted}
+use Rattle.connection.specs.Calls.{sessionOf}
 
 abbrev pub exampleFresh : Handshake
 exampleFresh = freshWith exampleId exampleSecret exampleWidth
@@ -54,6 +57,16 @@ pub record OpenRun : Type 0 where
   pub fatal-sound : Sound fatal
   pub fatal-bars : next (after exampleFresh es) fatal .state ≡ Barred
 
+-- a run of a connection from fresh that is Open, and a unit that reboots there: another hello, change cipher spec, Finished, and data
+-- under the new keys (02, P6)
+pub record RebootRun : Type 0 where
+  pub acts : List Act
+  pub sound : SoundActs acts
+  pub is-open : behind (freshOne exampleId exampleSecret exampleWidth) acts .handshake .state ≡ Open
+  pub rebooted : Rebooted stepOf exampleSecret (behind (freshOne exampleId exampleSecret exampleWidth) acts)
+      (sessionOf exampleId exampleSecret) shaHello exampleRandom exampleOut exampleData shaPlan
+
 pub record Instances : Type 0 where
   pub hello : heardOf exampleHello exampleId ≡ Accepted examplePlan
   pub run : OpenRun
+  pub reboot : RebootRun
