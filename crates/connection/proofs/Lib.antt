@@ -1,6 +1,6 @@
 -- Laws that belong to no one function.
 pub mod Recorded
-pub mod Unsealing
+pub mod OpeningRecords
 pub mod Running
 pub mod Filling
 pub mod Sending

@@ -18,7 +18,7 @@ use Rattle.record.specs.declared.header.Content.the-variants as C
 use Rattle.record.specs.Written.{recordOf, writtenOf, countOf}
 use Rattle.record.specs.Code.{protectedBy}
 use Rattle.record.proofs.Fronts.{record-length}
-use Rattle.record.proofs.Sealed.{size-most, protected-key}
+use Rattle.record.proofs.ProtectedBytes.{size-most, protected-key}
 use Rattle.message.specs.Change.{changeBytes}
 use Rattle.message.specs.Server.{serverHelloOf}
 use Rattle.message.specs.Finished.{serverVerify, clientVerify, serverLabel, finishedOf}

@@ -17,7 +17,7 @@ use Rattle.record.specs.Checksum.{checksumOf}
 use Rattle.record.specs.Written.{recordOf, byteFor, writtenOf, countOf}
 use Rattle.record.specs.Code.{protectedBy, fragmentBy}
 use Rattle.record.proofs.Fronts.{record-length}
-use Rattle.record.proofs.Sealed.{sealed-length}
+use Rattle.record.proofs.ProtectedBytes.{protected-length}
 use Rattle.record.specs.declared.header.Content.{Content}
 use Rattle.record.specs.declared.header.Content.the-variants as C
 use Rattle.digest.specs.Pick.{pick}
@@ -34,7 +34,7 @@ use Rattle.connection.specs.declared.state.State.{State}
 use Rattle.connection.specs.declared.refusal.Refusal.{Refusal}
 use Rattle.connection.specs.declared.refusal.Refusal.the-variants.{Room, Spent, Argument}
 use Rattle.connection.specs.declared.handshake.Handshake.{Handshake}
-use Rattle.connection.specs.declared.calls.Connection.{Connection}
+use Rattle.connection.specs.declared.connection.Connection.{Connection}
 use Rattle.connection.specs.declared.calls.Outcome.{Outcome}
 use Rattle.connection.specs.declared.calls.Outcome.the-variants.{Done, Refused}
 use Rattle.connection.specs.declared.send.Sent.{Sent}
@@ -45,7 +45,7 @@ pub protected-size : (k : List ℕ) (mac : Mac) (content : Content) (number : �
 unfolding protectedBy
 protected-size k mac content number body =
     record-length false true content number (fragmentBy (hmac k) (sizeOf mac) number (byteFor false true content) body)
-    ∙ ap (λ n. 3 + n) (sealed-length k mac number (byteFor false true content) body)
+    ∙ ap (λ n. 3 + n) (protected-length k mac number (byteFor false true content) body)
     ∙ omega arith
 
 -- what was written of bytes that fit, and its checksum
@@ -137,10 +137,10 @@ unfolding nextClear
 clear-size h body = record-length false false C.Alert (h .protection .clear) body
 
 -- an unknown level or description is refused, whatever else is said
-pub no-level : (c : Connection) (sealed : Bool) (answered : List ℕ) (room : ℕ) (s : Sorted) → unsent c Argument ≡ alertSentAs c sealed answered room G.Unassigned s
-no-level c sealed answered room (D.Assigned d) = refl
-no-level c sealed answered room D.Unassigned = refl
+pub no-level : (c : Connection) (protected : Bool) (answered : List ℕ) (room : ℕ) (s : Sorted) → unsent c Argument ≡ alertSentAs c protected answered room G.Unassigned s
+no-level c protected answered room (D.Assigned d) = refl
+no-level c protected answered room D.Unassigned = refl
 
-pub no-level-output : (c : Connection) (sealed : Bool) (answered out : List ℕ) (s : Sorted) → out ≡ alertOutputAs c sealed answered out G.Unassigned s
-no-level-output c sealed answered out (D.Assigned d) = refl
-no-level-output c sealed answered out D.Unassigned = refl
+pub no-level-output : (c : Connection) (protected : Bool) (answered out : List ℕ) (s : Sorted) → out ≡ alertOutputAs c protected answered out G.Unassigned s
+no-level-output c protected answered out (D.Assigned d) = refl
+no-level-output c protected answered out D.Unassigned = refl

@@ -3,7 +3,7 @@
 use mathlib.Core.Path.{_≡_, refl}
 use Rattle.connection.specs.Receive.{slotsOf, wholeOf}
 use Rattle.connection.specs.Tally.{countedFirst, countedOf}
-use Rattle.connection.specs.declared.calls.Connection.{Connection}
+use Rattle.connection.specs.declared.connection.Connection.{Connection}
 use Rattle.connection.specs.declared.receive.Taken.{Taken}
 use Rattle.connection.specs.declared.tally.Tally.{Tally}
 

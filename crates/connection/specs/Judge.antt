@@ -9,7 +9,7 @@ use Rattle.record.specs.declared.reader.Record.{Record}
 use Rattle.connection.specs.State.{kindOf, ruleOf}
 use Rattle.connection.specs.Answer.{refusing}
 use Rattle.connection.specs.Clear.{greetedBy, greetedAgain, changedBy, heardAlert}
-use Rattle.connection.specs.Sealed.{unsealedBy}
+use Rattle.connection.specs.Protected.{openedRecord}
 use Rattle.connection.specs.declared.state.Kind.{Kind}
 use Rattle.connection.specs.declared.state.Rule.{Rule}
 use Rattle.connection.specs.declared.state.Rule.the-variants as T
@@ -28,7 +28,7 @@ ruledBy h random T.GreetAgain kind byte number start at fragment =
     pick (eqb start 0) (greetedAgain h random fragment) (refusing NotAllowed h)
 ruledBy h random T.Change kind byte number start at fragment = changedBy h fragment
 ruledBy h random T.Hear kind byte number start at fragment = heardAlert h fragment
-ruledBy h random T.Unseal kind byte number start at fragment = unsealedBy h kind byte number at fragment
+ruledBy h random T.OpenRecord kind byte number start at fragment = openedRecord h kind byte number at fragment
 
 -- the fragment of a record of the datagram d
 abbrev pub fragmentOf : List ℕ → Record → List ℕ

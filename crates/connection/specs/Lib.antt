@@ -6,7 +6,7 @@ pub mod Handshake
 pub mod Answer
 pub mod Reply
 pub mod Clear
-pub mod Sealed
+pub mod Protected
 pub mod Judge
 pub mod Receive
 pub mod Send

@@ -18,7 +18,7 @@ use Rattle.connection.specs.declared.answer.Judged.{Judged}
 use Rattle.connection.specs.declared.answer.Slot.{Slot}
 use Rattle.connection.specs.declared.handshake.Handshake.{Handshake}
 use Rattle.connection.specs.declared.handshake.Kept.{Kept}
-use Rattle.connection.specs.declared.calls.Connection.{Connection}
+use Rattle.connection.specs.declared.connection.Connection.{Connection}
 use Rattle.connection.specs.declared.receive.Taken.{Taken}
 use Rattle.connection.specs.declared.receive.Taken.the-variants.{Records, Refused, Misframed}
 use Rattle.connection.specs.declared.receive.Received.{Received}

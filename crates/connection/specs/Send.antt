@@ -29,7 +29,7 @@ use Rattle.connection.specs.declared.state.State.the-variants as S
 use Rattle.connection.specs.declared.refusal.Refusal.{Refusal}
 use Rattle.connection.specs.declared.refusal.Refusal.the-variants.{Room, Ended, NotAllowed, Spent, Argument}
 use Rattle.connection.specs.declared.handshake.Handshake.{Handshake}
-use Rattle.connection.specs.declared.calls.Connection.{Connection}
+use Rattle.connection.specs.declared.connection.Connection.{Connection}
 use Rattle.connection.specs.declared.calls.Outcome.{Outcome}
 use Rattle.connection.specs.declared.calls.Outcome.the-variants.{Done, Refused}
 use Rattle.connection.specs.declared.send.Sent.{Sent}
@@ -48,13 +48,13 @@ mayData S.Open = Done
 mayData S.Closed = Refused Ended
 mayData S.Barred = Refused Ended
 
-abbrev pub maySeal : State → Outcome
-maySeal S.Idle = Refused NotAllowed
-maySeal S.Replied = Done
-maySeal S.Spec = Done
-maySeal S.Open = Done
-maySeal S.Closed = Refused Ended
-maySeal S.Barred = Refused Ended
+abbrev pub mayProtect : State → Outcome
+mayProtect S.Idle = Refused NotAllowed
+mayProtect S.Replied = Done
+mayProtect S.Spec = Done
+mayProtect S.Open = Done
+mayProtect S.Closed = Refused Ended
+mayProtect S.Barred = Refused Ended
 
 abbrev pub mayClear : State → Outcome
 mayClear S.Idle = Refused NotAllowed
@@ -140,7 +140,7 @@ abbrev pub alertBody : Level → Description → List ℕ → List ℕ
 alertBody level description answered = alertBytes level description (wordAt (checksumOf answered) 0)
 
 abbrev pub alertOutcome : Bool → Handshake → ℕ → ℕ → Outcome
-alertOutcome true h lent room = alertRefused (maySeal (h .state)) lent (h .protection .protected) (sizeOf (h .protection .keys .mac)) room
+alertOutcome true h lent room = alertRefused (mayProtect (h .state)) lent (h .protection .protected) (sizeOf (h .protection .keys .mac)) room
 alertOutcome false h lent room = alertRefused (mayClear (h .state)) lent (h .protection .clear) 0 room
 
 abbrev pub nextAlert : Bool → Handshake → List ℕ → List ℕ
@@ -153,25 +153,25 @@ afterAlert false h bytes = afterClear h bytes
 
 -- 16: "level or description unknown"
 abbrev pub alertSentAs : Connection → Bool → List ℕ → ℕ → Graded → Sorted → Sent
-alertSentAs c sealed answered room (G.Is level) (D.Assigned description) =
-    let next = nextAlert sealed (c .handshake) (alertBody level description answered) in
-    sentTo c (done next (afterAlert sealed (c .handshake) next)) (alertOutcome sealed (c .handshake) (length answered) room)
-alertSentAs c sealed answered room (G.Is level) D.Unassigned = unsent c Argument
-alertSentAs c sealed answered room G.Unassigned (D.Assigned description) = unsent c Argument
-alertSentAs c sealed answered room G.Unassigned D.Unassigned = unsent c Argument
+alertSentAs c protected answered room (G.Is level) (D.Assigned description) =
+    let next = nextAlert protected (c .handshake) (alertBody level description answered) in
+    sentTo c (done next (afterAlert protected (c .handshake) next)) (alertOutcome protected (c .handshake) (length answered) room)
+alertSentAs c protected answered room (G.Is level) D.Unassigned = unsent c Argument
+alertSentAs c protected answered room G.Unassigned (D.Assigned description) = unsent c Argument
+alertSentAs c protected answered room G.Unassigned D.Unassigned = unsent c Argument
 
 unfoldable pub alertSent : Connection → Bool → ℕ → ℕ → List ℕ → ℕ → Sent
-alertSent c sealed level description answered room =
-    alertSentAs c sealed answered room (levelOf level) (sortedOf description)
+alertSent c protected level description answered room =
+    alertSentAs c protected answered room (levelOf level) (sortedOf description)
 
 abbrev pub alertOutputAs : Connection → Bool → List ℕ → List ℕ → Graded → Sorted → List ℕ
-alertOutputAs c sealed answered out (G.Is level) (D.Assigned description) =
-    outputTo out (nextAlert sealed (c .handshake) (alertBody level description answered))
-    (alertOutcome sealed (c .handshake) (length answered) (length out))
-alertOutputAs c sealed answered out (G.Is level) D.Unassigned = out
-alertOutputAs c sealed answered out G.Unassigned (D.Assigned description) = out
-alertOutputAs c sealed answered out G.Unassigned D.Unassigned = out
+alertOutputAs c protected answered out (G.Is level) (D.Assigned description) =
+    outputTo out (nextAlert protected (c .handshake) (alertBody level description answered))
+    (alertOutcome protected (c .handshake) (length answered) (length out))
+alertOutputAs c protected answered out (G.Is level) D.Unassigned = out
+alertOutputAs c protected answered out G.Unassigned (D.Assigned description) = out
+alertOutputAs c protected answered out G.Unassigned D.Unassigned = out
 
 unfoldable pub alertOutput : Connection → Bool → ℕ → ℕ → List ℕ → List ℕ → List ℕ
-alertOutput c sealed level description answered out =
-    alertOutputAs c sealed answered out (levelOf level) (sortedOf description)
+alertOutput c protected level description answered out =
+    alertOutputAs c protected answered out (levelOf level) (sortedOf description)

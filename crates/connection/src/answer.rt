@@ -2,7 +2,7 @@
 ghost use mathlib.Core.Path.{_≡_};
 ghost use Prim.Native.Nat.{_+_};
 ghost use lib.ListN.{take, drop};
-ghost use Rattle.connection.specs.Answer.{handedOf, replySize, answerNumber, answerLevel};
+ghost use Rattle.connection.specs.Answer.{refusing, handedOf, replySize, answerNumber, answerLevel};
 use crate::handshake::Handshake;
 use crate::refusal::Refusal;
 use crate::refusal::number;
@@ -39,6 +39,16 @@ pub enum Answer {
 pub struct Judged {
     pub answer: Answer,
     pub handshake: Handshake,
+}
+
+// A refusal that changes nothing.
+pub(crate) fn refuse(h: Handshake, refusal: Refusal) -> Judged
+    ensures { λ r. ⌜ r ≡ refusing refusal h ⌝ }
+{
+    Judged {
+        answer: Answer::Refused(refusal),
+        handshake: h,
+    }
 }
 
 // An answer in its place among eight.

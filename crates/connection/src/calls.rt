@@ -1,7 +1,8 @@
-// A connection, and the calls that take no datagram and send none: fresh, close, start again (01).
+// The calls that take no datagram and send none: fresh, close, start again (01).
 ghost use mathlib.Core.Path.{_≡_};
 ghost use Rattle.connection.specs.Calls.{freshOf, closedOf, startedOf, leaving, sessionOf, outcomeNumber};
 ghost use lib.ListN.{length};
+use crate::connection::Connection;
 use crate::handshake::Handshake;
 use crate::handshake::Session;
 use crate::handshake::blank;
@@ -9,11 +10,6 @@ use crate::handshake::made;
 use crate::refusal::Refusal;
 use crate::refusal::number;
 use crate::state::State;
-
-// One connection with a unit. Today it is one handshake.
-pub struct Connection {
-    pub handshake: Handshake,
-}
 
 pub enum Outcome {
     Done,

@@ -4,14 +4,14 @@ ghost use mathlib.Core.Path.{_≡_};
 ghost use lib.ListN.{length};
 ghost use Rattle.connection.specs.Judge.{judgedRecord, ruledBy};
 use crate::answer::Judged;
-use crate::greet::change;
-use crate::greet::greet;
-use crate::greet::greet_again;
-use crate::greet::hear_alert;
-use crate::greet::refuse;
+use crate::answer::refuse;
+use crate::clear::change;
+use crate::clear::greet;
+use crate::clear::greet_again;
+use crate::clear::hear_alert;
 use crate::handshake::Handshake;
 use crate::refusal::Refusal;
-use crate::sealed::unseal;
+use crate::protected::open_record;
 use crate::state::Kind;
 use crate::state::Rule;
 use crate::state::kind_of;
@@ -75,6 +75,6 @@ fn ruled(
         }
         Rule::Change => change(h, fragment),
         Rule::Hear => hear_alert(h, fragment),
-        Rule::Unseal => unseal(h, is, byte, number, at, fragment),
+        Rule::OpenRecord => open_record(h, is, byte, number, at, fragment),
     }
 }

@@ -2,13 +2,14 @@
 // close and start again. No call has a `requires`: every value that a caller can make is safe to pass in.
 pub mod answer;
 pub mod calls;
-pub mod greet;
+pub mod clear;
+pub mod connection;
 pub mod handshake;
 pub mod judge;
+pub mod protected;
 pub mod receive;
 pub mod refusal;
 pub mod reply;
-pub mod sealed;
 pub mod send;
 pub mod sent;
 pub mod state;

@@ -9,7 +9,7 @@ ghost use Rattle.record.specs.Datagram.{walkOf};
 use crate::answer::Answer;
 use crate::answer::Slot;
 use crate::answer::reply_size;
-use crate::calls::Connection;
+use crate::connection::Connection;
 use crate::handshake::Kept;
 use crate::judge::judge;
 use crate::refusal::Refusal;

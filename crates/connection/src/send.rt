@@ -2,9 +2,9 @@
 ghost use Prim.Native.Nat.{ℕ, _+_, _≤_, _<_};
 ghost use mathlib.Core.Path.{_≡_};
 ghost use lib.ListN.{length};
-ghost use Rattle.connection.specs.Send.{dataRefused, alertRefused, numberedBy, dataSent, dataOutput, alertSent, alertOutput, mayData, maySeal, mayClear, unsent, done, doneWith, nextProtected, nextClear, afterProtected, afterClear};
+ghost use Rattle.connection.specs.Send.{dataRefused, alertRefused, numberedBy, dataSent, dataOutput, alertSent, alertOutput, mayData, mayProtect, mayClear, unsent, done, doneWith, nextProtected, nextClear, afterProtected, afterClear};
 ghost use Rattle.digest.specs.Bytes.{laidOver};
-use crate::calls::Connection;
+use crate::connection::Connection;
 use crate::calls::Outcome;
 use crate::handshake::Handshake;
 use crate::refusal::Refusal;
@@ -42,7 +42,7 @@ pub fn send_data(c: Connection, data: &[u8], out: &mut [u8]) -> Sent
         out.len(),
     ) {
         Outcome::Refused(refusal) => refused(c, refusal),
-        Outcome::Done => protected(h, Content::Data, data, out),
+        Outcome::Done => next_protected(h, Content::Data, data, out),
     }
 }
 
@@ -50,14 +50,14 @@ pub fn send_data(c: Connection, data: &[u8], out: &mut [u8]) -> Sent
 // a call of its own.
 pub fn send_alert(
     c: Connection,
-    sealed: bool,
+    protected: bool,
     level: u8,
     description: u8,
     answered: &[u8],
     out: &mut [u8],
 ) -> Sent
-    ensures exact { λ r. ⌜ r ≡ alertSent c sealed level description (now (answered .entry)) (length (now (out .entry))) ⌝ }
-    ensures bytes { λ _. ⌜ now (out .exit) ≡ alertOutput c sealed level description (now (answered .entry)) (now (out .entry)) ⌝ }
+    ensures exact { λ r. ⌜ r ≡ alertSent c protected level description (now (answered .entry)) (length (now (out .entry))) ⌝ }
+    ensures bytes { λ _. ⌜ now (out .exit) ≡ alertOutput c protected level description (now (answered .entry)) (now (out .entry)) ⌝ }
 {
     let Graded::Is(graded) = alert::grade(level) else {
         return refused(c, Refusal::Argument);
@@ -70,9 +70,9 @@ pub fn send_alert(
     let protection = h.protection;
     let keys = protection.keys;
     let mac = keys.mac;
-    if sealed {
+    if protected {
         return match alert_refusal(
-            may_seal(state),
+            may_protect(state),
             answered.len(),
             protection.protected,
             mac.size(),
@@ -81,7 +81,7 @@ pub fn send_alert(
             Outcome::Refused(refusal) => refused(c, refusal),
             Outcome::Done => {
                 let bytes = alert::write(graded, sorted, checksum(answered));
-                protected(h, Content::Alert, &bytes, out)
+                next_protected(h, Content::Alert, &bytes, out)
             }
         };
     }
@@ -95,7 +95,7 @@ pub fn send_alert(
         Outcome::Refused(refusal) => refused(c, refusal),
         Outcome::Done => {
             let bytes = alert::write(graded, sorted, checksum(answered));
-            clear(h, &bytes, out)
+            next_clear(h, &bytes, out)
         }
     }
 }
@@ -159,8 +159,8 @@ fn may_data(state: State) -> Outcome
 }
 
 // Protected alerts are sent in Replied, Spec and Open.
-fn may_seal(state: State) -> Outcome
-    ensures { λ r. ⌜ r ≡ maySeal state ⌝ }
+fn may_protect(state: State) -> Outcome
+    ensures { λ r. ⌜ r ≡ mayProtect state ⌝ }
 {
     match state {
         State::Idle => Outcome::Refused(Refusal::NotAllowed),
@@ -198,7 +198,7 @@ fn refused(c: Connection, refusal: Refusal) -> Sent
 }
 
 // The next protected record, with this content.
-fn protected(h: Handshake, content: Content, body: &[u8], out: &mut [u8]) -> Sent
+fn next_protected(h: Handshake, content: Content, body: &[u8], out: &mut [u8]) -> Sent
     requires { ⌜ (h .protection .protected ≤ 65535) × (length (nextProtected h content (now body)) ≤ length (now out)) ⌝ }
     ensures { λ r. ⌜ r ≡ done (nextProtected h content (now (body .entry))) (afterProtected h (nextProtected h content (now (body .entry)))) ⌝ }
     ensures { λ _. ⌜ now (out .exit) ≡ laidOver (now (out .entry)) 0 (nextProtected h content (now (body .entry))) ⌝ }
@@ -212,7 +212,7 @@ fn protected(h: Handshake, content: Content, body: &[u8], out: &mut [u8]) -> Sen
 }
 
 // The next clear record, an alert.
-fn clear(h: Handshake, body: &[u8], out: &mut [u8]) -> Sent
+fn next_clear(h: Handshake, body: &[u8], out: &mut [u8]) -> Sent
     requires { ⌜ (h .protection .clear ≤ 65535) × (length (nextClear h (now body)) ≤ length (now out)) ⌝ }
     ensures { λ r. ⌜ r ≡ done (nextClear h (now (body .entry))) (afterClear h (nextClear h (now (body .entry)))) ⌝ }
     ensures { λ _. ⌜ now (out .exit) ≡ laidOver (now (out .entry)) 0 (nextClear h (now (body .entry))) ⌝ }

@@ -18,10 +18,10 @@ pub enum Kind {
     ClearChange,
     ClearAlert,
     OtherClear,
-    SealedChange,
-    SealedAlert,
-    SealedHandshake,
-    SealedData,
+    ProtectedChange,
+    ProtectedAlert,
+    ProtectedHandshake,
+    ProtectedData,
 }
 
 // What the table does with a record.
@@ -41,7 +41,7 @@ pub enum Rule {
     // a clear alert, by level
     Hear,
     // a protected record: code, window, content
-    Unseal,
+    OpenRecord,
 }
 
 // What a record is. A clear handshake record that begins with byte 1 counts as a ClientHello.
@@ -50,10 +50,10 @@ pub fn kind_of(content: Content, protected: bool, first: u8) -> Kind
 {
     if protected {
         return match content {
-            Content::ChangeCipherSpec => Kind::SealedChange,
-            Content::Alert => Kind::SealedAlert,
-            Content::Handshake => Kind::SealedHandshake,
-            Content::Data => Kind::SealedData,
+            Content::ChangeCipherSpec => Kind::ProtectedChange,
+            Content::Alert => Kind::ProtectedAlert,
+            Content::Handshake => Kind::ProtectedHandshake,
+            Content::Data => Kind::ProtectedData,
         };
     }
     match content {
@@ -78,40 +78,40 @@ pub fn rule_of(state: State, kind: Kind) -> Rule
             Kind::ClearChange => Rule::NotAllowed,
             Kind::ClearAlert => Rule::NotAllowed,
             Kind::OtherClear => Rule::NotAllowed,
-            Kind::SealedChange => Rule::NotAllowed,
-            Kind::SealedAlert => Rule::NotAllowed,
-            Kind::SealedHandshake => Rule::NotAllowed,
-            Kind::SealedData => Rule::NotAllowed,
+            Kind::ProtectedChange => Rule::NotAllowed,
+            Kind::ProtectedAlert => Rule::NotAllowed,
+            Kind::ProtectedHandshake => Rule::NotAllowed,
+            Kind::ProtectedData => Rule::NotAllowed,
         },
         State::Replied => match kind {
             Kind::ClearHello => Rule::GreetAgain,
             Kind::ClearChange => Rule::Change,
             Kind::ClearAlert => Rule::Hear,
             Kind::OtherClear => Rule::NotAllowed,
-            Kind::SealedChange => Rule::NotAllowed,
-            Kind::SealedAlert => Rule::NotAllowed,
-            Kind::SealedHandshake => Rule::NotAllowed,
-            Kind::SealedData => Rule::NotAllowed,
+            Kind::ProtectedChange => Rule::NotAllowed,
+            Kind::ProtectedAlert => Rule::NotAllowed,
+            Kind::ProtectedHandshake => Rule::NotAllowed,
+            Kind::ProtectedData => Rule::NotAllowed,
         },
         State::Spec => match kind {
             Kind::ClearHello => Rule::GreetAgain,
             Kind::ClearChange => Rule::NotAllowed,
             Kind::ClearAlert => Rule::Hear,
             Kind::OtherClear => Rule::NotAllowed,
-            Kind::SealedChange => Rule::NotAllowed,
-            Kind::SealedAlert => Rule::Unseal,
-            Kind::SealedHandshake => Rule::Unseal,
-            Kind::SealedData => Rule::NotAllowed,
+            Kind::ProtectedChange => Rule::NotAllowed,
+            Kind::ProtectedAlert => Rule::OpenRecord,
+            Kind::ProtectedHandshake => Rule::OpenRecord,
+            Kind::ProtectedData => Rule::NotAllowed,
         },
         State::Open => match kind {
             Kind::ClearHello => Rule::HelloWhileOpen,
             Kind::ClearChange => Rule::NotAllowed,
             Kind::ClearAlert => Rule::NotAllowed,
             Kind::OtherClear => Rule::NotAllowed,
-            Kind::SealedChange => Rule::Unseal,
-            Kind::SealedAlert => Rule::Unseal,
-            Kind::SealedHandshake => Rule::Unseal,
-            Kind::SealedData => Rule::Unseal,
+            Kind::ProtectedChange => Rule::OpenRecord,
+            Kind::ProtectedAlert => Rule::OpenRecord,
+            Kind::ProtectedHandshake => Rule::OpenRecord,
+            Kind::ProtectedData => Rule::OpenRecord,
         },
         State::Closed => Rule::Ended,
         State::Barred => Rule::Ended,

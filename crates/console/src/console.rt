@@ -1,5 +1,5 @@
 // What the console keeps from line to line.
-use connection::calls::Connection;
+use connection::connection::Connection;
 use connection::handshake::blank;
 use connection::receive::Received;
 use connection::tally::Tally;

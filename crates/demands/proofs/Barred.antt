@@ -27,7 +27,7 @@ use Rattle.connection.specs.declared.refusal.Refusal.the-variants as X
 use Rattle.connection.specs.declared.answer.Answer.{Answer}
 use Rattle.connection.specs.declared.answer.Answer.the-variants as W
 use Rattle.connection.specs.declared.answer.Judged.{Judged}
-use Rattle.connection.specs.declared.calls.Connection.{Connection}
+use Rattle.connection.specs.declared.connection.Connection.{Connection}
 use Rattle.connection.specs.declared.receive.Taken.the-variants as T
 use Rattle.connection.specs.declared.handshake.Handshake.{Handshake}
 use Rattle.demands.specs.Runs.{Call, receive, send-data, send-alert, close, start, received, Step, stepOf, finalOf}
@@ -98,18 +98,18 @@ module _ (h : Handshake) (nb : h .state ≢ S.Barred) where
   by-data bytes out (data-6 g e n l) z = absurd (nb z)
   by-data bytes out (data-sent g e n l) z = absurd (nb z)
 
-  alert-state : {P : Type 0} (sealed : Bool) (bytes : List ℕ) → afterAlert sealed h bytes .state ≡ S.Barred → P
+  alert-state : {P : Type 0} (protected : Bool) (bytes : List ℕ) → afterAlert protected h bytes .state ≡ S.Barred → P
   alert-state true bytes z = absurd (nb z)
   alert-state false bytes z = absurd (nb z)
 
-  by-alert : {P : Type 0} (sealed : Bool) (level description : ℕ) (lent out : List ℕ) {s : Step} → CallRow (connectionOf h) (send-alert sealed level description lent out) s
+  by-alert : {P : Type 0} (protected : Bool) (level description : ℕ) (lent out : List ℕ) {s : Step} → CallRow (connectionOf h) (send-alert protected level description lent out) s
       → s .connection .handshake .state ≡ S.Barred → P
-  by-alert sealed level description lent out (alert-16 b) z = absurd (nb z)
-  by-alert sealed level description lent out (alert-7 g e) z = absurd (nb z)
-  by-alert sealed level description lent out (alert-8 g e f) z = absurd (nb z)
-  by-alert sealed level description lent out (alert-15 g e n) z = absurd (nb z)
-  by-alert sealed level description lent out (alert-6 g e n l) z = absurd (nb z)
-  by-alert sealed level description lent out (alert-sent {l = v} {k = m} g e n l) z = alert-state sealed (nextAlert sealed h (alertBody v m lent)) z
+  by-alert protected level description lent out (alert-16 b) z = absurd (nb z)
+  by-alert protected level description lent out (alert-7 g e) z = absurd (nb z)
+  by-alert protected level description lent out (alert-8 g e f) z = absurd (nb z)
+  by-alert protected level description lent out (alert-15 g e n) z = absurd (nb z)
+  by-alert protected level description lent out (alert-6 g e n l) z = absurd (nb z)
+  by-alert protected level description lent out (alert-sent {l = v} {k = m} g e n l) z = alert-state protected (nextAlert protected h (alertBody v m lent)) z
 
   by-close : {P : Type 0} {s : Step} → CallRow (connectionOf h) close s → s .connection .handshake .state ≡ S.Barred → P
   by-close (close-7 e) z = absurd (nb z)
@@ -130,7 +130,7 @@ under-code h random d r at f =
       a = f .a;
       event = refl;
       taken = f .new .guarded;
-      genuine = record { in-place = at; is-sealed = f .new .coded };
+      genuine = record { in-place = at; protected-as = f .new .coded };
       w = f .w;
       arrived = f .new .arrived;
       new = f .new .accepted;
@@ -143,8 +143,8 @@ pub barred-only-by-fatal : BarredOnlyByFatal
 unfolding BarredOnlyByFatal stepOf
 barred-only-by-fatal h (took random d r) sound nb z = under-code h random d r (sound .1) (by-fatal h random d r nb (row-of h random d r) z)
 barred-only-by-fatal h (sending bytes out) sound nb z = by-data h nb bytes out (call-of (connectionOf h) (send-data bytes out)) z
-barred-only-by-fatal h (alerting sealed level description lent out) sound nb z =
-    by-alert h nb sealed level description lent out (call-of (connectionOf h) (send-alert sealed level description lent out)) z
+barred-only-by-fatal h (alerting protected level description lent out) sound nb z =
+    by-alert h nb protected level description lent out (call-of (connectionOf h) (send-alert protected level description lent out)) z
 barred-only-by-fatal h closing sound nb z = by-close h nb (call-of (connectionOf h) close) z
 barred-only-by-fatal h starting sound nb z = by-start h nb (call-of (connectionOf h) start) z
 
@@ -167,8 +167,8 @@ module _ (c : Connection) (b : c .handshake .state ≡ S.Barred) where
   no-state : {P : Type 0} (s : State) → c .handshake .state ≡ s → (S.Barred ≡ s → ⊥) → P
   no-state s e n = absurd (n (sym b ∙ e))
 
-  not-may : {P : Type 0} (sealed : Bool) → mayAlert sealed (c .handshake .state) ≡ true → P
-  not-may sealed m = true-false false (sym (ap (mayAlert sealed) b) ∙ m) refl
+  not-may : {P : Type 0} (protected : Bool) → mayAlert protected (c .handshake .state) ≡ true → P
+  not-may protected m = true-false false (sym (ap (mayAlert protected) b) ∙ m) refl
 
   stays : {call : Call} {s : Step} → CallRow c call s → (s .connection ≡ c) × (s .output ≡ lentBy call)
   stays (receive-16 n) = (refl, refl)
@@ -188,7 +188,7 @@ module _ (c : Connection) (b : c .handshake .state ≡ S.Barred) where
   stays (alert-8 g e f) = (refl, refl)
   stays (alert-15 g e n) = (refl, refl)
   stays (alert-6 g e n l) = (refl, refl)
-  stays (alert-sent {sealed = sealed} g e n l) = not-may sealed e
+  stays (alert-sent {protected = protected} g e n l) = not-may protected e
   stays (close-7 e) = (refl, refl)
   stays (close-done n) = absurd (n b)
   stays (start-7 e) = (refl, refl)
@@ -211,8 +211,8 @@ module _ (c : Connection) (b : c .handshake .state ≡ S.Barred) where
   answers-seven = (
     received-seven,
     λ bytes out some most. ap (λ s. s .result) (call-is c (data-7 {out = out} (record { some = some; most = most }) is-over)),
-    λ sealed level description l k answered out el ek m.
-        ap (λ s. s .result) (call-is c (alert-7 {sealed = sealed} {out = out} (record { level-is = el; description-is = ek; lent-most = m }) is-over)),
+    λ protected level description l k answered out el ek m.
+        ap (λ s. s .result) (call-is c (alert-7 {protected = protected} {out = out} (record { level-is = el; description-is = ek; lent-most = m }) is-over)),
     ap (λ s. s .result) (call-is c (close-7 b)),
     ap (λ s. s .result) (call-is c (start-7 b)),
   )

@@ -26,7 +26,7 @@ use Rattle.message.specs.declared.alert.Sorted.the-variants as D
 use Rattle.connection.specs.Handshake.{withState, reopened}
 use Rattle.connection.specs.Judge.{judgedRecord}
 use Rattle.connection.specs.Receive.{slotsOf, firstReply, endOf, answersOf, receivedOf, outputOf, wholeOf, runOf, framedTo, sentOf}
-use Rattle.connection.specs.Send.{nextProtected, nextAlert, afterProtected, afterAlert, alertBody, mayData, maySeal, mayClear, andThen, numberedBy, dataRefused, alertRefused, alertOutcome, sentTo, outputTo, done, dataSent, dataOutput, dataOutcome, alertSent, alertOutput, alertSentAs, alertOutputAs}
+use Rattle.connection.specs.Send.{nextProtected, nextAlert, afterProtected, afterAlert, alertBody, mayData, mayProtect, mayClear, andThen, numberedBy, dataRefused, alertRefused, alertOutcome, sentTo, outputTo, done, dataSent, dataOutput, dataOutcome, alertSent, alertOutput, alertSentAs, alertOutputAs}
 use Rattle.connection.specs.Calls.{closedOf, closedIn, startedOf, startedIn, freshOf, outOfRange, leaving}
 use Rattle.connection.specs.declared.state.State.{State}
 use Rattle.connection.specs.declared.state.State.the-variants as S
@@ -34,7 +34,7 @@ use Rattle.connection.specs.declared.refusal.Refusal.{Refusal}
 use Rattle.connection.specs.declared.refusal.Refusal.the-variants as X
 use Rattle.connection.specs.declared.answer.Answer.{Answer}
 use Rattle.connection.specs.declared.answer.Judged.{Judged}
-use Rattle.connection.specs.declared.calls.Connection.{Connection}
+use Rattle.connection.specs.declared.connection.Connection.{Connection}
 use Rattle.connection.specs.declared.calls.Called.{Called}
 use Rattle.connection.specs.declared.calls.Outcome.{Outcome}
 use Rattle.connection.specs.declared.calls.Outcome.the-variants as O
@@ -233,129 +233,129 @@ spent-is number need room n = ap (λ b. pick b (O.Refused X.Spent) (pick (ltb ro
 -- ---- send an alert
 
 abbrev mayOf : Bool → State → Outcome
-mayOf true s = maySeal s
+mayOf true s = mayProtect s
 mayOf false s = mayClear s
 
-ended-alert : (sealed : Bool) (s : State) → ended s ≡ true → mayOf sealed s ≡ O.Refused X.Ended
-ended-alert sealed S.Idle e = true-false false e refl
-ended-alert sealed S.Replied e = true-false false e refl
-ended-alert sealed S.Spec e = true-false false e refl
-ended-alert sealed S.Open e = true-false false e refl
+ended-alert : (protected : Bool) (s : State) → ended s ≡ true → mayOf protected s ≡ O.Refused X.Ended
+ended-alert protected S.Idle e = true-false false e refl
+ended-alert protected S.Replied e = true-false false e refl
+ended-alert protected S.Spec e = true-false false e refl
+ended-alert protected S.Open e = true-false false e refl
 ended-alert true S.Closed e = refl
 ended-alert false S.Closed e = refl
 ended-alert true S.Barred e = refl
 ended-alert false S.Barred e = refl
 
-other-alert : (sealed : Bool) (s : State) → ended s ≡ false → mayAlert sealed s ≡ false → mayOf sealed s ≡ O.Refused X.NotAllowed
+other-alert : (protected : Bool) (s : State) → ended s ≡ false → mayAlert protected s ≡ false → mayOf protected s ≡ O.Refused X.NotAllowed
 other-alert true S.Idle e n = refl
 other-alert false S.Idle e n = refl
-other-alert sealed S.Replied e n = true-false true refl n
-other-alert sealed S.Spec e n = true-false true refl n
+other-alert protected S.Replied e n = true-false true refl n
+other-alert protected S.Spec e n = true-false true refl n
 other-alert true S.Open e n = true-false true refl n
 other-alert false S.Open e n = refl
-other-alert sealed S.Closed e n = true-false true refl e
-other-alert sealed S.Barred e n = true-false true refl e
+other-alert protected S.Closed e n = true-false true refl e
+other-alert protected S.Barred e n = true-false true refl e
 
-may-alert : (sealed : Bool) (s : State) → mayAlert sealed s ≡ true → mayOf sealed s ≡ O.Done
-may-alert sealed S.Idle e = true-false false e refl
+may-alert : (protected : Bool) (s : State) → mayAlert protected s ≡ true → mayOf protected s ≡ O.Done
+may-alert protected S.Idle e = true-false false e refl
 may-alert true S.Replied e = refl
 may-alert false S.Replied e = refl
 may-alert true S.Spec e = refl
 may-alert false S.Spec e = refl
 may-alert true S.Open e = refl
 may-alert false S.Open e = true-false false e refl
-may-alert sealed S.Closed e = true-false false e refl
-may-alert sealed S.Barred e = true-false false e refl
+may-alert protected S.Closed e = true-false false e refl
+may-alert protected S.Barred e = true-false false e refl
 
-alert-outcome : (sealed : Bool) (h : Handshake) (lent room : ℕ)
-    → alertOutcome sealed h lent room ≡ alertRefused (mayOf sealed (h .state)) lent (numberFor sealed h) (codeFor sealed h) room
+alert-outcome : (protected : Bool) (h : Handshake) (lent room : ℕ)
+    → alertOutcome protected h lent room ≡ alertRefused (mayOf protected (h .state)) lent (numberFor protected h) (codeFor protected h) room
 alert-outcome true h lent room = refl
 alert-outcome false h lent room = refl
 
-module _ (c : Connection) (sealed : Bool) (level description : ℕ) (answered out : List ℕ) where
+module _ (c : Connection) (protected : Bool) (level description : ℕ) (answered out : List ℕ) where
   abbrev alertBy : Graded → Sorted → Step
-  alertBy g s = sentAs (alertSentAs c sealed answered (length out) g s) (alertOutputAs c sealed answered out g s)
+  alertBy g s = sentAs (alertSentAs c protected answered (length out) g s) (alertOutputAs c protected answered out g s)
 
-  step-alert : stepOf c (send-alert sealed level description answered out) ≡ alertBy (levelOf level) (sortedOf description)
+  step-alert : stepOf c (send-alert protected level description answered out) ≡ alertBy (levelOf level) (sortedOf description)
   unfolding stepOf alertSent alertOutput
   step-alert = refl
 
   module _ (l : Level) (k : Description) where
     abbrev alertNext : List ℕ
-    alertNext = nextAlert sealed (c .handshake) (alertBody l k answered)
+    alertNext = nextAlert protected (c .handshake) (alertBody l k answered)
 
     abbrev alertStep : Outcome → Step
-    alertStep o = sentAs (sentTo c (done alertNext (afterAlert sealed (c .handshake) alertNext)) o) (outputTo out alertNext o)
+    alertStep o = sentAs (sentTo c (done alertNext (afterAlert protected (c .handshake) alertNext)) o) (outputTo out alertNext o)
 
     abbrev alertNumbered : Outcome
-    alertNumbered = numberedBy (numberFor sealed (c .handshake)) (9 + codeFor sealed (c .handshake)) (length out)
+    alertNumbered = numberedBy (numberFor protected (c .handshake)) (9 + codeFor protected (c .handshake)) (length out)
 
-    alert-by-room : GoodAlert level description answered l k → mayAlert sealed (c .handshake .state) ≡ true → numberFor sealed (c .handshake) ≤ 65535
-        → (b : Bool) → ltb (length out) (9 + codeFor sealed (c .handshake)) ≡ b
-        → CallRow c (send-alert sealed level description answered out) (alertStep (pick b (O.Refused X.Room) O.Done))
-    alert-by-room g s n true e = alert-6 g s n (ltb-true (length out) (9 + codeFor sealed (c .handshake)) e)
-    alert-by-room g s n false e = alert-sent g s n (ltb-false (length out) (9 + codeFor sealed (c .handshake)) e)
+    alert-by-room : GoodAlert level description answered l k → mayAlert protected (c .handshake .state) ≡ true → numberFor protected (c .handshake) ≤ 65535
+        → (b : Bool) → ltb (length out) (9 + codeFor protected (c .handshake)) ≡ b
+        → CallRow c (send-alert protected level description answered out) (alertStep (pick b (O.Refused X.Room) O.Done))
+    alert-by-room g s n true e = alert-6 g s n (ltb-true (length out) (9 + codeFor protected (c .handshake)) e)
+    alert-by-room g s n false e = alert-sent g s n (ltb-false (length out) (9 + codeFor protected (c .handshake)) e)
 
-    alert-by-number : GoodAlert level description answered l k → mayAlert sealed (c .handshake .state) ≡ true → (b : Bool) → ltb 65535 (numberFor sealed (c .handshake)) ≡ b
-        → CallRow c (send-alert sealed level description answered out)
-        (alertStep (pick b (O.Refused X.Spent) (pick (ltb (length out) (9 + codeFor sealed (c .handshake))) (O.Refused X.Room) O.Done)))
-    alert-by-number g s true e = alert-15 g s (ltb-true 65535 (numberFor sealed (c .handshake)) e)
+    alert-by-number : GoodAlert level description answered l k → mayAlert protected (c .handshake .state) ≡ true → (b : Bool) → ltb 65535 (numberFor protected (c .handshake)) ≡ b
+        → CallRow c (send-alert protected level description answered out)
+        (alertStep (pick b (O.Refused X.Spent) (pick (ltb (length out) (9 + codeFor protected (c .handshake))) (O.Refused X.Room) O.Done)))
+    alert-by-number g s true e = alert-15 g s (ltb-true 65535 (numberFor protected (c .handshake)) e)
     alert-by-number g s false e =
-        alert-by-room g s (ltb-false 65535 (numberFor sealed (c .handshake)) e) (ltb (length out) (9 + codeFor sealed (c .handshake))) refl
+        alert-by-room g s (ltb-false 65535 (numberFor protected (c .handshake)) e) (ltb (length out) (9 + codeFor protected (c .handshake))) refl
 
-    alert-by-state : GoodAlert level description answered l k → (e m : Bool) → ended (c .handshake .state) ≡ e → mayAlert sealed (c .handshake .state) ≡ m
-        → CallRow c (send-alert sealed level description answered out) (alertStep (andThen (mayOf sealed (c .handshake .state)) alertNumbered))
+    alert-by-state : GoodAlert level description answered l k → (e m : Bool) → ended (c .handshake .state) ≡ e → mayAlert protected (c .handshake .state) ≡ m
+        → CallRow c (send-alert protected level description answered out) (alertStep (andThen (mayOf protected (c .handshake .state)) alertNumbered))
     unfolding numberedBy
     alert-by-state g true m e f =
-        subst (λ o. CallRow c (send-alert sealed level description answered out) (alertStep (andThen o alertNumbered))) (sym (ended-alert sealed (c .handshake .state) e)) (alert-7 g e)
+        subst (λ o. CallRow c (send-alert protected level description answered out) (alertStep (andThen o alertNumbered))) (sym (ended-alert protected (c .handshake .state) e)) (alert-7 g e)
     alert-by-state g false false e f =
-        subst (λ o. CallRow c (send-alert sealed level description answered out) (alertStep (andThen o alertNumbered))) (sym (other-alert sealed (c .handshake .state) e f)) (alert-8 g e f)
+        subst (λ o. CallRow c (send-alert protected level description answered out) (alertStep (andThen o alertNumbered))) (sym (other-alert protected (c .handshake .state) e f)) (alert-8 g e f)
     alert-by-state g false true e f =
-        subst (λ o. CallRow c (send-alert sealed level description answered out) (alertStep (andThen o alertNumbered))) (sym (may-alert sealed (c .handshake .state) f))
-        (alert-by-number g f (ltb 65535 (numberFor sealed (c .handshake))) refl)
+        subst (λ o. CallRow c (send-alert protected level description answered out) (alertStep (andThen o alertNumbered))) (sym (may-alert protected (c .handshake .state) f))
+        (alert-by-number g f (ltb 65535 (numberFor protected (c .handshake))) refl)
 
     alert-by-lent : levelOf level ≡ G.Is l → sortedOf description ≡ D.Assigned k → (b : Bool) → ltb 1400 (length answered) ≡ b
-        → CallRow c (send-alert sealed level description answered out)
-        (alertStep (pick b (O.Refused X.Argument) (andThen (mayOf sealed (c .handshake .state)) alertNumbered)))
+        → CallRow c (send-alert protected level description answered out)
+        (alertStep (pick b (O.Refused X.Argument) (andThen (mayOf protected (c .handshake .state)) alertNumbered)))
     alert-by-lent el ek true e = alert-16 (inr (inr (ltb-true 1400 (length answered) e)))
     alert-by-lent el ek false e =
-        alert-by-state (record { level-is = el; description-is = ek; lent-most = ltb-false 1400 (length answered) e }) (ended (c .handshake .state)) (mayAlert sealed (c .handshake .state)) refl refl
+        alert-by-state (record { level-is = el; description-is = ek; lent-most = ltb-false 1400 (length answered) e }) (ended (c .handshake .state)) (mayAlert protected (c .handshake .state)) refl refl
 
     alert-assigned : levelOf level ≡ G.Is l → sortedOf description ≡ D.Assigned k
-        → CallRow c (send-alert sealed level description answered out) (alertStep (alertOutcome sealed (c .handshake) (length answered) (length out)))
+        → CallRow c (send-alert protected level description answered out) (alertStep (alertOutcome protected (c .handshake) (length answered) (length out)))
     unfolding alertRefused
     alert-assigned el ek =
-        subst (λ o. CallRow c (send-alert sealed level description answered out) (alertStep o)) (sym (alert-outcome sealed (c .handshake) (length answered) (length out)))
+        subst (λ o. CallRow c (send-alert protected level description answered out) (alertStep o)) (sym (alert-outcome protected (c .handshake) (length answered) (length out)))
         (alert-by-lent el ek (ltb 1400 (length answered)) refl)
 
     -- the other way round
-    alert-good : GoodAlert level description answered l k → (o : Outcome) → andThen (mayOf sealed (c .handshake .state)) alertNumbered ≡ o
-        → stepOf c (send-alert sealed level description answered out) ≡ alertStep o
+    alert-good : GoodAlert level description answered l k → (o : Outcome) → andThen (mayOf protected (c .handshake .state)) alertNumbered ≡ o
+        → stepOf c (send-alert protected level description answered out) ≡ alertStep o
     unfolding alertRefused
     alert-good g o e =
         step-alert ∙ ap₂ alertBy (g .level-is) (g .description-is)
-        ∙ ap alertStep (alert-outcome sealed (c .handshake) (length answered) (length out))
-        ∙ ap (λ b. alertStep (pick b (O.Refused X.Argument) (andThen (mayOf sealed (c .handshake .state)) alertNumbered))) (le-ltb 1400 (length answered) (g .lent-most))
+        ∙ ap alertStep (alert-outcome protected (c .handshake) (length answered) (length out))
+        ∙ ap (λ b. alertStep (pick b (O.Refused X.Argument) (andThen (mayOf protected (c .handshake .state)) alertNumbered))) (le-ltb 1400 (length answered) (g .lent-most))
         ∙ ap alertStep e
 
     alert-long : levelOf level ≡ G.Is l → sortedOf description ≡ D.Assigned k → 1400 < length answered
-        → stepOf c (send-alert sealed level description answered out) ≡ notSent c out X.Argument
+        → stepOf c (send-alert protected level description answered out) ≡ notSent c out X.Argument
     unfolding alertRefused
     alert-long el ek z =
         step-alert ∙ ap₂ alertBy el ek
-        ∙ ap alertStep (alert-outcome sealed (c .handshake) (length answered) (length out))
-        ∙ ap (λ b. alertStep (pick b (O.Refused X.Argument) (andThen (mayOf sealed (c .handshake .state)) alertNumbered))) (lt-ltb 1400 (length answered) z)
+        ∙ ap alertStep (alert-outcome protected (c .handshake) (length answered) (length out))
+        ∙ ap (λ b. alertStep (pick b (O.Refused X.Argument) (andThen (mayOf protected (c .handshake .state)) alertNumbered))) (lt-ltb 1400 (length answered) z)
 
   alert-by : (g : Graded) (s : Sorted) → levelOf level ≡ g → sortedOf description ≡ s
-      → CallRow c (send-alert sealed level description answered out) (alertBy g s)
+      → CallRow c (send-alert protected level description answered out) (alertBy g s)
   alert-by (G.Is l) (D.Assigned k) el ek = alert-assigned l k el ek
   alert-by (G.Is l) D.Unassigned el ek = alert-16 (inr (inl ek))
   alert-by G.Unassigned (D.Assigned k) el ek = alert-16 (inl el)
   alert-by G.Unassigned D.Unassigned el ek = alert-16 (inl el)
 
-  alert-row : CallRow c (send-alert sealed level description answered out) (stepOf c (send-alert sealed level description answered out))
+  alert-row : CallRow c (send-alert protected level description answered out) (stepOf c (send-alert protected level description answered out))
   alert-row =
-      subst (CallRow c (send-alert sealed level description answered out)) (sym step-alert) (alert-by (levelOf level) (sortedOf description) refl refl)
+      subst (CallRow c (send-alert protected level description answered out)) (sym step-alert) (alert-by (levelOf level) (sortedOf description) refl refl)
 
   no-level : (s : Sorted) → alertBy G.Unassigned s ≡ notSent c out X.Argument
   no-level (D.Assigned k) = refl
@@ -366,13 +366,13 @@ module _ (c : Connection) (sealed : Bool) (level description : ℕ) (answered ou
   no-description G.Unassigned = refl
 
   lent-long : (g : Graded) (s : Sorted) → levelOf level ≡ g → sortedOf description ≡ s → 1400 < length answered
-      → stepOf c (send-alert sealed level description answered out) ≡ notSent c out X.Argument
+      → stepOf c (send-alert protected level description answered out) ≡ notSent c out X.Argument
   lent-long (G.Is l) (D.Assigned k) el ek z = alert-long l k el ek z
   lent-long (G.Is l) D.Unassigned el ek z = step-alert ∙ ap₂ alertBy el ek
   lent-long G.Unassigned (D.Assigned k) el ek z = step-alert ∙ ap₂ alertBy el ek
   lent-long G.Unassigned D.Unassigned el ek z = step-alert ∙ ap₂ alertBy el ek
 
-  alert-bad : BadAlert level description answered → stepOf c (send-alert sealed level description answered out) ≡ notSent c out X.Argument
+  alert-bad : BadAlert level description answered → stepOf c (send-alert protected level description answered out) ≡ notSent c out X.Argument
   alert-bad (inl e) = step-alert ∙ ap (λ g. alertBy g (sortedOf description)) e ∙ no-level (sortedOf description)
   alert-bad (inr (inl e)) = step-alert ∙ ap (λ s. alertBy (levelOf level) s) e ∙ no-description (levelOf level)
   alert-bad (inr (inr z)) = lent-long (levelOf level) (sortedOf description) refl refl z
@@ -427,7 +427,7 @@ call-of c (receive d random out) =
     subst (CallRow c (receive d random out)) (sym (step-receive c d random out))
     (receive-by c d random out (eqb (length random) 16) refl (ltb (length out) 128) refl (framingOf d) refl)
 call-of c (send-data bytes out) = data-row c bytes out
-call-of c (send-alert sealed level description answered out) = alert-row c sealed level description answered out
+call-of c (send-alert protected level description answered out) = alert-row c protected level description answered out
 call-of c close = close-by c (c .handshake .state) refl
 call-of c start = start-by c (c .handshake .state) refl
 
@@ -463,28 +463,28 @@ call-is c (data-sent {bytes = bytes} {out = out} g e n l) =
     (ap (λ s. andThen (mayData s) (numberedBy (c .handshake .protection .protected) (3 + length bytes + sizeOf (c .handshake .protection .keys .mac)) (length out))) e
     ∙ numbered-is (c .handshake .protection .protected) (3 + length bytes + sizeOf (c .handshake .protection .keys .mac)) (length out) n O.Done
     (ap (λ b. pick b (O.Refused X.Room) O.Done) (le-ltb (length out) (3 + length bytes + sizeOf (c .handshake .protection .keys .mac)) l)))
-call-is c (alert-16 {sealed = sealed} {level = level} {description = description} {answered = answered} {out = out} b) =
-    alert-bad c sealed level description answered out b
-call-is c (alert-7 {sealed = sealed} {level = level} {description = description} {answered = answered} {out = out} {l = l} {k = k} g e) =
-    alert-good c sealed level description answered out l k g (O.Refused X.Ended)
-    (ap (λ o. andThen o (numberedBy (numberFor sealed (c .handshake)) (9 + codeFor sealed (c .handshake)) (length out))) (ended-alert sealed (c .handshake .state) e))
-call-is c (alert-8 {sealed = sealed} {level = level} {description = description} {answered = answered} {out = out} {l = l} {k = k} g e f) =
-    alert-good c sealed level description answered out l k g (O.Refused X.NotAllowed)
-    (ap (λ o. andThen o (numberedBy (numberFor sealed (c .handshake)) (9 + codeFor sealed (c .handshake)) (length out))) (other-alert sealed (c .handshake .state) e f))
-call-is c (alert-15 {sealed = sealed} {level = level} {description = description} {answered = answered} {out = out} {l = l} {k = k} g e n) =
-    alert-good c sealed level description answered out l k g (O.Refused X.Spent)
-    (ap (λ o. andThen o (numberedBy (numberFor sealed (c .handshake)) (9 + codeFor sealed (c .handshake)) (length out))) (may-alert sealed (c .handshake .state) e)
-    ∙ spent-is (numberFor sealed (c .handshake)) (9 + codeFor sealed (c .handshake)) (length out) n)
-call-is c (alert-6 {sealed = sealed} {level = level} {description = description} {answered = answered} {out = out} {l = l} {k = k} g e n s) =
-    alert-good c sealed level description answered out l k g (O.Refused X.Room)
-    (ap (λ o. andThen o (numberedBy (numberFor sealed (c .handshake)) (9 + codeFor sealed (c .handshake)) (length out))) (may-alert sealed (c .handshake .state) e)
-    ∙ numbered-is (numberFor sealed (c .handshake)) (9 + codeFor sealed (c .handshake)) (length out) n (O.Refused X.Room)
-    (ap (λ b. pick b (O.Refused X.Room) O.Done) (lt-ltb (length out) (9 + codeFor sealed (c .handshake)) s)))
-call-is c (alert-sent {sealed = sealed} {level = level} {description = description} {answered = answered} {out = out} {l = l} {k = k} g e n s) =
-    alert-good c sealed level description answered out l k g O.Done
-    (ap (λ o. andThen o (numberedBy (numberFor sealed (c .handshake)) (9 + codeFor sealed (c .handshake)) (length out))) (may-alert sealed (c .handshake .state) e)
-    ∙ numbered-is (numberFor sealed (c .handshake)) (9 + codeFor sealed (c .handshake)) (length out) n O.Done
-    (ap (λ b. pick b (O.Refused X.Room) O.Done) (le-ltb (length out) (9 + codeFor sealed (c .handshake)) s)))
+call-is c (alert-16 {protected = protected} {level = level} {description = description} {answered = answered} {out = out} b) =
+    alert-bad c protected level description answered out b
+call-is c (alert-7 {protected = protected} {level = level} {description = description} {answered = answered} {out = out} {l = l} {k = k} g e) =
+    alert-good c protected level description answered out l k g (O.Refused X.Ended)
+    (ap (λ o. andThen o (numberedBy (numberFor protected (c .handshake)) (9 + codeFor protected (c .handshake)) (length out))) (ended-alert protected (c .handshake .state) e))
+call-is c (alert-8 {protected = protected} {level = level} {description = description} {answered = answered} {out = out} {l = l} {k = k} g e f) =
+    alert-good c protected level description answered out l k g (O.Refused X.NotAllowed)
+    (ap (λ o. andThen o (numberedBy (numberFor protected (c .handshake)) (9 + codeFor protected (c .handshake)) (length out))) (other-alert protected (c .handshake .state) e f))
+call-is c (alert-15 {protected = protected} {level = level} {description = description} {answered = answered} {out = out} {l = l} {k = k} g e n) =
+    alert-good c protected level description answered out l k g (O.Refused X.Spent)
+    (ap (λ o. andThen o (numberedBy (numberFor protected (c .handshake)) (9 + codeFor protected (c .handshake)) (length out))) (may-alert protected (c .handshake .state) e)
+    ∙ spent-is (numberFor protected (c .handshake)) (9 + codeFor protected (c .handshake)) (length out) n)
+call-is c (alert-6 {protected = protected} {level = level} {description = description} {answered = answered} {out = out} {l = l} {k = k} g e n s) =
+    alert-good c protected level description answered out l k g (O.Refused X.Room)
+    (ap (λ o. andThen o (numberedBy (numberFor protected (c .handshake)) (9 + codeFor protected (c .handshake)) (length out))) (may-alert protected (c .handshake .state) e)
+    ∙ numbered-is (numberFor protected (c .handshake)) (9 + codeFor protected (c .handshake)) (length out) n (O.Refused X.Room)
+    (ap (λ b. pick b (O.Refused X.Room) O.Done) (lt-ltb (length out) (9 + codeFor protected (c .handshake)) s)))
+call-is c (alert-sent {protected = protected} {level = level} {description = description} {answered = answered} {out = out} {l = l} {k = k} g e n s) =
+    alert-good c protected level description answered out l k g O.Done
+    (ap (λ o. andThen o (numberedBy (numberFor protected (c .handshake)) (9 + codeFor protected (c .handshake)) (length out))) (may-alert protected (c .handshake .state) e)
+    ∙ numbered-is (numberFor protected (c .handshake)) (9 + codeFor protected (c .handshake)) (length out) n O.Done
+    (ap (λ b. pick b (O.Refused X.Room) O.Done) (le-ltb (length out) (9 + codeFor protected (c .handshake)) s)))
 call-is c (close-7 e) = ap (λ s. calledAs (closedIn (c .handshake) s)) e
 call-is c (close-done n) = not-barred c (c .handshake .state) n
 call-is c (start-7 e) = ap (λ s. calledAs (startedIn (c .handshake) s)) e

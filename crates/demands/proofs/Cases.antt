@@ -27,7 +27,7 @@ use Rattle.record.specs.declared.window.Window.{Window}
 use Rattle.record.specs.declared.window.Acceptance.the-variants as A
 use Rattle.record.proofs.Fronts.{record-length}
 use Rattle.record.proofs.RoundTrip.{readBack, read-short, fragment-back}
-use Rattle.record.proofs.Sealed.{sealed-length, size-most, size-some}
+use Rattle.record.proofs.ProtectedBytes.{protected-length, size-most, size-some}
 use Rattle.message.specs.declared.alert.Description.the-variants as D
 use Rattle.message.specs.declared.alert.Level.the-variants as L
 use Rattle.message.proofs.AlertLaws.{level-back, description-back}
@@ -43,12 +43,12 @@ use Rattle.connection.specs.declared.handshake.Handshake.{Handshake}
 use Rattle.connection.specs.declared.refusal.Refusal.the-variants as X
 use Rattle.connection.specs.declared.state.State.the-variants as S
 use Rattle.demands.specs.Runs.{send-alert, stepOf}
-use Rattle.demands.specs.Genuine.{Sealed, RecordOf, keysOf, unitKey}
-use Rattle.demands.specs.Table.{Row, New, Guarded, sealedAllowed, row-forged, row-old, row-repeated, row-data}
+use Rattle.demands.specs.Genuine.{Protected, RecordOf, keysOf, unitKey}
+use Rattle.demands.specs.Table.{Row, New, Guarded, protectedAllowed, row-forged, row-old, row-repeated, row-data}
 use Rattle.demands.specs.Calls.{mayAlert, alert-sent}
 use Rattle.demands.specs.Events.{Event, took, Sound, AllSound, connectionOf, after}
 use Rattle.demands.specs.Past.{isData}
-use Rattle.demands.specs.Traps.{lastSealed}
+use Rattle.demands.specs.Traps.{lastProtected}
 use Rattle.demands.specs.Example.{exampleId, exampleSecret, exampleWidth, exampleRandom, exampleOut, exampleData}
 use Rattle.demands.specs.Instances.{exampleFresh}
 use Rattle.demands.specs.Cases.{OpenWith, Answered, Crossed, SentClear, Cases}
@@ -59,7 +59,7 @@ use Rattle.demands.proofs.Places.{after-more, sound-more}
 use Rattle.demands.proofs.Wire.{lone}
 use Rattle.demands.proofs.Works.{Walk}
 use Rattle.demands.proofs.Example.{example-walk, sha-walk, example-mac, sha-mac, example-refresh, example-clear, opening, opening-sound, opening-leaves, opening-open}
-use Rattle.demands.proofs.Traps.{w₀, w₇, alone, alone-framed, alone-sealed}
+use Rattle.demands.proofs.Traps.{w₀, w₇, alone, alone-framed, alone-protected}
 
 -- ---- both MAC kinds
 
@@ -123,7 +123,7 @@ module _ (es : List Event) (x : Handshake) (sound : AllSound es) (leaves : after
 
 module _ (s : ℕ) (inside : s ≤ 65535) where
   abbrev data-with : List ℕ
-  data-with = lastSealed k C.Data s exampleData
+  data-with = lastProtected k C.Data s exampleData
 
   abbrev data-record : Record
   data-record = alone k C.Data s inside exampleData
@@ -143,21 +143,21 @@ module _ (s : ℕ) (inside : s ≤ 65535) where
   module _ (x : Window) where
     guarded : Guarded (withWindow h x) data-record
     unfolding alone
-    guarded = record { protection = refl; kind = ap (λ t. sealedAllowed t C.Data) (w .open-is) }
+    guarded = record { protection = refl; kind = ap (λ t. protectedAllowed t C.Data) (w .open-is) }
 
     handed-row : (y : Window) (n : ℕ) → acceptOf x s ≡ A.New y n
         → Row (withWindow h x) exampleRandom data-with data-record (judged (W.Data s 3 6) (withWindow (withWindow h x) y))
     unfolding alone
     handed-row y n e =
-        row-data exampleData y (record { guarded = guarded; coded = alone-sealed k C.Data s inside exampleData; arrived = n; accepted = e }) refl (lit≤ tt)
+        row-data exampleData y (record { guarded = guarded; coded = alone-protected k C.Data s inside exampleData; arrived = n; accepted = e }) refl (lit≤ tt)
 
     old-row : acceptOf x s ≡ A.TooOld → Row (withWindow h x) exampleRandom data-with data-record (refusing X.TooOld (withWindow h x))
     unfolding alone
-    old-row e = row-old exampleData guarded (alone-sealed k C.Data s inside exampleData) e
+    old-row e = row-old exampleData guarded (alone-protected k C.Data s inside exampleData) e
 
     repeated-row : acceptOf x s ≡ A.Repeated → Row (withWindow h x) exampleRandom data-with data-record (refusing X.Repeated (withWindow h x))
     unfolding alone
-    repeated-row e = row-repeated exampleData guarded (alone-sealed k C.Data s inside exampleData) e
+    repeated-row e = row-repeated exampleData guarded (alone-protected k C.Data s inside exampleData) e
 
   -- the run with this data behind it
   run-with : List Event
@@ -288,7 +288,7 @@ forged-fragment = exampleData ++ forged-code
 code-length : length (codeBy (hmac (unitKey k 7)) (sizeOf (k .mac)) 7 byte exampleData) ≡ sizeOf (k .mac)
 unfolding fragmentBy
 code-length =
-    omega (arith, sealed-length (unitKey k 7) (k .mac) 7 byte exampleData, length-append exampleData (codeBy (hmac (unitKey k 7)) (sizeOf (k .mac)) 7 byte exampleData))
+    omega (arith, protected-length (unitKey k 7) (k .mac) 7 byte exampleData, length-append exampleData (codeBy (hmac (unitKey k 7)) (sizeOf (k .mac)) 7 byte exampleData))
 
 fragment-length : length forged-fragment ≡ 6 + sizeOf (k .mac)
 unfolding forged-fragment forged-code
@@ -315,14 +315,14 @@ unfolding forged-record
 forged-back =
     ap (λ s. take (length forged-fragment) (drop 3 s)) (sym (append-nil forged-datagram)) ∙ fragment-back false true C.Data 7 forged-fragment []
 
-not-sealed : (c : List ℕ) → Sealed k forged-datagram forged-record c → ⊥
+not-protected : (c : List ℕ) → Protected k forged-datagram forged-record c → ⊥
 unfolding forged-record forged-fragment forged-code fragmentBy
-not-sealed c s =
+not-protected c s =
     let code : List ℕ = codeBy (hmac (unitKey k 7)) (sizeOf (k .mac)) 7 byte exampleData in
     let its : List ℕ = codeBy (hmac (unitKey k 7)) (sizeOf (k .mac)) 7 byte c in
     let same : exampleData ++ map other code ≡ c ++ its = sym forged-back ∙ s .is-coded in
     let long : length exampleData ≡ length c
-    = omega (arith, ap length same, length-append exampleData (map other code), length-map code other, code-length, length-append c its, sealed-length (unitKey k 7) (k .mac) 7 byte c) in
+    = omega (arith, ap length same, length-append exampleData (map other code), length-map code other, code-length, length-append c its, protected-length (unitKey k 7) (k .mac) 7 byte c) in
     let q = cancel exampleData c (map other code) its long same in
     others-not code (omega (arith, code-length, size-some (k .mac)))
     (q .1 ∙ ap (codeBy (hmac (unitKey k 7)) (sizeOf (k .mac)) 7 byte) (sym (q .0)))
@@ -331,7 +331,7 @@ forged : Answered (W.Refused X.Forged)
 unfolding forged-record
 forged =
     at-open run h run-sound run-leaves (w .open-is) refl forged-datagram forged-record (refusing X.Forged h) forged-framed refl (omega (arith, fragment-length))
-    (row-forged (record { protection = refl; kind = ap (λ t. sealedAllowed t C.Data) (w .open-is) }) not-sealed)
+    (row-forged (record { protection = refl; kind = ap (λ t. protectedAllowed t C.Data) (w .open-is) }) not-protected)
 
 -- ---- an alert that is sent clear
 
@@ -339,7 +339,7 @@ clear-is-done : (x : Handshake) → x .state ≡ S.Replied → x .protection .cl
 unfolding stepOf
 clear-is-done x s n =
     ap (λ z. outcomeIn (z .result))
-    (call-is (connectionOf x) (alert-sent {sealed = false} {out = exampleOut} {l = L.Warning} {k = D.ConnectionCloseNotify} (record { level-is = level-back L.Warning; description-is = description-back D.ConnectionCloseNotify; lent-most = lit≤ tt }) (ap (mayAlert false) s) (omega arith) (lit≤ tt)))
+    (call-is (connectionOf x) (alert-sent {protected = false} {out = exampleOut} {l = L.Warning} {k = D.ConnectionCloseNotify} (record { level-is = level-back L.Warning; description-is = description-back D.ConnectionCloseNotify; lent-most = lit≤ tt }) (ap (mayAlert false) s) (omega arith) (lit≤ tt)))
 
 sent-clear : SentClear
 unfolding after

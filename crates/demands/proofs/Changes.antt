@@ -23,7 +23,7 @@ use Rattle.connection.specs.declared.refusal.Refusal.the-variants as X
 use Rattle.connection.specs.declared.answer.Answer.{Answer}
 use Rattle.connection.specs.declared.answer.Answer.the-variants as W
 use Rattle.connection.specs.declared.answer.Judged.{Judged}
-use Rattle.connection.specs.declared.calls.Connection.{Connection}
+use Rattle.connection.specs.declared.connection.Connection.{Connection}
 use Rattle.connection.specs.declared.calls.Outcome.{Outcome}
 use Rattle.connection.specs.declared.calls.Outcome.the-variants as O
 use Rattle.connection.specs.declared.handshake.Handshake.{Handshake}
@@ -42,8 +42,8 @@ module _ (h : Handshake) (random d : List ℕ) (r : Record) where
   malformed-clear : r .protected ≡ false → h ≡ refusedLeaves h (r .protected) (r .number) X.Malformed
   malformed-clear p = sym (ap (λ b. refusedLeaves h b (r .number) X.Malformed) p)
 
-  malformed-sealed : (c : List ℕ) (w : Window) → New h d r c w → withWindow h w ≡ refusedLeaves h (r .protected) (r .number) X.Malformed
-  malformed-sealed c w n =
+  malformed-protected : (c : List ℕ) (w : Window) → New h d r c w → withWindow h w ≡ refusedLeaves h (r .protected) (r .number) X.Malformed
+  malformed-protected c w n =
       marked-is c w n ∙ sym (ap (λ b. refusedLeaves h b (r .number) X.Malformed) (n .guarded .protection))
 
   pub hello-clear : isHello d r ≡ true → r .protected ≡ false
@@ -85,7 +85,7 @@ module _ (h : Handshake) (random d : List ℕ) (r : Record) where
   leaves (row-forged g f) = refl
   leaves (row-old c g s e) = refl
   leaves (row-repeated c g s e) = refl
-  leaves (row-malformed c w n m) = malformed-sealed c w n
+  leaves (row-malformed c w n m) = malformed-protected c w n
   leaves (row-data c w n e m) = marked-is c w n
   leaves (row-warning c w a n e m l) = by-protection (withWindow h w) (W.Warning (a .description)) true (n .guarded .protection) (marked-is c w n)
   leaves (row-critical c w a n e m l) =

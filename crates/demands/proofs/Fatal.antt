@@ -21,23 +21,23 @@ use Rattle.connection.specs.declared.state.State.the-variants as S
 use Rattle.connection.specs.declared.handshake.Handshake.{Handshake}
 use Rattle.connection.specs.declared.handshake.Session.{Session}
 use Rattle.demands.specs.Runs.{freshWith}
-use Rattle.demands.specs.Genuine.{Genuine, Sealed, RecordOf, keysOf}
-use Rattle.demands.specs.Table.{ended, sealedAllowed, Guarded, New, row-barred}
+use Rattle.demands.specs.Genuine.{Genuine, Protected, RecordOf, keysOf}
+use Rattle.demands.specs.Table.{ended, protectedAllowed, Guarded, New, row-barred}
 use Rattle.demands.specs.Events.{Event, took, Happened, next, after, history}
 use Rattle.demands.specs.Past.{keysIn, acceptedIn, barredIn}
 use Rattle.demands.specs.Fatal.{Alerted, FatalAt, FatalExactly, FatalInRuns}
 use Rattle.demands.proofs.Genuine.{true-false}
 use Rattle.demands.proofs.Table.{row-of, row-is}
-use Rattle.demands.proofs.Kept.{live, sealed-live}
+use Rattle.demands.proofs.Kept.{live, protected-live}
 use Rattle.demands.proofs.Finished.{Progress, progress-all, progress-fresh, keys-are}
 use Rattle.demands.proofs.HandedOut.{by-history, due-new}
 use Rattle.demands.proofs.Barred.{FatalRow, by-fatal}
 
-allowed-alert : (s : State) → Alerted s → sealedAllowed s C.Alert ≡ true
-allowed-alert s (inl e) = ap (λ x. sealedAllowed x C.Alert) e
-allowed-alert s (inr e) = ap (λ x. sealedAllowed x C.Alert) e
+allowed-alert : (s : State) → Alerted s → protectedAllowed s C.Alert ≡ true
+allowed-alert s (inl e) = ap (λ x. protectedAllowed x C.Alert) e
+allowed-alert s (inr e) = ap (λ x. protectedAllowed x C.Alert) e
 
-alert-allowed : (s : State) → sealedAllowed s C.Alert ≡ true → Alerted s
+alert-allowed : (s : State) → protectedAllowed s C.Alert ≡ true → Alerted s
 alert-allowed S.Idle e = true-false false e refl
 alert-allowed S.Replied e = true-false false e refl
 alert-allowed S.Spec e = inl refl
@@ -47,13 +47,13 @@ alert-allowed S.Barred e = true-false false e refl
 
 module _ (session : Session) {width : ℕ} (past : List Happened) (h : Handshake) (p : Progress session width past h) (random d : List ℕ) (r : Record) (at : RecordOf d r) where
   past-live : Guarded h r → barredIn past ≡ false
-  past-live g = live session past h (p .kept) (sealed-live (h .state) (r .content) (g .kind))
+  past-live g = live session past h (p .kept) (protected-live (h .state) (r .content) (g .kind))
 
   guard : Alerted (h .state) → (c : List ℕ) (a : Alert) → FatalAt width session past d r c a → Guarded h r
   guard s c a f =
       record {
-        protection = f .genuine .is-sealed .is-protected;
-        kind = ap (sealedAllowed (h .state)) (f .alert) ∙ allowed-alert (h .state) s;
+        protection = f .genuine .protected-as .is-protected;
+        kind = ap (protectedAllowed (h .state)) (f .alert) ∙ allowed-alert (h .state) s;
       }
 
   new-by-past : (c : List ℕ) (a : Alert) → FatalAt width session past d r c a
@@ -66,7 +66,7 @@ module _ (session : Session) {width : ℕ} (past : List Happened) (h : Handshake
       → (judgedRecord h random d r .answer ≡ W.Barred (a .description)) × (next h (took random d r) .state ≡ S.Barred)
   bars-so s c a f =
       let g : Guarded h r = guard s c a f in
-      let coded : Sealed (keysOf h) d r c = subst (λ k. Sealed k d r c) (sym (keys-are session past h p (past-live g))) (f .genuine .is-sealed) in
+      let coded : Protected (keysOf h) d r c = subst (λ k. Protected k d r c) (sym (keys-are session past h p (past-live g))) (f .genuine .protected-as) in
       let n : New h d r c (windowOf width (r .number ∷ acceptedIn past))
       = record { guarded = g; coded = coded; arrived = arrivedOf width (r .number ∷ acceptedIn past); accepted = new-by-past c a f } in
       let is = row-is h random d r (row-barred c (windowOf width (r .number ∷ acceptedIn past)) a n (f .alert) (f .well-formed) (f .fatal)) in
@@ -79,12 +79,12 @@ module _ (session : Session) {width : ℕ} (past : List Happened) (h : Handshake
       let g : Guarded h r = f .new .guarded in
       let e = sym (ap (λ w. acceptOf w (r .number)) (p .kept .window-is)) ∙ f .new .accepted in
       let q = new-means width (acceptedIn past) (r .number) (f .w) (f .new .arrived) (sym (by-history width (p .kept .held) (acceptedIn past) (r .number)) ∙ e) in (
-        alert-allowed (h .state) (sym (ap (sealedAllowed (h .state)) (f .alert)) ∙ g .kind),
+        alert-allowed (h .state) (sym (ap (protectedAllowed (h .state)) (f .alert)) ∙ g .kind),
         (
           f .c,
           f .a,
           record {
-            genuine = record { in-place = at; is-sealed = subst (λ k. Sealed k d r (f .c)) (keys-are session past h p (past-live g)) (f .new .coded) };
+            genuine = record { in-place = at; protected-as = subst (λ k. Protected k d r (f .c)) (keys-are session past h p (past-live g)) (f .new .coded) };
             alert = f .alert;
             well-formed = f .well-formed;
             fatal = f .fatal;

@@ -1,5 +1,5 @@
 -- Data only after Finished. The idea: a connection is Open only behind an Open answer, with no new reply, closing or start since; that
--- answer's record was sealed under the keys that the connection held, and these are the keys of the last new reply
+-- answer's record was protected under the keys that the connection held, and these are the keys of the last new reply
 -- (`Kept.kept-more`); its content was judged right, so it is the Finished of the contents that the connection expected.
 use mathlib.Core.Path.{_≡_, refl, sym, _∙_, ap, ap₂, subst}
 use mathlib.Core.Logic.{_⊎_, inl, inr, _≢_}
@@ -46,8 +46,8 @@ use Rattle.connection.specs.declared.handshake.Handshake.{Handshake}
 use Rattle.connection.specs.declared.handshake.Session.{Session}
 use Rattle.demands.specs.Runs.{Call, send-data, send-alert, close, start, Step, stepOf}
 use Rattle.record.specs.declared.keys.Keys.{Keys}
-use Rattle.demands.specs.Genuine.{Genuine, Sealed, RecordOf, keysOf}
-use Rattle.demands.specs.Table.{Row, sealedAllowed, Hears, New, Greets}
+use Rattle.demands.specs.Genuine.{Genuine, Protected, RecordOf, keysOf}
+use Rattle.demands.specs.Table.{Row, protectedAllowed, Hears, New, Greets}
 use Rattle.demands.specs.Table.{row-ended, row-hello-while-open, row-not-allowed, row-not-first, row-reply, row-hello-malformed, row-unacceptable, row-resent, row-change, row-change-malformed, row-clear-malformed, row-checksum, row-clear-warning, row-clear-critical, row-clear-fatal, row-forged, row-old, row-repeated, row-malformed, row-data, row-warning, row-critical, row-barred, row-open, row-again, row-wrong-finished}
 use Rattle.demands.specs.Calls.{CallRow, data-16, data-7, data-8, data-15, data-6, data-sent, alert-16, alert-7, alert-8, alert-15, alert-6, alert-sent, close-7, close-done, start-7, start-8, start-done}
 use Rattle.demands.specs.Refusals.{writtenBy}
@@ -61,7 +61,7 @@ use Rattle.demands.proofs.Genuine.{true-false}
 use Rattle.demands.proofs.Table.{row-of}
 use Rattle.demands.proofs.Calls.{call-of}
 use Rattle.demands.proofs.Refusals.{outcomeIn}
-use Rattle.demands.proofs.Kept.{kept-more, kept-fresh, live, greets-live, sealed-live}
+use Rattle.demands.proofs.Kept.{kept-more, kept-fresh, live, greets-live, protected-live}
 
 -- ---- a content that was judged right is the Finished of the expected contents
 
@@ -186,7 +186,7 @@ module _ (session : Session) {width : ℕ} (past : List Happened) (h : Handshake
         → Verified session (answered random d r W.Open ∷ past)
     opened c w n es ec e =
         let g : Greeted session past = p .greeted (ap hasReplied es) in
-        let l : barredIn past ≡ false = live session past h (p .kept) (sealed-live (h .state) (r .content) (n .guarded .kind)) in
+        let l : barredIn past ≡ false = live session past h (p .kept) (protected-live (h .state) (r .content) (n .guarded .kind)) in
         let content-is : c ≡ finishedOf (expectedOf session (g .ours) (g .hello) (g .plan))
         = right-is c (h .expected) e ∙ ap finishedOf (expected-is l ∙ greeted-expects g) in
         record {
@@ -203,7 +203,7 @@ module _ (session : Session) {width : ℕ} (past : List Happened) (h : Handshake
           replied = g .replied;
           heard = g .heard;
           handshake = ec;
-          genuine = record { in-place = at; is-sealed = subst (λ x. Sealed x d r (finishedOf (expectedOf session (g .ours) (g .hello) (g .plan)))) (keys-are l) (subst (Sealed (keysOf h) d r) content-is (n .coded)) };
+          genuine = record { in-place = at; protected-as = subst (λ x. Protected x d r (finishedOf (expectedOf session (g .ours) (g .hello) (g .plan)))) (keys-are l) (subst (Protected (keysOf h) d r) content-is (n .coded)) };
         }
 
     new-reply : (plan : Plan) → Greets h d r → heardOf (fragmentOf d r) (h .id) ≡ H.Accepted plan
@@ -294,10 +294,10 @@ module _ (session : Session) {width : ℕ} (past : List Happened) (h : Handshake
   unfolding lastReply
   still-refused x k es = still refused x k es refl (λ v q. q)
 
-  still-wrote : (sealed : Bool) (bytes : List ℕ) (x : Handshake) → KeptAs session width (wrote sealed bytes ∷ past) x → x .state ≡ h .state
-      → Progress session width (wrote sealed bytes ∷ past) x
+  still-wrote : (protected : Bool) (bytes : List ℕ) (x : Handshake) → KeptAs session width (wrote protected bytes ∷ past) x → x .state ≡ h .state
+      → Progress session width (wrote protected bytes ∷ past) x
   unfolding lastReply
-  still-wrote sealed bytes x k es = still (wrote sealed bytes) x k es refl (λ v q. q)
+  still-wrote protected bytes x k es = still (wrote protected bytes) x k es refl (λ v q. q)
 
   over : (what : Happened) (x : Handshake) (s : State) → KeptAs session width (what ∷ past) x → x .state ≡ s → hasReplied s ≡ false → (s ≡ S.Open → ⊥)
       → Progress session width (what ∷ past) x
@@ -318,20 +318,20 @@ module _ (session : Session) {width : ℕ} (past : List Happened) (h : Handshake
   by-data bytes out (data-6 g e n l) k = still-refused h k refl
   by-data bytes out {s} (data-sent g e n l) k = still-wrote true (take (writtenBy (s .result)) (s .output)) (s .connection .handshake) k refl
 
-  alert-state : (sealed : Bool) (bytes : List ℕ) → afterAlert sealed h bytes .state ≡ h .state
+  alert-state : (protected : Bool) (bytes : List ℕ) → afterAlert protected h bytes .state ≡ h .state
   alert-state true bytes = refl
   alert-state false bytes = refl
 
-  by-alert : (sealed : Bool) (level description : ℕ) (lent out : List ℕ) {s : Step} → CallRow (connectionOf h) (send-alert sealed level description lent out) s
-      → KeptAs session width (ifDone (outcomeIn (s .result)) (wrote sealed (take (writtenBy (s .result)) (s .output))) ∷ past) (s .connection .handshake)
-      → Progress session width (ifDone (outcomeIn (s .result)) (wrote sealed (take (writtenBy (s .result)) (s .output))) ∷ past) (s .connection .handshake)
-  by-alert sealed level description lent out (alert-16 b) k = still-refused h k refl
-  by-alert sealed level description lent out (alert-7 g e) k = still-refused h k refl
-  by-alert sealed level description lent out (alert-8 g e f) k = still-refused h k refl
-  by-alert sealed level description lent out (alert-15 g e n) k = still-refused h k refl
-  by-alert sealed level description lent out (alert-6 g e n l) k = still-refused h k refl
-  by-alert sealed level description lent out {s} (alert-sent {l = v} {k = m} g e n l) k =
-      still-wrote sealed (take (writtenBy (s .result)) (s .output)) (s .connection .handshake) k (alert-state sealed (nextAlert sealed h (alertBody v m lent)))
+  by-alert : (protected : Bool) (level description : ℕ) (lent out : List ℕ) {s : Step} → CallRow (connectionOf h) (send-alert protected level description lent out) s
+      → KeptAs session width (ifDone (outcomeIn (s .result)) (wrote protected (take (writtenBy (s .result)) (s .output))) ∷ past) (s .connection .handshake)
+      → Progress session width (ifDone (outcomeIn (s .result)) (wrote protected (take (writtenBy (s .result)) (s .output))) ∷ past) (s .connection .handshake)
+  by-alert protected level description lent out (alert-16 b) k = still-refused h k refl
+  by-alert protected level description lent out (alert-7 g e) k = still-refused h k refl
+  by-alert protected level description lent out (alert-8 g e f) k = still-refused h k refl
+  by-alert protected level description lent out (alert-15 g e n) k = still-refused h k refl
+  by-alert protected level description lent out (alert-6 g e n l) k = still-refused h k refl
+  by-alert protected level description lent out {s} (alert-sent {l = v} {k = m} g e n l) k =
+      still-wrote protected (take (writtenBy (s .result)) (s .output)) (s .connection .handshake) k (alert-state protected (nextAlert protected h (alertBody v m lent)))
 
   by-close : {s : Step} → CallRow (connectionOf h) close s → KeptAs session width (ifDone (outcomeIn (s .result)) closed ∷ past) (s .connection .handshake)
       → Progress session width (ifDone (outcomeIn (s .result)) closed ∷ past) (s .connection .handshake)
@@ -349,8 +349,8 @@ module _ (session : Session) {width : ℕ} (past : List Happened) (h : Handshake
   progress-more (took random d r) sound = by-row random d r (sound .1) (row-of h random d r) (kept-more session past h (p .kept) (took random d r))
   progress-more (sending bytes out) sound =
       by-data bytes out (call-of (connectionOf h) (send-data bytes out)) (kept-more session past h (p .kept) (sending bytes out))
-  progress-more (alerting sealed level description lent out) sound =
-      by-alert sealed level description lent out (call-of (connectionOf h) (send-alert sealed level description lent out)) (kept-more session past h (p .kept) (alerting sealed level description lent out))
+  progress-more (alerting protected level description lent out) sound =
+      by-alert protected level description lent out (call-of (connectionOf h) (send-alert protected level description lent out)) (kept-more session past h (p .kept) (alerting protected level description lent out))
   progress-more closing sound = by-close (call-of (connectionOf h) close) (kept-more session past h (p .kept) closing)
   progress-more starting sound = by-start (call-of (connectionOf h) start) (kept-more session past h (p .kept) starting)
 
@@ -394,9 +394,9 @@ data-open h random d r (row-old c g s e) z = true-false false z refl
 data-open h random d r (row-repeated c g s e) z = true-false false z refl
 data-open h random d r (row-malformed c w n m) z = true-false false z refl
 data-open h random d r (row-data c w n e m) z =
-    allowed-data (h .state) refl (sym (ap (sealedAllowed (h .state)) e) ∙ n .guarded .kind)
+    allowed-data (h .state) refl (sym (ap (protectedAllowed (h .state)) e) ∙ n .guarded .kind)
   where
-    allowed-data : (s : State) → h .state ≡ s → sealedAllowed s C.Data ≡ true → h .state ≡ S.Open
+    allowed-data : (s : State) → h .state ≡ s → protectedAllowed s C.Data ≡ true → h .state ≡ S.Open
     allowed-data S.Idle es a = true-false false a refl
     allowed-data S.Replied es a = true-false false a refl
     allowed-data S.Spec es a = true-false false a refl

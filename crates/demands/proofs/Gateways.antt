@@ -31,7 +31,7 @@ use Rattle.connection.specs.declared.answer.Answer.{Answer}
 use Rattle.connection.specs.declared.answer.Answer.the-variants as W
 use Rattle.connection.specs.declared.answer.Judged.{Judged}
 use Rattle.connection.specs.declared.answer.Slot.{Slot}
-use Rattle.connection.specs.declared.calls.Connection.{Connection}
+use Rattle.connection.specs.declared.connection.Connection.{Connection}
 use Rattle.connection.specs.declared.receive.Taken.{Taken}
 use Rattle.connection.specs.declared.receive.Taken.the-variants as T
 use Rattle.connection.specs.declared.tally.Tally.{Tally}
@@ -105,7 +105,7 @@ module _ (k : Keys) (expected : List ℕ) where
   ongoing-more random d rs [] course a = records-ongoing random d rs course
   ongoing-more random d rs (took random′ d′ r ∷ es) course a = ongoing-more random d rs es (withEvent k expected course (took random′ d′ r)) a
   ongoing-more random d rs (sending bytes out ∷ es) course a = ongoing-more random d rs es course a
-  ongoing-more random d rs (alerting sealed level description lent out ∷ es) course a = ongoing-more random d rs es course a
+  ongoing-more random d rs (alerting protected level description lent out ∷ es) course a = ongoing-more random d rs es course a
   ongoing-more random d rs (closing ∷ es) course a = ongoing-more random d rs es (withEvent k expected course closing) a
   ongoing-more random d rs (starting ∷ es) course a = (a .0, ongoing-more random d rs es course (a .1))
 

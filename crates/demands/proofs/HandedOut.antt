@@ -45,8 +45,8 @@ use Rattle.connection.specs.declared.handshake.Handshake.{Handshake}
 use Rattle.connection.specs.declared.handshake.Session.{Session}
 use Rattle.demands.specs.Runs.{Call, send-data, send-alert, close, start, Step, stepOf}
 use Rattle.record.specs.declared.keys.Keys.{Keys}
-use Rattle.demands.specs.Genuine.{Genuine, Sealed, RecordOf, keysOf, unitKey}
-use Rattle.demands.specs.Table.{Row, ended, allowed, sealedAllowed, clearAllowed, beginsHello, isHello, Hears, New, Guarded, Greets, MalformedAs, openIs, helloWhileOpen}
+use Rattle.demands.specs.Genuine.{Genuine, Protected, RecordOf, keysOf, unitKey}
+use Rattle.demands.specs.Table.{Row, ended, allowed, protectedAllowed, clearAllowed, beginsHello, isHello, Hears, New, Guarded, Greets, MalformedAs, openIs, helloWhileOpen}
 use Rattle.demands.specs.Table.{row-ended, row-hello-while-open, row-not-allowed, row-not-first, row-reply, row-hello-malformed, row-unacceptable, row-resent, row-change, row-change-malformed, row-clear-malformed, row-checksum, row-clear-warning, row-clear-critical, row-clear-fatal, row-forged, row-old, row-repeated, row-malformed, row-data, row-warning, row-critical, row-barred, row-open, row-again, row-wrong-finished}
 use Rattle.demands.specs.Calls.{CallRow, data-16, data-7, data-8, data-15, data-6, data-sent, alert-16, alert-7, alert-8, alert-15, alert-6, alert-sent, close-7, close-done, start-7, start-8, start-done}
 use Rattle.demands.specs.Events.{Event, took, sending, alerting, closing, starting, Sound, AllSound, Happened, connectionOf, next, after, history}
@@ -54,11 +54,11 @@ use Rattle.demands.specs.Past.{isData, keysIn, expectedIn, acceptedIn, b
 use Rattle.demands.specs.Course.{Course, genuineBytes, contentBytes, isNew, levelShuts, alertShuts, finishedShuts, contentShuts, withRecord, withEvent, courseOf, Ongoing, Due}
 use Rattle.demands.specs.Runs.{freshWith}
 use Rattle.demands.specs.HandedOut.{courseAt, courseFrom, answerAt, HandedOut, HandedOnce}
-use Rattle.demands.proofs.Genuine.{true-false, sealed-right, sealed-content, right-sealed}
+use Rattle.demands.proofs.Genuine.{true-false, protected-right, protected-content, right-protected}
 use Rattle.demands.proofs.Table.{row-of, row-is}
 use Rattle.demands.proofs.Changes.{hello-clear}
 use Rattle.demands.proofs.Calls.{call-of}
-use Rattle.demands.proofs.Kept.{window-more, live, sealed-live}
+use Rattle.demands.proofs.Kept.{window-more, live, protected-live}
 use Rattle.demands.proofs.Finished.{Progress, progress-all, progress-fresh, keys-are, expected-is}
 use Rattle.demands.proofs.LeftOut.{not-open, greets-not-open, seven}
 
@@ -122,21 +122,21 @@ module _ (k : Keys) (expected : List ℕ) (course : Course) (h : Handshake) (a :
       not-genuine g =
           ap₂ (λ b c. pick b course (pick c (pick (isNew (course .width) (course .numbers) (r .number)) (record { width = course .width; numbers = r .number ∷ course .numbers; shut = contentShuts (r .content) (contentBytes k d r) expected }) course) course)) z g
 
-      right-code : (c : List ℕ) → Sealed (keysOf h) d r c → Sealed k d r c
-      right-code c s = subst (λ x. Sealed x d r c) (a .keys-same z) s
+      right-code : (c : List ℕ) → Protected (keysOf h) d r c → Protected k d r c
+      right-code c s = subst (λ x. Protected x d r c) (a .keys-same z) s
 
-      genuine-yes : (c : List ℕ) → Sealed k d r c → genuineBytes k d r ≡ true
+      genuine-yes : (c : List ℕ) → Protected k d r c → genuineBytes k d r ≡ true
       genuine-yes c s =
-          ap₂ (λ p g. pick p g false) (s .is-protected) (sealed-right k d r c s)
+          ap₂ (λ p g. pick p g false) (s .is-protected) (protected-right k d r c s)
 
-      not-new : (c : List ℕ) → Sealed k d r c → isNew (course .width) (course .numbers) (r .number) ≡ false → withRecord k expected course d r ≡ course
+      not-new : (c : List ℕ) → Protected k d r c → isNew (course .width) (course .numbers) (r .number) ≡ false → withRecord k expected course d r ≡ course
       not-new c s n =
           (λ i. pick (z i) course (pick (genuine-yes c s i) (pick (n i) (record { width = course .width; numbers = r .number ∷ course .numbers; shut = contentShuts (r .content) (contentBytes k d r) expected }) course) course))
 
-      one-more : (c : List ℕ) → Sealed k d r c → isNew (course .width) (course .numbers) (r .number) ≡ true
+      one-more : (c : List ℕ) → Protected k d r c → isNew (course .width) (course .numbers) (r .number) ≡ true
           → withRecord k expected course d r ≡ record { width = course .width; numbers = r .number ∷ course .numbers; shut = contentShuts (r .content) c expected }
       one-more c s n =
-          λ i. pick (z i) course (pick (genuine-yes c s i) (pick (n i) (record { width = course .width; numbers = r .number ∷ course .numbers; shut = contentShuts (r .content) (sealed-content k d r c s i) expected }) course) course)
+          λ i. pick (z i) course (pick (genuine-yes c s i) (pick (n i) (record { width = course .width; numbers = r .number ∷ course .numbers; shut = contentShuts (r .content) (protected-content k d r c s i) expected }) course) course)
 
       window-at : (x : Acceptance) → acceptOf (h .protection .window) (r .number) ≡ x → acceptOf (windowOf (course .width) (course .numbers)) (r .number) ≡ x
       window-at x e = sym (ap (λ w. acceptOf w (r .number)) (a .window-same z)) ∙ e
@@ -222,12 +222,12 @@ module _ (k : Keys) (expected : List ℕ) (course : Course) (h : Handshake) (a :
       by-row (row-clear-fatal b s p c e q l) = not-open (h .state) s (a .is-open z)
       by-row (row-forged g f) = unchanged (not-genuine (forged-bytes g f (genuineBytes k d r) refl))
         where
-          forged-bytes : Guarded h r → ((c : List ℕ) → Sealed (keysOf h) d r c → ⊥) → (b : Bool) → genuineBytes k d r ≡ b → genuineBytes k d r ≡ false
+          forged-bytes : Guarded h r → ((c : List ℕ) → Protected (keysOf h) d r c → ⊥) → (b : Bool) → genuineBytes k d r ≡ b → genuineBytes k d r ≡ false
           forged-bytes g f false e = e
           forged-bytes g f true e =
               let code : genuineBy (hmac (unitKey k (r .number))) (sizeOf (k .mac)) (r .number) (r .byte) (fragmentOf d r) ≡ true
               = sym (ap (λ b. pick b (genuineBy (hmac (unitKey k (r .number))) (sizeOf (k .mac)) (r .number) (r .byte) (fragmentOf d r)) false) (g .protection)) ∙ e in
-              absurd (f (contentBytes k d r) (subst (λ x. Sealed x d r (contentBytes k d r)) (sym (a .keys-same z)) (right-sealed k d r (g .protection) code)))
+              absurd (f (contentBytes k d r) (subst (λ x. Protected x d r (contentBytes k d r)) (sym (a .keys-same z)) (right-protected k d r (g .protection) code)))
       by-row (row-old c g s e) =
           unchanged (not-new c (right-code c s) (old-is (course .width) (a .held) (course .numbers) (r .number) (window-at A.TooOld e)))
       by-row (row-repeated c g s e) =
@@ -247,7 +247,7 @@ module _ (k : Keys) (expected : List ℕ) (course : Course) (h : Handshake) (a :
     record-more false z = by-row z (row-of h random d r)
 
   -- a send changes neither
-  sent-along : (sealed : Bool) (bytes : List ℕ) → Along k expected course (afterAlert sealed h bytes)
+  sent-along : (protected : Bool) (bytes : List ℕ) → Along k expected course (afterAlert protected h bytes)
   sent-along true bytes =
       record { is-open = a .is-open; keys-same = a .keys-same; expected-same = a .expected-same; held = a .held; window-same = a .window-same; is-ended = a .is-ended }
   sent-along false bytes =
@@ -262,14 +262,14 @@ module _ (k : Keys) (expected : List ℕ) (course : Course) (h : Handshake) (a :
   by-data bytes out (data-sent g e n l) =
       record { is-open = a .is-open; keys-same = a .keys-same; expected-same = a .expected-same; held = a .held; window-same = a .window-same; is-ended = a .is-ended }
 
-  by-alert : (sealed : Bool) (level description : ℕ) (lent out : List ℕ) {s : Step} → CallRow (connectionOf h) (send-alert sealed level description lent out) s
+  by-alert : (protected : Bool) (level description : ℕ) (lent out : List ℕ) {s : Step} → CallRow (connectionOf h) (send-alert protected level description lent out) s
       → Along k expected course (s .connection .handshake)
-  by-alert sealed level description lent out (alert-16 b) = a
-  by-alert sealed level description lent out (alert-7 g e) = a
-  by-alert sealed level description lent out (alert-8 g e f) = a
-  by-alert sealed level description lent out (alert-15 g e n) = a
-  by-alert sealed level description lent out (alert-6 g e n l) = a
-  by-alert sealed level description lent out (alert-sent {l = v} {k = m} g e n l) = sent-along sealed (nextAlert sealed h (alertBody v m lent))
+  by-alert protected level description lent out (alert-16 b) = a
+  by-alert protected level description lent out (alert-7 g e) = a
+  by-alert protected level description lent out (alert-8 g e f) = a
+  by-alert protected level description lent out (alert-15 g e n) = a
+  by-alert protected level description lent out (alert-6 g e n l) = a
+  by-alert protected level description lent out (alert-sent {l = v} {k = m} g e n l) = sent-along protected (nextAlert protected h (alertBody v m lent))
 
   -- our own close ends it
   close-ends : {s : Step} → CallRow (connectionOf h) close s → ended (s .connection .handshake .state) ≡ true
@@ -306,8 +306,8 @@ along-all k expected (took random d r ∷ es) course h a go =
     along-all k expected es (withRecord k expected course d r) (judgedRecord h random d r .handshake) (record-more k expected course h a random d r (course .shut) refl) go
 along-all k expected (sending bytes out ∷ es) course h a go =
     along-all k expected es course (next h (sending bytes out)) (by-data k expected course h a bytes out (call-of (connectionOf h) (send-data bytes out))) go
-along-all k expected (alerting sealed level description lent out ∷ es) course h a go =
-    along-all k expected es course (next h (alerting sealed level description lent out)) (by-alert k expected course h a sealed level description lent out (call-of (connectionOf h) (send-alert sealed level description lent out))) go
+along-all k expected (alerting protected level description lent out ∷ es) course h a go =
+    along-all k expected es course (next h (alerting protected level description lent out)) (by-alert k expected course h a protected level description lent out (call-of (connectionOf h) (send-alert protected level description lent out))) go
 along-all k expected (closing ∷ es) course h a go =
     along-all k expected es (withEvent k expected course closing) (next h closing) (by-close k expected course h a) go
 along-all k expected (starting ∷ es) course h a go =
@@ -354,7 +354,7 @@ module _ (d : List ℕ) (at size : ℕ) (c code : List ℕ) (some : 0 < length c
       by-sizes : (n at size m z : ℕ) → 0 < m → min size (n - at) ≡ m + z → (at ≤ n) × (m ≤ n - at)
       by-sizes n at size m z h e = (omega arith, omega arith)
 
-pub handed-part : (k : Keys) (d : List ℕ) (r : Record) (c : List ℕ) → 0 < length c → Sealed k d r c → partAt d (r .start + r .head) (length c) ≡ c
+pub handed-part : (k : Keys) (d : List ℕ) (r : Record) (c : List ℕ) → 0 < length c → Protected k d r c → partAt d (r .start + r .head) (length c) ≡ c
 unfolding fragmentBy
 handed-part k d r c some s =
     part-is d (r .start + r .head) (r .size) c (codeBy (hmac (unitKey k (r .number))) (sizeOf (k .mac)) (r .number) (r .byte) c) some (s .is-coded)
@@ -405,7 +405,7 @@ module _ (k : Keys) (expected : List ℕ) (course : Course) (h : Handshake) (a :
         f .c,
         record {
           not-shut = z;
-          genuine = record { in-place = at; is-sealed = subst (λ x. Sealed x d r (f .c)) (a .keys-same z) (f .new .coded) };
+          genuine = record { in-place = at; protected-as = subst (λ x. Protected x d r (f .c)) (a .keys-same z) (f .new .coded) };
           is-data = f .is-data;
           some = f .some;
           not-before = q .1;
@@ -415,14 +415,14 @@ module _ (k : Keys) (expected : List ℕ) (course : Course) (h : Handshake) (a :
 
   due-by : DataFacts h d r → (b : Bool) → course .shut ≡ b → (c : List ℕ) × Due k course d r c
   due-by f false z = due-open f z
-  due-by f true z = true-false (ended (h .state)) (a .is-ended z) (sealed-live (h .state) (r .content) (f .new .guarded .kind))
+  due-by f true z = true-false (ended (h .state)) (a .is-ended z) (protected-live (h .state) (r .content) (f .new .guarded .kind))
 
   data-due : (c : List ℕ) → Due k course d r c → judgedRecord h random d r .answer ≡ W.Data (r .number) (r .start + r .head) (length c)
   data-due c u =
       let z = u .not-shut in
       let n : New h d r c (windowOf (course .width) (r .number ∷ course .numbers)) = record {
-        guarded = record { protection = u .genuine .is-sealed .is-protected; kind = ap (λ s. sealedAllowed s (r .content)) (a .is-open z) };
-        coded = subst (λ x. Sealed x d r c) (sym (a .keys-same z)) (u .genuine .is-sealed);
+        guarded = record { protection = u .genuine .protected-as .is-protected; kind = ap (λ s. protectedAllowed s (r .content)) (a .is-open z) };
+        coded = subst (λ x. Protected x d r c) (sym (a .keys-same z)) (u .genuine .protected-as);
         arrived = arrivedOf (course .width) (r .number ∷ course .numbers);
         accepted = ap (λ w. acceptOf w (r .number)) (a .window-same z) ∙ due-new (course .width) (a .held) (course .numbers) (r .number) (u .not-before) (u .recent);
       } in
@@ -433,7 +433,7 @@ module _ (k : Keys) (expected : List ℕ) (course : Course) (h : Handshake) (a :
       (λ z. due-by (data-facts h random d r (row-of h random d r) z) (course .shut) refl, λ q. ap isData (data-due (q .0) (q .1)))
 
   pub due-handed : (c : List ℕ) → Due k course d r c → handedOf d (judgedRecord h random d r .answer) ≡ c
-  due-handed c u = ap (handedOf d) (data-due c u) ∙ handed-part k d r c (u .some) (u .genuine .is-sealed)
+  due-handed c u = ap (handedOf d) (data-due c u) ∙ handed-part k d r c (u .some) (u .genuine .protected-as)
 
 pub handed-out : HandedOut
 unfolding HandedOut
@@ -469,7 +469,7 @@ module _ (k : Keys) (expected : List ℕ) (n : ℕ) where
   grows [] course x = x
   grows (took random d r ∷ es) course x = grows es (withRecord k expected course d r) (grows-record course d r x)
   grows (sending bytes out ∷ es) course x = grows es course x
-  grows (alerting sealed level description lent out ∷ es) course x = grows es course x
+  grows (alerting protected level description lent out ∷ es) course x = grows es course x
   grows (closing ∷ es) course x = grows es (withEvent k expected course closing) x
   grows (starting ∷ es) course x = grows es course x
 
@@ -489,7 +489,7 @@ width-stays k expected (took random d r ∷ es) course =
     ∙ width-by course (record { width = course .width; numbers = r .number ∷ course .numbers; shut = contentShuts (r .content) (contentBytes k d r) expected })
     (course .shut) (genuineBytes k d r) (isNew (course .width) (course .numbers) (r .number)) refl
 width-stays k expected (sending bytes out ∷ es) course = width-stays k expected es course
-width-stays k expected (alerting sealed level description lent out ∷ es) course = width-stays k expected es course
+width-stays k expected (alerting protected level description lent out ∷ es) course = width-stays k expected es course
 width-stays k expected (closing ∷ es) course = width-stays k expected es (withEvent k expected course closing)
 width-stays k expected (starting ∷ es) course = width-stays k expected es course
 
@@ -497,8 +497,8 @@ width-stays k expected (starting ∷ es) course = width-stays k expected es cour
 due-used : (k : Keys) (expected : List ℕ) (course : Course) → Held (course .width) → (d : List ℕ) (r : Record) (c : List ℕ) → Due k course d r c
     → accepted (withRecord k expected course d r .numbers) (r .number) ≡ true
 due-used k expected course held d r c u =
-    let s : Sealed k d r c = u .genuine .is-sealed in
-    let g : genuineBytes k d r ≡ true = ap₂ (λ p x. pick p x false) (s .is-protected) (sealed-right k d r c s) in
+    let s : Protected k d r c = u .genuine .protected-as in
+    let g : genuineBytes k d r ≡ true = ap₂ (λ p x. pick p x false) (s .is-protected) (protected-right k d r c s) in
     let n : isNew (course .width) (course .numbers) (r .number) ≡ true
     = is-new (course .width) held (course .numbers) (r .number) (due-below (course .width) held (course .numbers) (r .number) (u .recent)) (u .not-before) in
     let used : withRecord k expected course d r ≡ record { width = course .width; numbers = r .number ∷ course .numbers; shut = contentShuts (r .content) (contentBytes k d r) expected }
@@ -518,7 +518,7 @@ ongoing-front : (k : Keys) (expected : List ℕ) (es fs : List Event) (course : 
 ongoing-front k expected [] fs course g = tt
 ongoing-front k expected (took random d r ∷ es) fs course g = ongoing-front k expected es fs (withEvent k expected course (took random d r)) g
 ongoing-front k expected (sending bytes out ∷ es) fs course g = ongoing-front k expected es fs course g
-ongoing-front k expected (alerting sealed level description lent out ∷ es) fs course g = ongoing-front k expected es fs course g
+ongoing-front k expected (alerting protected level description lent out ∷ es) fs course g = ongoing-front k expected es fs course g
 ongoing-front k expected (closing ∷ es) fs course g = ongoing-front k expected es fs (withEvent k expected course closing) g
 ongoing-front k expected (starting ∷ es) fs course g = (g .0, ongoing-front k expected es fs course (g .1))
 

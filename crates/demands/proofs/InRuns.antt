@@ -36,7 +36,7 @@ use Rattle.connection.specs.declared.handshake.Handshake.{Handshake}
 use Rattle.connection.specs.declared.handshake.Session.{Session}
 use Rattle.demands.specs.Runs.{stepOf, freshWith}
 use Rattle.record.specs.declared.keys.Keys.{Keys}
-use Rattle.demands.specs.Genuine.{Genuine, Sealed, RecordOf, keysOf}
+use Rattle.demands.specs.Genuine.{Genuine, Protected, RecordOf, keysOf}
 use Rattle.demands.specs.Table.{Row, ended, Guarded, Hears}
 use Rattle.demands.specs.Table.{row-ended, row-hello-while-open, row-not-allowed, row-not-first, row-reply, row-hello-malformed, row-unacceptable, row-resent, row-change, row-change-malformed, row-clear-malformed, row-checksum, row-clear-warning, row-clear-critical, row-clear-fatal, row-forged, row-old, row-repeated, row-malformed, row-data, row-warning, row-critical, row-barred, row-open, row-again, row-wrong-finished}
 use Rattle.demands.specs.Events.{Event, AllSound, Happened, connectionOf, after, history}
@@ -47,7 +47,7 @@ use Rattle.demands.specs.LeftOut.{LeftOut, SameWithout, LeavesOut}
 use Rattle.demands.specs.InRuns.{TooOldFor, RepeatedIn, ProtectedExactly, ProtectedInRuns, ChecksumInRuns, WrongFinishedInRuns, LeavesOutOfRuns}
 use Rattle.demands.proofs.Genuine.{true-false}
 use Rattle.demands.proofs.Table.{row-of, row-is}
-use Rattle.demands.proofs.Kept.{live, sealed-live}
+use Rattle.demands.proofs.Kept.{live, protected-live}
 use Rattle.demands.proofs.Finished.{Progress, progress-all, progress-fresh, keys-are, expected-is}
 use Rattle.demands.proofs.HandedOut.{by-history}
 use Rattle.demands.proofs.LeftOut.{leaves-out}
@@ -57,12 +57,12 @@ use Rattle.demands.proofs.LeftOut.{leaves-out}
 module _ (h : Handshake) (random d : List ℕ) (r : Record) where
   abbrev RefusedFacts : Refusal → Type 0
   RefusedFacts (X.Framing fault) = Unit
-  RefusedFacts X.Forged = (c : List ℕ) → Sealed (keysOf h) d r c → ⊥
-  RefusedFacts X.TooOld = (acceptOf (h .protection .window) (r .number) ≡ A.TooOld) × ((c : List ℕ) × Sealed (keysOf h) d r c)
-  RefusedFacts X.Repeated = (acceptOf (h .protection .window) (r .number) ≡ A.Repeated) × ((c : List ℕ) × Sealed (keysOf h) d r c)
+  RefusedFacts X.Forged = (c : List ℕ) → Protected (keysOf h) d r c → ⊥
+  RefusedFacts X.TooOld = (acceptOf (h .protection .window) (r .number) ≡ A.TooOld) × ((c : List ℕ) × Protected (keysOf h) d r c)
+  RefusedFacts X.Repeated = (acceptOf (h .protection .window) (r .number) ≡ A.Repeated) × ((c : List ℕ) × Protected (keysOf h) d r c)
   RefusedFacts X.Checksum = (a : Alert) × (alertOf (fragmentOf d r) ≡ R.WellFormed a) × (wasSent h (a .checksum) ≡ false)
   RefusedFacts X.WrongFinished =
-      (c : List ℕ) × Sealed (keysOf h) d r c × (r .content ≡ C.Handshake) × (judgedOf c (h .expected) ≡ F.Wrong)
+      (c : List ℕ) × Protected (keysOf h) d r c × (r .content ≡ C.Handshake) × (judgedOf c (h .expected) ≡ F.Wrong)
   RefusedFacts X.Room = Unit
   RefusedFacts X.Ended = Unit
   RefusedFacts X.NotAllowed = Unit
@@ -134,13 +134,13 @@ for-old width numbers s o = reached (o .n) (highestOf numbers) (o .far) (accepte
 module _ (session : Session) {width : ℕ} (past : List Happened) (h : Handshake) (p : Progress session width past h) (random d : List ℕ) (r : Record) where
   module _ (at : RecordOf d r) (g : Guarded h r) where
     l : barredIn past ≡ false
-    l = live session past h (p .kept) (sealed-live (h .state) (r .content) (g .kind))
+    l = live session past h (p .kept) (protected-live (h .state) (r .content) (g .kind))
 
-    to-history : (c : List ℕ) → Sealed (keysOf h) d r c → Genuine (keysIn session past) d r c
-    to-history c s = record { in-place = at; is-sealed = subst (λ k. Sealed k d r c) (keys-are session past h p l) s }
+    to-history : (c : List ℕ) → Protected (keysOf h) d r c → Genuine (keysIn session past) d r c
+    to-history c s = record { in-place = at; protected-as = subst (λ k. Protected k d r c) (keys-are session past h p l) s }
 
-    of-history : (c : List ℕ) → Genuine (keysIn session past) d r c → Sealed (keysOf h) d r c
-    of-history c s = subst (λ k. Sealed k d r c) (sym (keys-are session past h p l)) (s .is-sealed)
+    of-history : (c : List ℕ) → Genuine (keysIn session past) d r c → Protected (keysOf h) d r c
+    of-history c s = subst (λ k. Protected k d r c) (sym (keys-are session past h p l)) (s .protected-as)
 
     window-at : acceptOf (h .protection .window) (r .number) ≡ judgedIn width (acceptedIn past) (r .number)
     window-at = ap (λ w. acceptOf w (r .number)) (p .kept .window-is) ∙ by-history width (p .kept .held) (acceptedIn past) (r .number)
@@ -199,7 +199,7 @@ module _ (session : Session) {width : ℕ} (past : List Happened) (h : Handshake
   seventeen at b e =
       let t = told h random d r X.WrongFinished e in (
         t .0,
-        record { in-place = at; is-sealed = subst (λ k. Sealed k d r (t .0)) (keys-are session past h p b) (t .1) },
+        record { in-place = at; protected-as = subst (λ k. Protected k d r (t .0)) (keys-are session past h p b) (t .1) },
         t .2,
         sym (ap (judgedOf (t .0)) (expected-is session past h p b)) ∙ t .3,
       )

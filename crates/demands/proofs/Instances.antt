@@ -11,7 +11,7 @@ use Rattle.digest.specs.Mac.{sizeOf}
 use Rattle.record.specs.Datagram.{Framing, framed, framingOf}
 use Rattle.record.specs.declared.header.Content.the-variants as C
 use Rattle.record.specs.declared.reader.Record.{Record}
-use Rattle.record.proofs.Sealed.{size-most}
+use Rattle.record.proofs.ProtectedBytes.{size-most}
 use Rattle.message.specs.Alert.{alertBytes}
 use Rattle.message.specs.declared.alert.Alert.{Alert}
 use Rattle.message.specs.declared.alert.Description.the-variants as D
@@ -33,7 +33,7 @@ use Rattle.demands.specs.Calls.{mayAlert, data-sent, alert-sent}
 use Rattle.demands.specs.Events.{Event, took, Sound, AllSound, connectionOf, next, after}
 use Rattle.demands.specs.Past.{isData}
 use Rattle.demands.specs.LeftOut.{NoneGenuine}
-use Rattle.demands.specs.Traps.{lastSealed, JustOpen}
+use Rattle.demands.specs.Traps.{lastProtected, JustOpen}
 use Rattle.demands.specs.Example.{exampleId, exampleSecret, exampleWidth, exampleRandom, exampleOut, exampleData}
 use Rattle.demands.specs.Instances.{exampleFresh, OpenRun, Instances}
 use Rattle.demands.proofs.Genuine.{true-false}
@@ -43,7 +43,7 @@ use Rattle.demands.proofs.Refusals.{outcomeIn}
 use Rattle.demands.proofs.Works.{Walk}
 use Rattle.demands.proofs.Example.{example-heard, example-held, example-walk, opening, opening-sound, opening-leaves, opening-open}
 use Rattle.demands.proofs.Gateways.{two, one-of-two, two-of-two, two-framed}
-use Rattle.demands.proofs.Traps.{w₀, w₇, new-7, alone, alone-framed, alone-sealed}
+use Rattle.demands.proofs.Traps.{w₀, w₇, new-7, alone, alone-framed, alone-protected}
 
 abbrev w : Walk exampleId exampleSecret exampleWidth exampleRandom exampleData
 w = example-walk
@@ -69,7 +69,7 @@ same-records rs qs f e g = cc
 
 two-silent : (k : Keys) → NoneGenuine k two
 two-silent k r c g =
-    true-false (r .protected) (g .is-sealed .is-protected)
+    true-false (r .protected) (g .protected-as .is-protected)
     (in-two (g .in-place .before) r (g .in-place .behind) (same-records (one-of-two ∷ two-of-two ∷ []) (g .in-place .before ++ (r ∷ g .in-place .behind)) (framingOf two) two-framed (g .in-place .framing)))
 
 -- a fatal alert, number 7
@@ -77,7 +77,7 @@ fatal-alert : List ℕ
 fatal-alert = alertBytes L.Fatal D.SessionCloseNotify 0
 
 abbrev fatal-datagram : List ℕ
-fatal-datagram = lastSealed (keysOf (w .h₃)) C.Alert 7 fatal-alert
+fatal-datagram = lastProtected (keysOf (w .h₃)) C.Alert 7 fatal-alert
 
 abbrev fatal-record : Record
 fatal-record = alone (keysOf (w .h₃)) C.Alert 7 (lit≤ tt) fatal-alert
@@ -86,7 +86,7 @@ fatal-row : Row (w .h₃) exampleRandom fatal-datagram fatal-record (judged (W.B
 unfolding fatal-alert alone w₀
 fatal-row =
     row-barred fatal-alert (w₇ exampleWidth) (record { level = L.Fatal; description = D.SessionCloseNotify; checksum = 0 })
-    (new-7 (w .h₃) (w .open-is) exampleWidth example-held (w .window-is) fatal-datagram fatal-record fatal-alert refl (alone-sealed (keysOf (w .h₃)) C.Alert 7 (lit≤ tt) fatal-alert)) refl
+    (new-7 (w .h₃) (w .open-is) exampleWidth example-held (w .window-is) fatal-datagram fatal-record fatal-alert refl (alone-protected (keysOf (w .h₃)) C.Alert 7 (lit≤ tt) fatal-alert)) refl
     (alert-back L.Fatal D.SessionCloseNotify 0 (omega arith)) refl
 
 fatal-framed : framingOf fatal-datagram ≡ framed (fatal-record ∷ [])
@@ -103,7 +103,7 @@ alert-is-done : (h : Handshake) → h .state ≡ S.Open → h .protection .prote
 unfolding stepOf
 alert-is-done h s n =
     ap (λ x. outcomeIn (x .result))
-    (call-is (connectionOf h) (alert-sent {sealed = true} {out = exampleOut} {l = L.Warning} {k = D.ConnectionCloseNotify} (record { level-is = level-back L.Warning; description-is = description-back D.ConnectionCloseNotify; lent-most = lit≤ tt }) (ap (mayAlert true) s) (omega arith) (omega (arith, size-most (h .protection .keys .mac)))))
+    (call-is (connectionOf h) (alert-sent {protected = true} {out = exampleOut} {l = L.Warning} {k = D.ConnectionCloseNotify} (record { level-is = level-back L.Warning; description-is = description-back D.ConnectionCloseNotify; lent-most = lit≤ tt }) (ap (mayAlert true) s) (omega arith) (omega (arith, size-most (h .protection .keys .mac)))))
 
 pub instances : Instances
 unfolding run w₀

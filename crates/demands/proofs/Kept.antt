@@ -43,12 +43,12 @@ use Rattle.connection.specs.declared.answer.Judged.{Judged}
 use Rattle.connection.specs.declared.handshake.Handshake.{Handshake}
 use Rattle.connection.specs.declared.handshake.Session.{Session}
 use Rattle.demands.specs.Runs.{Call, send-data, send-alert, close, start, Step, stepOf}
-use Rattle.demands.specs.Table.{Row, ended, sealedAllowed, Hears, New, Guarded, Greets, isHello}
+use Rattle.demands.specs.Table.{Row, ended, protectedAllowed, Hears, New, Guarded, Greets, isHello}
 use Rattle.demands.specs.Table.{row-ended, row-hello-while-open, row-not-allowed, row-not-first, row-reply, row-hello-malformed, row-unacceptable, row-resent, row-change, row-change-malformed, row-clear-malformed, row-checksum, row-clear-warning, row-clear-critical, row-clear-fatal, row-forged, row-old, row-repeated, row-malformed, row-data, row-warning, row-critical, row-barred, row-open, row-again, row-wrong-finished}
 use Rattle.demands.specs.Calls.{CallRow, data-16, data-7, data-8, data-15, data-6, data-sent, alert-16, alert-7, alert-8, alert-15, alert-6, alert-sent, close-7, close-done, start-7, start-8, start-done}
 use Rattle.demands.specs.Refusals.{writtenBy}
 use Rattle.demands.specs.Events.{Event, took, sending, alerting, closing, starting, Sound, AllSound, Happened, answered, wrote, closed, started, refused, ifDone, connectionOf, next, happening, after, history}
-use Rattle.demands.specs.Past.{greeting, isReply, isSpec, isBarred, marks, lastReply, keptGreeting, agreedFor, agreedAs, helloAs, replyFor, replyHeard, nextSealed, nextClearNumber, sentSince, recordsHeard, acceptedIn, barredIn, agreedOf, nothingAgreed, Agreed}
+use Rattle.demands.specs.Past.{greeting, isReply, isSpec, isBarred, marks, lastReply, keptGreeting, agreedFor, agreedAs, helloAs, replyFor, replyHeard, protectedNext, nextClearNumber, sentSince, recordsHeard, acceptedIn, barredIn, agreedOf, nothingAgreed, Agreed}
 use Rattle.demands.specs.Runs.{freshWith}
 use Rattle.demands.specs.Kept.{KeptAs, KeptIsWhatHappened}
 use Rattle.demands.proofs.Genuine.{true-false}
@@ -70,13 +70,13 @@ pub hears-live : (s : State) → Hears s → ended s ≡ false
 hears-live s (inl e) = ap ended e
 hears-live s (inr e) = ap ended e
 
-pub sealed-live : (s : State) (c : Content) → sealedAllowed s c ≡ true → ended s ≡ false
-sealed-live S.Idle c e = refl
-sealed-live S.Replied c e = refl
-sealed-live S.Spec c e = refl
-sealed-live S.Open c e = refl
-sealed-live S.Closed c e = true-false false e refl
-sealed-live S.Barred c e = true-false false e refl
+pub protected-live : (s : State) (c : Content) → protectedAllowed s c ≡ true → ended s ≡ false
+protected-live S.Idle c e = refl
+protected-live S.Replied c e = refl
+protected-live S.Spec c e = refl
+protected-live S.Open c e = refl
+protected-live S.Closed c e = true-false false e refl
+protected-live S.Barred c e = true-false false e refl
 
 pub greets-live : (h : Handshake) (d : List ℕ) (r : Record) → (h .state ≡ S.Idle) ⊎ (Hears (h .state) × (fragmentOf d r ≢ keptHello h)) → ended (h .state) ≡ false
 greets-live h d r (inl e) = ap ended e
@@ -111,7 +111,7 @@ module _ (session : Session) {width : ℕ} (past : List Happened) (h : Handshake
     kept-by : (x : Handshake) (a : Answer) → isReply a ≡ false → isBarred a ≡ false → planted x ≡ planted h → agreedOf x ≡ agreedOf h
         → x .kept ≡ h .kept → sendingOf x ≡ sendingOf h → x .protection .window ≡ windowOf width (acceptedIn (answered random d r a ∷ past))
         → (barredIn past ≡ true → x .state ≡ S.Barred) → KeptAs session width (answered random d r a ∷ past) x
-    unfolding lastReply keptGreeting nextSealed nextClearNumber sentSince barredIn
+    unfolding lastReply keptGreeting protectedNext nextClearNumber sentSince barredIn
     kept-by x a nr nb es ea ek en ew st =
         let bar : pick (isBarred a) true (barredIn past) ≡ barredIn past = ap (λ b. pick b true (barredIn past)) nb in
         record {
@@ -119,7 +119,7 @@ module _ (session : Session) {width : ℕ} (past : List Happened) (h : Handshake
           agreed-is = λ f. ea ∙ k .agreed-is (sym bar ∙ f) ∙ sym (ap (λ b. agreedFor session (pick b (greeting (fragmentOf d r) random) (lastReply past))) nr);
           hello-is = λ f. ap (λ y. take (y .heard) (y .hello)) ek ∙ k .hello-is (sym bar ∙ f) ∙ sym (ap (λ b. helloAs (pick b (greeting (fragmentOf d r) random) (keptGreeting past))) nr);
           reply-is = λ f. ap (λ y. take (y .size) (y .reply)) ek ∙ k .reply-is (sym bar ∙ f) ∙ sym (ap (λ b. replyFor session (pick b (greeting (fragmentOf d r) random) (keptGreeting past))) nr);
-          sealed-is = ap (λ y. y .protected) en ∙ k .sealed-is ∙ sym (ap (λ b. pick b 1 (nextSealed past)) nr);
+          protected-is = ap (λ y. y .protected) en ∙ k .protected-is ∙ sym (ap (λ b. pick b 1 (protectedNext past)) nr);
           clear-is = ap (λ y. y .clear) en ∙ k .clear-is ∙ sym (ap (λ b. pick b 2 (nextClearNumber past)) nr);
           sent-is = ap (λ y. sumsOf (y .sent)) en ∙ k .sent-is
               ∙ sym (ap (λ b. map sumOf (take 8 (pick b (recordsHeard session random (fragmentOf d r) (heardOf (fragmentOf d r) (session .id)) ++ sentSince session past) (sentSince session past)))) nr);
@@ -177,11 +177,11 @@ module _ (session : Session) {width : ℕ} (past : List Happened) (h : Handshake
         → marks a ≡ true → KeptAs session width (answered random d r a ∷ past) (withState (withWindow h w) s)
     marked-by c w n a s nr nb ns m =
         kept-by (withState (withWindow h w) s) a nr nb refl refl refl refl (window-marked c w n a ns m)
-        (λ f. true-false (barredIn past) f (live (sealed-live (h .state) (r .content) (n .guarded .kind))))
+        (λ f. true-false (barredIn past) f (live (protected-live (h .state) (r .content) (n .guarded .kind))))
 
     replied : (plan : Plan) → Greets h d r → heardOf (fragmentOf d r) (h .id) ≡ H.Accepted plan
         → KeptAs session width (answered random d r (W.Reply (length (replyTo (planted h) random (fragmentOf d r) plan))) ∷ past) (answeredWith h random (fragmentOf d r) plan)
-    unfolding answeredWith lastReply keptGreeting nextSealed nextClearNumber sentSince barredIn
+    unfolding answeredWith lastReply keptGreeting protectedNext nextClearNumber sentSince barredIn
     replied plan g e =
         let m : List ℕ = fragmentOf d r in
         let reply : List ℕ = replyTo (planted h) random m plan in
@@ -193,7 +193,7 @@ module _ (session : Session) {width : ℕ} (past : List Happened) (h : Handshake
           hello-is = λ f. take-at m (replicate (256 - length m) 0) (length m) refl;
           reply-is = λ f. take-at reply (replicate (84 - length reply) 0) (length reply) refl
               ∙ ap (replyHeard (planted h) random m) (sym e) ∙ ap (λ s. replyHeard s random m (heardOf m (s .id))) es;
-          sealed-is = refl;
+          protected-is = refl;
           clear-is = refl;
           sent-is = reply-sums (h .sent) (sentSince session past) (helloRecord (ourHello (planted h) random plan)) changeRecord
               (lastOf (planted h) random m plan) (k .sent-is)
@@ -206,14 +206,14 @@ module _ (session : Session) {width : ℕ} (past : List Happened) (h : Handshake
 
     barred-by : (c : List ℕ) (w : Window) → New h d r c w → (x : Description)
         → KeptAs session width (answered random d r (W.Barred x) ∷ past) (barred (withWindow h w))
-    unfolding nextSealed nextClearNumber sentSince barredIn nothingAgreed noSession
+    unfolding protectedNext nextClearNumber sentSince barredIn nothingAgreed noSession
     barred-by c w n x =
         record {
           session-is = λ f. true-false true refl f;
           agreed-is = λ f. true-false true refl f;
           hello-is = λ f. true-false true refl f;
           reply-is = λ f. true-false true refl f;
-          sealed-is = k .sealed-is;
+          protected-is = k .protected-is;
           clear-is = k .clear-is;
           sent-is = k .sent-is;
           window-is = window-marked c w n (W.Barred x) refl refl;
@@ -261,14 +261,14 @@ module _ (session : Session) {width : ℕ} (past : List Happened) (h : Handshake
 
   -- a call that is refused
   refused-more : KeptAs session width (refused ∷ past) h
-  unfolding lastReply keptGreeting nextSealed nextClearNumber sentSince acceptedIn barredIn
+  unfolding lastReply keptGreeting protectedNext nextClearNumber sentSince acceptedIn barredIn
   refused-more =
       record {
         session-is = k .session-is;
         agreed-is = k .agreed-is;
         hello-is = k .hello-is;
         reply-is = k .reply-is;
-        sealed-is = k .sealed-is;
+        protected-is = k .protected-is;
         clear-is = k .clear-is;
         sent-is = k .sent-is;
         window-is = k .window-is;
@@ -277,15 +277,15 @@ module _ (session : Session) {width : ℕ} (past : List Happened) (h : Handshake
       }
 
   -- a record of ours
-  wrote-more : (sealed : Bool) (bytes front : List ℕ) → front ≡ bytes → KeptAs session width (wrote sealed front ∷ past) (afterAlert sealed h bytes)
-  unfolding lastReply keptGreeting nextSealed nextClearNumber sentSince acceptedIn barredIn
+  wrote-more : (protected : Bool) (bytes front : List ℕ) → front ≡ bytes → KeptAs session width (wrote protected front ∷ past) (afterAlert protected h bytes)
+  unfolding lastReply keptGreeting protectedNext nextClearNumber sentSince acceptedIn barredIn
   wrote-more true bytes front e =
       record {
         session-is = k .session-is;
         agreed-is = k .agreed-is;
         hello-is = k .hello-is;
         reply-is = k .reply-is;
-        sealed-is = ap (λ n. n + 1) (k .sealed-is);
+        protected-is = ap (λ n. n + 1) (k .protected-is);
         clear-is = k .clear-is;
         sent-is = record-sums (h .sent) (sentSince session past) bytes (k .sent-is) ∙ ap (λ b. map sumOf (take 8 (b ∷ sentSince session past))) (sym e);
         window-is = k .window-is;
@@ -298,7 +298,7 @@ module _ (session : Session) {width : ℕ} (past : List Happened) (h : Handshake
         agreed-is = k .agreed-is;
         hello-is = k .hello-is;
         reply-is = k .reply-is;
-        sealed-is = k .sealed-is;
+        protected-is = k .protected-is;
         clear-is = ap (λ n. n + 1) (k .clear-is);
         sent-is = record-sums (h .sent) (sentSince session past) bytes (k .sent-is) ∙ ap (λ b. map sumOf (take 8 (b ∷ sentSince session past))) (sym e);
         window-is = k .window-is;
@@ -307,14 +307,14 @@ module _ (session : Session) {width : ℕ} (past : List Happened) (h : Handshake
       }
 
   closed-more : barredIn past ≡ false → KeptAs session width (closed ∷ past) (withState h S.Closed)
-  unfolding lastReply keptGreeting nextSealed nextClearNumber sentSince acceptedIn barredIn
+  unfolding lastReply keptGreeting protectedNext nextClearNumber sentSince acceptedIn barredIn
   closed-more l =
       record {
         session-is = k .session-is;
         agreed-is = k .agreed-is;
         hello-is = k .hello-is;
         reply-is = k .reply-is;
-        sealed-is = k .sealed-is;
+        protected-is = k .protected-is;
         clear-is = k .clear-is;
         sent-is = k .sent-is;
         window-is = k .window-is;
@@ -323,14 +323,14 @@ module _ (session : Session) {width : ℕ} (past : List Happened) (h : Handshake
       }
 
   started-more : barredIn past ≡ false → KeptAs session width (started ∷ past) (reopened h)
-  unfolding lastReply keptGreeting nextSealed nextClearNumber sentSince acceptedIn barredIn nothingKept
+  unfolding lastReply keptGreeting protectedNext nextClearNumber sentSince acceptedIn barredIn nothingKept
   started-more l =
       record {
         session-is = k .session-is;
         agreed-is = k .agreed-is;
         hello-is = λ f. refl;
         reply-is = λ f. refl;
-        sealed-is = k .sealed-is;
+        protected-is = k .protected-is;
         clear-is = k .clear-is;
         sent-is = refl;
         window-is = ap emptied (k .window-is) ∙ fresh-means width;
@@ -352,15 +352,15 @@ module _ (session : Session) {width : ℕ} (past : List Happened) (h : Handshake
   by-data bytes out (data-sent g e n l) =
       let b : List ℕ = nextProtected h C.Data bytes in wrote-more true b (take (length b) (laidOver out 0 b)) (laid-front out b)
 
-  by-alert : (sealed : Bool) (level description : ℕ) (lent out : List ℕ) {s : Step} → CallRow (connectionOf h) (send-alert sealed level description lent out) s
-      → KeptAs session width (ifDone (outcomeIn (s .result)) (wrote sealed (take (writtenBy (s .result)) (s .output))) ∷ past) (s .connection .handshake)
-  by-alert sealed level description lent out (alert-16 b) = refused-more
-  by-alert sealed level description lent out (alert-7 g e) = refused-more
-  by-alert sealed level description lent out (alert-8 g e f) = refused-more
-  by-alert sealed level description lent out (alert-15 g e n) = refused-more
-  by-alert sealed level description lent out (alert-6 g e n l) = refused-more
-  by-alert sealed level description lent out (alert-sent {l = v} {k = m} g e n l) =
-      let b : List ℕ = nextAlert sealed h (alertBody v m lent) in wrote-more sealed b (take (length b) (laidOver out 0 b)) (laid-front out b)
+  by-alert : (protected : Bool) (level description : ℕ) (lent out : List ℕ) {s : Step} → CallRow (connectionOf h) (send-alert protected level description lent out) s
+      → KeptAs session width (ifDone (outcomeIn (s .result)) (wrote protected (take (writtenBy (s .result)) (s .output))) ∷ past) (s .connection .handshake)
+  by-alert protected level description lent out (alert-16 b) = refused-more
+  by-alert protected level description lent out (alert-7 g e) = refused-more
+  by-alert protected level description lent out (alert-8 g e f) = refused-more
+  by-alert protected level description lent out (alert-15 g e n) = refused-more
+  by-alert protected level description lent out (alert-6 g e n l) = refused-more
+  by-alert protected level description lent out (alert-sent {l = v} {k = m} g e n l) =
+      let b : List ℕ = nextAlert protected h (alertBody v m lent) in wrote-more protected b (take (length b) (laidOver out 0 b)) (laid-front out b)
 
   by-close : {s : Step} → CallRow (connectionOf h) close s → KeptAs session width (ifDone (outcomeIn (s .result)) closed ∷ past) (s .connection .handshake)
   by-close (close-7 e) = refused-more
@@ -380,8 +380,8 @@ module _ (session : Session) {width : ℕ} (past : List Happened) (h : Handshake
   unfolding stepOf
   kept-more (took random d r) = by-row random d r (row-of h random d r)
   kept-more (sending bytes out) = by-data bytes out (call-of (connectionOf h) (send-data bytes out))
-  kept-more (alerting sealed level description lent out) =
-      by-alert sealed level description lent out (call-of (connectionOf h) (send-alert sealed level description lent out))
+  kept-more (alerting protected level description lent out) =
+      by-alert protected level description lent out (call-of (connectionOf h) (send-alert protected level description lent out))
   kept-more closing = by-close (call-of (connectionOf h) close)
   kept-more starting = by-start (call-of (connectionOf h) start)
 
@@ -394,14 +394,14 @@ kept-all session [] past h k = k
 kept-all session (e ∷ es) past h k = kept-all session es (happening h e ∷ past) (next h e) (kept-more session past h k e)
 
 pub kept-fresh : (id secret : List ℕ) (width : ℕ) → Held width → KeptAs (sessionOf id secret) width [] (freshWith id secret width)
-unfolding lastReply keptGreeting nextSealed nextClearNumber sentSince acceptedIn barredIn nothingKept nothingAgreed
+unfolding lastReply keptGreeting protectedNext nextClearNumber sentSince acceptedIn barredIn nothingKept nothingAgreed
 kept-fresh id secret width held =
     record {
       session-is = λ f. refl;
       agreed-is = λ f. refl;
       hello-is = λ f. refl;
       reply-is = λ f. refl;
-      sealed-is = refl;
+      protected-is = refl;
       clear-is = refl;
       sent-is = refl;
       window-is = fresh-means width;

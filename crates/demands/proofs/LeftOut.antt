@@ -25,12 +25,12 @@ use Rattle.connection.specs.declared.answer.Answer.{Answer}
 use Rattle.connection.specs.declared.answer.Answer.the-variants as W
 use Rattle.connection.specs.declared.answer.Judged.{Judged}
 use Rattle.connection.specs.declared.answer.Slot.{Slot}
-use Rattle.connection.specs.declared.calls.Connection.{Connection}
+use Rattle.connection.specs.declared.connection.Connection.{Connection}
 use Rattle.connection.specs.declared.handshake.Handshake.{Handshake}
 use Rattle.connection.specs.declared.tally.Tally.{Tally}
 use Rattle.demands.specs.Runs.{Call, receive, send-data, send-alert, close, start, Result, received, sent, called, Step, stepOf, stepsOf, finalOf}
 use Rattle.record.specs.declared.keys.Keys.{Keys}
-use Rattle.demands.specs.Genuine.{Genuine, Sealed, RecordOf, keysOf}
+use Rattle.demands.specs.Genuine.{Genuine, Protected, RecordOf, keysOf}
 use Rattle.demands.specs.Table.{Row, ended, Hears, New, Greets}
 use Rattle.demands.specs.Table.{row-ended, row-hello-while-open, row-not-allowed, row-not-first, row-reply, row-hello-malformed, row-unacceptable, row-resent, row-change, row-change-malformed, row-clear-malformed, row-checksum, row-clear-warning, row-clear-critical, row-clear-fatal, row-forged, row-old, row-repeated, row-malformed, row-data, row-warning, row-critical, row-barred, row-open, row-again, row-wrong-finished}
 use Rattle.demands.specs.Calls.{Chain, chain-end, chain-more, CallRow, receive-16, receive-6, receive-framing, receive-records, data-16, data-7, data-8, data-15, data-6, data-sent, alert-16, alert-7, alert-8, alert-15, alert-6, alert-sent, close-7, close-done, start-7, start-8, start-done}
@@ -99,7 +99,7 @@ module _ (k : Keys) (random d : List ℕ) where
       chain-settled more (subst (λ x. Settled k (x .handshake)) (row-is h random d r row) (record-more k h random d r s))
 
 -- a send changes neither state nor keys
-sent-settled : (k : Keys) (sealed : Bool) (h : Handshake) (bytes : List ℕ) → Settled k h → Settled k (afterAlert sealed h bytes)
+sent-settled : (k : Keys) (protected : Bool) (h : Handshake) (bytes : List ℕ) → Settled k h → Settled k (afterAlert protected h bytes)
 unfolding Settled
 sent-settled k true h bytes s = s
 sent-settled k false h bytes s = s
@@ -122,8 +122,8 @@ module _ (k : Keys) (c : Connection) where
   call-settled (alert-8 g e f) go s = s
   call-settled (alert-15 g e n) go s = s
   call-settled (alert-6 g e n l) go s = s
-  call-settled (alert-sent {sealed = sealed} {answered = lent} {l = v} {k = m} g e n l) go s =
-      sent-settled k sealed (c .handshake) (nextAlert sealed (c .handshake) (alertBody v m lent)) s
+  call-settled (alert-sent {protected = protected} {answered = lent} {l = v} {k = m} g e n l) go s =
+      sent-settled k protected (c .handshake) (nextAlert protected (c .handshake) (alertBody v m lent)) s
   call-settled (close-7 e) go s = s
   call-settled (close-done n) go s = inr refl
   call-settled (start-7 e) go s = s
@@ -253,8 +253,8 @@ module _ (k : Keys) (d random : List ℕ) (ng : NoneGenuine k d) where
   Noise : Handshake → Judged → Type 0
   Noise h j = (j .handshake ≡ h) × Silent (j .answer)
 
-  not-sealed : {P : Type 0} (h : Handshake) (r : Record) → keysOf h ≡ k → RecordOf d r → (c : List ℕ) → Sealed (keysOf h) d r c → P
-  not-sealed h r e at c s = absurd (ng r c (record { in-place = at; is-sealed = subst (λ x. Sealed x d r c) e s }))
+  not-protected : {P : Type 0} (h : Handshake) (r : Record) → keysOf h ≡ k → RecordOf d r → (c : List ℕ) → Protected (keysOf h) d r c → P
+  not-protected h r e at c s = absurd (ng r c (record { in-place = at; protected-as = subst (λ x. Protected x d r c) e s }))
 
   open-noise : (h : Handshake) (r : Record) → RecordOf d r → h .state ≡ S.Open → keysOf h ≡ k → {j : Judged} → Row h random d r j → Noise h j
   unfolding Noise
@@ -274,16 +274,16 @@ module _ (k : Keys) (d random : List ℕ) (ng : NoneGenuine k d) where
   open-noise h r at s e (row-clear-critical a t p c x q l) = not-open (h .state) t s
   open-noise h r at s e (row-clear-fatal a t p c x q l) = not-open (h .state) t s
   open-noise h r at s e (row-forged g f) = (refl, silent-9)
-  open-noise h r at s e (row-old c g t x) = not-sealed h r e at c t
-  open-noise h r at s e (row-repeated c g t x) = not-sealed h r e at c t
-  open-noise h r at s e (row-malformed c w n m) = not-sealed h r e at c (n .coded)
-  open-noise h r at s e (row-data c w n x m) = not-sealed h r e at c (n .coded)
-  open-noise h r at s e (row-warning c w a n x m l) = not-sealed h r e at c (n .coded)
-  open-noise h r at s e (row-critical c w a n x m l) = not-sealed h r e at c (n .coded)
-  open-noise h r at s e (row-barred c w a n x m l) = not-sealed h r e at c (n .coded)
-  open-noise h r at s e (row-open c w n t x m) = not-sealed h r e at c (n .coded)
-  open-noise h r at s e (row-again c w n t x m) = not-sealed h r e at c (n .coded)
-  open-noise h r at s e (row-wrong-finished c w n x m) = not-sealed h r e at c (n .coded)
+  open-noise h r at s e (row-old c g t x) = not-protected h r e at c t
+  open-noise h r at s e (row-repeated c g t x) = not-protected h r e at c t
+  open-noise h r at s e (row-malformed c w n m) = not-protected h r e at c (n .coded)
+  open-noise h r at s e (row-data c w n x m) = not-protected h r e at c (n .coded)
+  open-noise h r at s e (row-warning c w a n x m l) = not-protected h r e at c (n .coded)
+  open-noise h r at s e (row-critical c w a n x m l) = not-protected h r e at c (n .coded)
+  open-noise h r at s e (row-barred c w a n x m l) = not-protected h r e at c (n .coded)
+  open-noise h r at s e (row-open c w n t x m) = not-protected h r e at c (n .coded)
+  open-noise h r at s e (row-again c w n t x m) = not-protected h r e at c (n .coded)
+  open-noise h r at s e (row-wrong-finished c w n x m) = not-protected h r e at c (n .coded)
 
   noise : (h : Handshake) (r : Record) → RecordOf d r → Settled k h → Noise h (judgedRecord h random d r)
   unfolding Settled Noise

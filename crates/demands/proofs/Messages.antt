@@ -6,7 +6,7 @@ use Prim.Native.Nat.{ℕ}
 use lib.ListN.{length}
 use Rattle.digest.specs.Pick.{pick}
 use Rattle.connection.specs.Receive.{receivedOf, outputOf, wholeOf}
-use Rattle.connection.specs.declared.calls.Connection.{Connection}
+use Rattle.connection.specs.declared.connection.Connection.{Connection}
 use Rattle.gather.specs.Gatherer.{Left, datagramOf}
 use Rattle.short.specs.Message.{Leaves, isShown, gatheredOf, takenOf, heardOf, messageOf}
 use Rattle.demands.specs.Runs.{Call, receive, Step, receivedAs, stepOf, stepsOf, finalOf}

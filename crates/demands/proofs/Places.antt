@@ -15,7 +15,7 @@ use Rattle.connection.specs.Receive.{slot, slotsOf, endOf, answersOf}
 use Rattle.connection.specs.declared.answer.Answer.{Answer}
 use Rattle.connection.specs.declared.answer.Answer.the-variants as W
 use Rattle.connection.specs.declared.answer.Slot.{Slot}
-use Rattle.connection.specs.declared.calls.Connection.{Connection}
+use Rattle.connection.specs.declared.connection.Connection.{Connection}
 use Rattle.connection.specs.declared.handshake.Handshake.{Handshake}
 use Rattle.demands.specs.Runs.{Call, receive, send-data, send-alert, close, start, Step, stepOf, finalOf}
 use Rattle.demands.specs.Genuine.{RecordOf}
@@ -75,14 +75,14 @@ call-after : (c : Connection) (call : Call) → stepOf c call .connection .hands
 unfolding after stepOf
 call-after c (receive d random out) = receive-after d random out c (call-of c (receive d random out))
 call-after c (send-data bytes out) = refl
-call-after c (send-alert sealed level description answered out) = refl
+call-after c (send-alert protected level description answered out) = refl
 call-after c close = refl
 call-after c start = refl
 
 call-sound : (call : Call) → AllSound (eventsIn call)
 call-sound (receive d random out) = sound-by d random out (eqb (length random) 16) (ltb (length out) 128) (framingOf d) refl refl
 call-sound (send-data bytes out) = (tt, tt)
-call-sound (send-alert sealed level description answered out) = (tt, tt)
+call-sound (send-alert protected level description answered out) = (tt, tt)
 call-sound close = (tt, tt)
 call-sound start = (tt, tt)
 

@@ -22,7 +22,7 @@ use Rattle.connection.specs.Receive.{firstReply, sentBy}
 use Rattle.connection.specs.Send.{nextProtected, afterAlert, nextAlert, alertBody}
 use Rattle.connection.specs.declared.refusal.Refusal.{Refusal}
 use Rattle.connection.specs.declared.refusal.Refusal.the-variants as X
-use Rattle.connection.specs.declared.calls.Connection.{Connection}
+use Rattle.connection.specs.declared.connection.Connection.{Connection}
 use Rattle.connection.specs.declared.calls.Outcome.{Outcome}
 use Rattle.connection.specs.declared.calls.Outcome.the-variants as O
 use Rattle.connection.specs.declared.handshake.Handshake.{Handshake}
@@ -118,26 +118,26 @@ pub data-changes-only : DataChangesOnly
 unfolding DataChangesOnly stepOf
 data-changes-only c bytes out x = data-after c bytes out (call-of c (send-data bytes out)) x
 
-alert-left : (sealed : Bool) (h : Handshake) (bytes : List ℕ) → afterAlert sealed h bytes ≡ afterSending sealed h bytes
+alert-left : (protected : Bool) (h : Handshake) (bytes : List ℕ) → afterAlert protected h bytes ≡ afterSending protected h bytes
 alert-left true h bytes = refl
 alert-left false h bytes = refl
 
-alert-after : (c : Connection) (sealed : Bool) (level description : ℕ) (answered out : List ℕ) {s : Step}
-    → CallRow c (send-alert sealed level description answered out) s → outcomeIn (s .result) ≡ O.Done
-    → s .connection .handshake ≡ afterSending sealed (c .handshake) (take (writtenBy (s .result)) (s .output))
-alert-after c sealed level description answered out (alert-16 b) x = refused-done X.Argument x
-alert-after c sealed level description answered out (alert-7 g e) x = refused-done X.Ended x
-alert-after c sealed level description answered out (alert-8 g e f) x = refused-done X.NotAllowed x
-alert-after c sealed level description answered out (alert-15 g e n) x = refused-done X.Spent x
-alert-after c sealed level description answered out (alert-6 g e n l) x = refused-done X.Room x
-alert-after c sealed level description answered out (alert-sent {l = k} {k = m} g e n l) x =
-    let bytes : List ℕ = nextAlert sealed (c .handshake) (alertBody k m answered) in
-    alert-left sealed (c .handshake) bytes ∙ ap (afterSending sealed (c .handshake)) (sym (laid-front out bytes))
+alert-after : (c : Connection) (protected : Bool) (level description : ℕ) (answered out : List ℕ) {s : Step}
+    → CallRow c (send-alert protected level description answered out) s → outcomeIn (s .result) ≡ O.Done
+    → s .connection .handshake ≡ afterSending protected (c .handshake) (take (writtenBy (s .result)) (s .output))
+alert-after c protected level description answered out (alert-16 b) x = refused-done X.Argument x
+alert-after c protected level description answered out (alert-7 g e) x = refused-done X.Ended x
+alert-after c protected level description answered out (alert-8 g e f) x = refused-done X.NotAllowed x
+alert-after c protected level description answered out (alert-15 g e n) x = refused-done X.Spent x
+alert-after c protected level description answered out (alert-6 g e n l) x = refused-done X.Room x
+alert-after c protected level description answered out (alert-sent {l = k} {k = m} g e n l) x =
+    let bytes : List ℕ = nextAlert protected (c .handshake) (alertBody k m answered) in
+    alert-left protected (c .handshake) bytes ∙ ap (afterSending protected (c .handshake)) (sym (laid-front out bytes))
 
 pub alert-changes-only : AlertChangesOnly
 unfolding AlertChangesOnly stepOf
-alert-changes-only c sealed level description answered out x =
-    alert-after c sealed level description answered out (call-of c (send-alert sealed level description answered out)) x
+alert-changes-only c protected level description answered out x =
+    alert-after c protected level description answered out (call-of c (send-alert protected level description answered out)) x
 
 -- ---- the numbers of the list
 

@@ -38,30 +38,30 @@ use Rattle.demands.specs.Table.{ended}
 use Rattle.demands.specs.Calls.{mayAlert, numberFor, CallRow, data-16, data-7, data-8, data-15, data-6, data-sent, alert-16, alert-7, alert-8, alert-15, alert-6, alert-sent}
 use Rattle.demands.specs.Refusals.{writtenBy}
 use Rattle.demands.specs.Events.{Event, AllSound, Happened, connectionOf, after, history}
-use Rattle.demands.specs.Past.{keysIn, nextSealed, nextClearNumber, barredIn}
+use Rattle.demands.specs.Past.{keysIn, protectedNext, nextClearNumber, barredIn}
 use Rattle.demands.specs.Runs.{freshWith}
 use Rattle.demands.specs.Kept.{KeptAs}
-use Rattle.demands.specs.Sends.{ourKey, SealedRecord, ClearRecord, AlertRecord, DataSentRight, AlertSentRight}
+use Rattle.demands.specs.Sends.{ourKey, ProtectedRecord, ClearRecord, AlertRecord, DataSentRight, AlertSentRight}
 use Rattle.demands.proofs.Genuine.{true-false}
 use Rattle.demands.proofs.Calls.{call-of}
 use Rattle.demands.proofs.Refusals.{outcomeIn, laid-front, refused-done}
 use Rattle.demands.proofs.Kept.{live}
 use Rattle.demands.proofs.Finished.{Progress, progress-all, progress-fresh, keys-are}
-use Rattle.demands.proofs.Wire.{clear-read, clear-fragment, sealed-size, sealed-read, sealed-fragment}
+use Rattle.demands.proofs.Wire.{clear-read, clear-fragment, size-protected, protected-read, protected-fragment}
 
-sealed-record : (k : Keys) (content : Content) (s : ℕ) (body : List ℕ) → s ≤ 65535
-    → SealedRecord k content s body (protectedBy (hmac (ourKey k s)) (sizeOf (k .mac)) false content s body)
-sealed-record k content s body l =
+protected-record : (k : Keys) (content : Content) (s : ℕ) (body : List ℕ) → s ≤ 65535
+    → ProtectedRecord k content s body (protectedBy (hmac (ourKey k s)) (sizeOf (k .mac)) false content s body)
+protected-record k content s body l =
     record {
       r = readBack false true content s (length body + sizeOf (k .mac));
-      reads = sealed-read content s l (ourKey k s) (k .mac) body;
+      reads = protected-read content s l (ourKey k s) (k .mac) body;
       protection = refl;
       content-is = refl;
       number-is = refl;
       short = refl;
-      whole = sym (sealed-size content s l (ourKey k s) (k .mac) body);
+      whole = sym (size-protected content s l (ourKey k s) (k .mac) body);
       in-range = l;
-      coded = sealed-fragment content s l (ourKey k s) (k .mac) body;
+      coded = protected-fragment content s l (ourKey k s) (k .mac) body;
     }
 
 clear-record : (s : ℕ) (body : List ℕ) → 1 ≤ length body → s ≤ 65535 → ClearRecord s body (recordOf false false C.Alert s body)
@@ -78,13 +78,13 @@ clear-record s body some l =
       body-is = clear-fragment C.Alert s l body some;
     }
 
-may-live : (sealed : Bool) (s : State) → mayAlert sealed s ≡ true → ended s ≡ false
-may-live sealed S.Idle e = refl
-may-live sealed S.Replied e = refl
-may-live sealed S.Spec e = refl
-may-live sealed S.Open e = refl
-may-live sealed S.Closed e = true-false false e refl
-may-live sealed S.Barred e = true-false false e refl
+may-live : (protected : Bool) (s : State) → mayAlert protected s ≡ true → ended s ≡ false
+may-live protected S.Idle e = refl
+may-live protected S.Replied e = refl
+may-live protected S.Spec e = refl
+may-live protected S.Open e = refl
+may-live protected S.Closed e = true-false false e refl
+may-live protected S.Barred e = true-false false e refl
 
 one-level : (l v : Level) (g : Graded) → g ≡ G.Is l → g ≡ G.Is v → v ≡ l
 one-level l v g e f = cc
@@ -93,14 +93,14 @@ one-description : (k m : Description) (s : Sorted) → s ≡ D.Assigned k → s 
 one-description k m s e f = cc
 
 module _ (session : Session) {width : ℕ} (past : List Happened) (h : Handshake) (p : Progress session width past h) where
-  sealed-by : (content : Content) (body : List ℕ) → h .protection .protected ≤ 65535 → ended (h .state) ≡ false
-      → SealedRecord (keysIn session past) content (nextSealed past) body (nextProtected h content body)
+  protected-by : (content : Content) (body : List ℕ) → h .protection .protected ≤ 65535 → ended (h .state) ≡ false
+      → ProtectedRecord (keysIn session past) content (protectedNext past) body (nextProtected h content body)
   unfolding nextProtected recordUnder
-  sealed-by content body n l =
+  protected-by content body n l =
       let e : keysOf h ≡ keysIn session past = keys-are session past h p (live session past h (p .kept) l) in
-      subst (λ k. SealedRecord k content (nextSealed past) body (nextProtected h content body)) e
-      (subst (λ s. SealedRecord (keysOf h) content s body (nextProtected h content body)) (p .kept .sealed-is)
-      (sealed-record (keysOf h) content (h .protection .protected) body n))
+      subst (λ k. ProtectedRecord k content (protectedNext past) body (nextProtected h content body)) e
+      (subst (λ s. ProtectedRecord (keysOf h) content s body (nextProtected h content body)) (p .kept .protected-is)
+      (protected-record (keysOf h) content (h .protection .protected) body n))
 
   clear-by : (body : List ℕ) → 1 ≤ length body → h .protection .clear ≤ 65535 → ClearRecord (nextClearNumber past) body (nextClear h body)
   unfolding nextClear
@@ -108,34 +108,34 @@ module _ (session : Session) {width : ℕ} (past : List Happened) (h : Handshake
       subst (λ s. ClearRecord s body (nextClear h body)) (p .kept .clear-is) (clear-record (h .protection .clear) body some n)
 
   data-by : (bytes out : List ℕ) {s : Step} → CallRow (connectionOf h) (send-data bytes out) s → outcomeIn (s .result) ≡ O.Done
-      → SealedRecord (keysIn session past) C.Data (nextSealed past) bytes (take (writtenBy (s .result)) (s .output))
+      → ProtectedRecord (keysIn session past) C.Data (protectedNext past) bytes (take (writtenBy (s .result)) (s .output))
   data-by bytes out (data-16 b) x = refused-done X.Argument x
   data-by bytes out (data-7 g e) x = refused-done X.Ended x
   data-by bytes out (data-8 g e n) x = refused-done X.NotAllowed x
   data-by bytes out (data-15 g e n) x = refused-done X.Spent x
   data-by bytes out (data-6 g e n l) x = refused-done X.Room x
   data-by bytes out (data-sent g e n l) x =
-      subst (SealedRecord (keysIn session past) C.Data (nextSealed past) bytes) (sym (laid-front out (nextProtected h C.Data bytes))) (sealed-by C.Data bytes n (ap ended e))
+      subst (ProtectedRecord (keysIn session past) C.Data (protectedNext past) bytes) (sym (laid-front out (nextProtected h C.Data bytes))) (protected-by C.Data bytes n (ap ended e))
 
-  alert-bytes : (sealed : Bool) (l : Level) (k : Description) (lent : List ℕ) → mayAlert sealed (h .state) ≡ true → numberFor sealed h ≤ 65535
-      → AlertRecord sealed (keysIn session past) past (alertBody l k lent) (nextAlert sealed h (alertBody l k lent))
-  alert-bytes true l k lent e n = sealed-by C.Alert (alertBody l k lent) n (may-live true (h .state) e)
+  alert-bytes : (protected : Bool) (l : Level) (k : Description) (lent : List ℕ) → mayAlert protected (h .state) ≡ true → numberFor protected h ≤ 65535
+      → AlertRecord protected (keysIn session past) past (alertBody l k lent) (nextAlert protected h (alertBody l k lent))
+  alert-bytes true l k lent e n = protected-by C.Alert (alertBody l k lent) n (may-live true (h .state) e)
   alert-bytes false l k lent e n = clear-by (alertBody l k lent) (omega arith) n
 
-  alert-by : (sealed : Bool) (level description : ℕ) (l : Level) (k : Description) (lent out : List ℕ) → levelOf level ≡ G.Is l → sortedOf description ≡ D.Assigned k
-      → {s : Step} → CallRow (connectionOf h) (send-alert sealed level description lent out) s → outcomeIn (s .result) ≡ O.Done
-      → AlertRecord sealed (keysIn session past) past (alertBody l k lent) (take (writtenBy (s .result)) (s .output))
-  alert-by sealed level description l k lent out el ek (alert-16 b) x = refused-done X.Argument x
-  alert-by sealed level description l k lent out el ek (alert-7 g e) x = refused-done X.Ended x
-  alert-by sealed level description l k lent out el ek (alert-8 g e f) x = refused-done X.NotAllowed x
-  alert-by sealed level description l k lent out el ek (alert-15 g e n) x = refused-done X.Spent x
-  alert-by sealed level description l k lent out el ek (alert-6 g e n m) x = refused-done X.Room x
-  alert-by sealed level description l k lent out el ek (alert-sent {l = v} {k = m} g e n q) x =
+  alert-by : (protected : Bool) (level description : ℕ) (l : Level) (k : Description) (lent out : List ℕ) → levelOf level ≡ G.Is l → sortedOf description ≡ D.Assigned k
+      → {s : Step} → CallRow (connectionOf h) (send-alert protected level description lent out) s → outcomeIn (s .result) ≡ O.Done
+      → AlertRecord protected (keysIn session past) past (alertBody l k lent) (take (writtenBy (s .result)) (s .output))
+  alert-by protected level description l k lent out el ek (alert-16 b) x = refused-done X.Argument x
+  alert-by protected level description l k lent out el ek (alert-7 g e) x = refused-done X.Ended x
+  alert-by protected level description l k lent out el ek (alert-8 g e f) x = refused-done X.NotAllowed x
+  alert-by protected level description l k lent out el ek (alert-15 g e n) x = refused-done X.Spent x
+  alert-by protected level description l k lent out el ek (alert-6 g e n m) x = refused-done X.Room x
+  alert-by protected level description l k lent out el ek (alert-sent {l = v} {k = m} g e n q) x =
       let ev : v ≡ l = one-level l v (levelOf level) el (g .level-is) in
       let em : m ≡ k = one-description k m (sortedOf description) ek (g .description-is) in
-      let bytes : List ℕ = nextAlert sealed h (alertBody v m lent) in
-      subst (AlertRecord sealed (keysIn session past) past (alertBody l k lent)) (sym (laid-front out bytes))
-      (subst (λ b. AlertRecord sealed (keysIn session past) past (alertBody l k lent) b) (sym (ap₂ (λ y z. nextAlert sealed h (alertBody y z lent)) ev em)) (alert-bytes sealed l k lent e n))
+      let bytes : List ℕ = nextAlert protected h (alertBody v m lent) in
+      subst (AlertRecord protected (keysIn session past) past (alertBody l k lent)) (sym (laid-front out bytes))
+      (subst (λ b. AlertRecord protected (keysIn session past) past (alertBody l k lent) b) (sym (ap₂ (λ y z. nextAlert protected h (alertBody y z lent)) ev em)) (alert-bytes protected l k lent e n))
 
 pub data-sent-right : DataSentRight
 unfolding DataSentRight stepOf
@@ -146,7 +146,7 @@ data-sent-right id secret width held es sound bytes out x =
 
 pub alert-sent-right : AlertSentRight
 unfolding AlertSentRight stepOf
-alert-sent-right id secret width held es sound sealed level description l k lent out el ek x =
+alert-sent-right id secret width held es sound protected level description l k lent out el ek x =
     let h₀ : Handshake = freshWith id secret width in
-    alert-by (sessionOf id secret) (history h₀ es []) (after h₀ es) (progress-all (sessionOf id secret) es [] h₀ sound (progress-fresh id secret width held)) sealed level description l k lent out el ek
-    (call-of (connectionOf (after h₀ es)) (send-alert sealed level description lent out)) x
+    alert-by (sessionOf id secret) (history h₀ es []) (after h₀ es) (progress-all (sessionOf id secret) es [] h₀ sound (progress-fresh id secret width held)) protected level description l k lent out el ek
+    (call-of (connectionOf (after h₀ es)) (send-alert protected level description lent out)) x

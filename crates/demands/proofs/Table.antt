@@ -38,8 +38,8 @@ use Rattle.connection.specs.State.{kindOf, ruleOf}
 use Rattle.connection.specs.Handshake.{withState, withWindow, keptHello, keptReply, wasSent}
 use Rattle.connection.specs.Answer.{judged, refusing}
 use Rattle.connection.specs.Clear.{greetedBy, greetedAgain, changedBy, heardAlert, heardTo, heardBy, byLevel}
-use Rattle.connection.specs.Sealed.{unsealedBy, contentBy, alertedBy, alertedTo, sealedLevel, verifiedBy, verifiedTo, finishedIn}
-use Rattle.connection.proofs.Unsealing.{genuineIn, contentIn, windowedTo, unsealed-is}
+use Rattle.connection.specs.Protected.{openedRecord, contentBy, alertedBy, alertedTo, protectedLevel, verifiedBy, verifiedTo, finishedIn}
+use Rattle.connection.proofs.OpeningRecords.{genuineIn, contentIn, windowedTo, opened-record-is}
 use Rattle.connection.specs.Judge.{judgedRecord, ruledBy, fragmentOf, kindIn}
 use Rattle.connection.specs.declared.state.State.{State}
 use Rattle.connection.specs.declared.state.State.the-variants as S
@@ -51,22 +51,22 @@ use Rattle.connection.specs.declared.refusal.Refusal.the-variants as X
 use Rattle.connection.specs.declared.answer.Answer.the-variants as W
 use Rattle.connection.specs.declared.answer.Judged.{Judged}
 use Rattle.connection.specs.declared.handshake.Handshake.{Handshake}
-use Rattle.demands.specs.Genuine.{Sealed, keysOf}
+use Rattle.demands.specs.Genuine.{Protected, keysOf}
 use Rattle.demands.specs.Course.{contentBytes}
-use Rattle.demands.specs.Table.{TableHolds, Row, ended, beginsHello, helloFor, isHello, openIs, helloWhileOpen, clearAllowed, sealedAllowed, allowed, Hears, Guarded, New, Greets, MalformedAs}
+use Rattle.demands.specs.Table.{TableHolds, Row, ended, beginsHello, helloFor, isHello, openIs, helloWhileOpen, clearAllowed, protectedAllowed, allowed, Hears, Guarded, New, Greets, MalformedAs}
 use Rattle.demands.specs.Table.{row-ended, row-hello-while-open, row-not-allowed, row-not-first, row-reply, row-hello-malformed, row-unacceptable, row-resent, row-change, row-change-malformed, row-clear-malformed, row-checksum, row-clear-warning, row-clear-critical, row-clear-fatal, row-forged, row-old, row-repeated, row-malformed, row-data, row-warning, row-critical, row-barred, row-open, row-again, row-wrong-finished}
-use Rattle.demands.proofs.Genuine.{true-false, sealed-right, sealed-content, right-sealed}
+use Rattle.demands.proofs.Genuine.{true-false, protected-right, protected-content, right-protected}
 
 -- what a record is, by whether its fragment begins with byte 1
 abbrev kindBy : Content → Bool → Bool → Kind
 kindBy C.ChangeCipherSpec false one = K.ClearChange
-kindBy C.ChangeCipherSpec true one = K.SealedChange
+kindBy C.ChangeCipherSpec true one = K.ProtectedChange
 kindBy C.Alert false one = K.ClearAlert
-kindBy C.Alert true one = K.SealedAlert
+kindBy C.Alert true one = K.ProtectedAlert
 kindBy C.Handshake false one = pick one K.ClearHello K.OtherClear
-kindBy C.Handshake true one = K.SealedHandshake
+kindBy C.Handshake true one = K.ProtectedHandshake
 kindBy C.Data false one = K.OtherClear
-kindBy C.Data true one = K.SealedData
+kindBy C.Data true one = K.ProtectedData
 
 kind-by : (c : Content) (p : Bool) (first : ℕ) → kindBy c p (eqb first 1) ≡ kindOf c p first
 kind-by C.ChangeCipherSpec false first = refl
@@ -79,7 +79,7 @@ kind-by C.Data false first = refl
 kind-by C.Data true first = refl
 
 not-allowed-rule : (s : State) (c : Content) (p one : Bool) → ended s ≡ false → pick (openIs s) (helloFor c p one) false ≡ false
-    → pick p (sealedAllowed s c) (clearAllowed s c one) ≡ false → ruleOf s (kindBy c p one) ≡ T.NotAllowed
+    → pick p (protectedAllowed s c) (clearAllowed s c one) ≡ false → ruleOf s (kindBy c p one) ≡ T.NotAllowed
 not-allowed-rule S.Idle C.ChangeCipherSpec false one e o a = refl
 not-allowed-rule S.Idle C.ChangeCipherSpec true one e o a = refl
 not-allowed-rule S.Idle C.Alert false one e o a = refl
@@ -127,19 +127,19 @@ ended-rule S.Open k e = true-false false e refl
 ended-rule S.Closed k e = refl
 ended-rule S.Barred k e = refl
 
-unseal-rule : (s : State) (c : Content) (one : Bool) → sealedAllowed s c ≡ true → ruleOf s (kindBy c true one) ≡ T.Unseal
-unseal-rule S.Idle c one e = true-false false e refl
-unseal-rule S.Replied c one e = true-false false e refl
-unseal-rule S.Spec C.ChangeCipherSpec one e = true-false false e refl
-unseal-rule S.Spec C.Alert one e = refl
-unseal-rule S.Spec C.Handshake one e = refl
-unseal-rule S.Spec C.Data one e = true-false false e refl
-unseal-rule S.Open C.ChangeCipherSpec one e = refl
-unseal-rule S.Open C.Alert one e = refl
-unseal-rule S.Open C.Handshake one e = refl
-unseal-rule S.Open C.Data one e = refl
-unseal-rule S.Closed c one e = true-false false e refl
-unseal-rule S.Barred c one e = true-false false e refl
+open-record-rule : (s : State) (c : Content) (one : Bool) → protectedAllowed s c ≡ true → ruleOf s (kindBy c true one) ≡ T.OpenRecord
+open-record-rule S.Idle c one e = true-false false e refl
+open-record-rule S.Replied c one e = true-false false e refl
+open-record-rule S.Spec C.ChangeCipherSpec one e = true-false false e refl
+open-record-rule S.Spec C.Alert one e = refl
+open-record-rule S.Spec C.Handshake one e = refl
+open-record-rule S.Spec C.Data one e = true-false false e refl
+open-record-rule S.Open C.ChangeCipherSpec one e = refl
+open-record-rule S.Open C.Alert one e = refl
+open-record-rule S.Open C.Handshake one e = refl
+open-record-rule S.Open C.Data one e = refl
+open-record-rule S.Closed c one e = true-false false e refl
+open-record-rule S.Barred c one e = true-false false e refl
 
 pub hello-parts : (c : Content) (p one : Bool) → helloFor c p one ≡ true → (c ≡ C.Handshake) × (p ≡ false) × (one ≡ true)
 hello-parts C.ChangeCipherSpec p one e = true-false false e refl
@@ -169,14 +169,14 @@ heard-in S.Barred e = true-false false e refl
 
 module _ (h : Handshake) (random d : List ℕ) (r : Record) where
   allowed-is : (s : State) (c : Content) (p one : Bool) → h .state ≡ s → r .content ≡ c → r .protected ≡ p → beginsHello d r ≡ one
-      → allowed (h .state) d r ≡ pick p (sealedAllowed s c) (clearAllowed s c one)
-  allowed-is s c p one es ec ep eo = λ i. pick (ep i) (sealedAllowed (es i) (ec i)) (clearAllowed (es i) (ec i) (eo i))
+      → allowed (h .state) d r ≡ pick p (protectedAllowed s c) (clearAllowed s c one)
+  allowed-is s c p one es ec ep eo = λ i. pick (ep i) (protectedAllowed (es i) (ec i)) (clearAllowed (es i) (ec i) (eo i))
 
   hello-is : (c : Content) (p one : Bool) → r .content ≡ c → r .protected ≡ p → beginsHello d r ≡ one → isHello d r ≡ helloFor c p one
   hello-is c p one ec ep eo = λ i. helloFor (ec i) (ep i) (eo i)
 
   refuse-8 : (s : State) (c : Content) (p one : Bool) → h .state ≡ s → r .content ≡ c → r .protected ≡ p → beginsHello d r ≡ one
-      → ended s ≡ false → pick (openIs s) (helloFor c p one) false ≡ false → pick p (sealedAllowed s c) (clearAllowed s c one) ≡ false
+      → ended s ≡ false → pick (openIs s) (helloFor c p one) false ≡ false → pick p (protectedAllowed s c) (clearAllowed s c one) ≡ false
       → Row h random d r (refusing X.NotAllowed h)
   refuse-8 s c p one es ec ep eo e o a =
       row-not-allowed (ap ended es ∙ e) ((λ i. pick (openIs (es i)) (helloFor (ec i) (ep i) (eo i)) false) ∙ o) (allowed-is s c p one es ec ep eo ∙ a)
@@ -245,21 +245,21 @@ module _ (h : Handshake) (random d : List ℕ) (r : Record) where
       positive : (z : ℕ) → (z ≡ 0 → ⊥) → 0 < z
       positive z e = omega arith
 
-  sealed-level-row : (w : Window) (a : Alert) → New h d r (contentIn h (fragmentOf d r)) w → r .content ≡ C.Alert
+  protected-level-row : (w : Window) (a : Alert) → New h d r (contentIn h (fragmentOf d r)) w → r .content ≡ C.Alert
       → alertOf (contentIn h (fragmentOf d r)) ≡ R.WellFormed a → (l : Level) → a .level ≡ l
-      → Row h random d r (sealedLevel (withWindow h w) l (a .description))
-  sealed-level-row w a n c e L.Warning l = row-warning (contentIn h (fragmentOf d r)) w a n c e l
-  sealed-level-row w a n c e L.Critical l = row-critical (contentIn h (fragmentOf d r)) w a n c e l
-  sealed-level-row w a n c e L.Fatal l = row-barred (contentIn h (fragmentOf d r)) w a n c e l
+      → Row h random d r (protectedLevel (withWindow h w) l (a .description))
+  protected-level-row w a n c e L.Warning l = row-warning (contentIn h (fragmentOf d r)) w a n c e l
+  protected-level-row w a n c e L.Critical l = row-critical (contentIn h (fragmentOf d r)) w a n c e l
+  protected-level-row w a n c e L.Fatal l = row-barred (contentIn h (fragmentOf d r)) w a n c e l
 
   alert-row : (w : Window) → New h d r (contentIn h (fragmentOf d r)) w → r .content ≡ C.Alert → (x : Reading)
       → alertOf (contentIn h (fragmentOf d r)) ≡ x → Row h random d r (alertedTo (withWindow h w) x)
   alert-row w n c R.Malformed e =
       row-malformed (contentIn h (fragmentOf d r)) w n (subst (λ x. MalformedAs x (contentIn h (fragmentOf d r)) (h .expected)) (sym c) e)
-  alert-row w n c (R.WellFormed a) e = sealed-level-row w a n c e (a .level) refl
+  alert-row w n c (R.WellFormed a) e = protected-level-row w a n c e (a .level) refl
 
   right-row : (w : Window) → New h d r (contentIn h (fragmentOf d r)) w → r .content ≡ C.Handshake
-      → judgedOf (contentIn h (fragmentOf d r)) (h .expected) ≡ F.Right → (s : State) → h .state ≡ s → sealedAllowed s C.Handshake ≡ true
+      → judgedOf (contentIn h (fragmentOf d r)) (h .expected) ≡ F.Right → (s : State) → h .state ≡ s → protectedAllowed s C.Handshake ≡ true
       → Row h random d r (finishedIn (withWindow h w) s)
   right-row w n c e S.Idle es a = true-false false a refl
   right-row w n c e S.Replied es a = true-false false a refl
@@ -271,7 +271,7 @@ module _ (h : Handshake) (random d : List ℕ) (r : Record) where
   finished-row : (w : Window) → New h d r (contentIn h (fragmentOf d r)) w → r .content ≡ C.Handshake → (x : Verified)
       → judgedOf (contentIn h (fragmentOf d r)) (h .expected) ≡ x → Row h random d r (verifiedTo (withWindow h w) x)
   finished-row w n c F.Right e =
-      right-row w n c e (h .state) refl (ap (sealedAllowed (h .state)) (sym c) ∙ n .guarded .kind)
+      right-row w n c e (h .state) refl (ap (protectedAllowed (h .state)) (sym c) ∙ n .guarded .kind)
   finished-row w n c F.Wrong e = row-wrong-finished (contentIn h (fragmentOf d r)) w n c e
   finished-row w n c F.Malformed e =
       row-malformed (contentIn h (fragmentOf d r)) w n (subst (λ x. MalformedAs x (contentIn h (fragmentOf d r)) (h .expected)) (sym c) e)
@@ -285,26 +285,26 @@ module _ (h : Handshake) (random d : List ℕ) (r : Record) where
   content-row C.Handshake one c w n = finished-row w n c (judgedOf (contentIn h (fragmentOf d r)) (h .expected)) refl
   content-row C.Data one c w n = data-row w n c (eqb (length (contentIn h (fragmentOf d r))) 0) refl
 
-  window-row : (c : Content) (one : Bool) → r .content ≡ c → Guarded h r → Sealed (keysOf h) d r (contentIn h (fragmentOf d r)) → (x : Acceptance)
+  window-row : (c : Content) (one : Bool) → r .content ≡ c → Guarded h r → Protected (keysOf h) d r (contentIn h (fragmentOf d r)) → (x : Acceptance)
       → acceptOf (h .protection .window) (r .number) ≡ x
       → Row h random d r (windowedTo h (kindBy c true one) (r .number) (r .start + r .head) (contentIn h (fragmentOf d r)) x)
   window-row c one ec g s A.TooOld e = row-old (contentIn h (fragmentOf d r)) g s e
   window-row c one ec g s A.Repeated e = row-repeated (contentIn h (fragmentOf d r)) g s e
   window-row c one ec g s (A.New w n) e = content-row c one ec w (record { guarded = g; coded = s; arrived = n; accepted = e })
 
-  unseal-row : (s : State) (c : Content) (one : Bool) → h .state ≡ s → r .content ≡ c → r .protected ≡ true → sealedAllowed s c ≡ true
+  open-record-row : (s : State) (c : Content) (one : Bool) → h .state ≡ s → r .content ≡ c → r .protected ≡ true → protectedAllowed s c ≡ true
       → (b : Bool) → genuineIn h (r .byte) (r .number) (fragmentOf d r) ≡ b
       → Row h random d r (pick b (windowedTo h (kindBy c true one) (r .number) (r .start + r .head) (contentIn h (fragmentOf d r)) (acceptOf (h .protection .window) (r .number))) (refusing X.Forged h))
-  unseal-row s c one es ec ep a true b =
-      window-row c one ec (record { protection = ep; kind = ap₂ sealedAllowed es ec ∙ a }) (right-sealed (keysOf h) d r ep b) (acceptOf (h .protection .window) (r .number)) refl
-  unseal-row s c one es ec ep a false b =
-      row-forged (record { protection = ep; kind = ap₂ sealedAllowed es ec ∙ a }) (λ x z. true-false (genuineIn h (r .byte) (r .number) (fragmentOf d r)) (sealed-right (keysOf h) d r x z) b)
+  open-record-row s c one es ec ep a true b =
+      window-row c one ec (record { protection = ep; kind = ap₂ protectedAllowed es ec ∙ a }) (right-protected (keysOf h) d r ep b) (acceptOf (h .protection .window) (r .number)) refl
+  open-record-row s c one es ec ep a false b =
+      row-forged (record { protection = ep; kind = ap₂ protectedAllowed es ec ∙ a }) (λ x z. true-false (genuineIn h (r .byte) (r .number) (fragmentOf d r)) (protected-right (keysOf h) d r x z) b)
 
-  unseal-at : (s : State) (c : Content) (one : Bool) → h .state ≡ s → r .content ≡ c → r .protected ≡ true → sealedAllowed s c ≡ true
-      → Row h random d r (unsealedBy h (kindBy c true one) (r .byte) (r .number) (r .start + r .head) (fragmentOf d r))
-  unseal-at s c one es ec ep a =
-      subst (Row h random d r) (sym (unsealed-is h (kindBy c true one) (r .byte) (r .number) (r .start + r .head) (fragmentOf d r)))
-      (unseal-row s c one es ec ep a (genuineIn h (r .byte) (r .number) (fragmentOf d r)) refl)
+  open-record-at : (s : State) (c : Content) (one : Bool) → h .state ≡ s → r .content ≡ c → r .protected ≡ true → protectedAllowed s c ≡ true
+      → Row h random d r (openedRecord h (kindBy c true one) (r .byte) (r .number) (r .start + r .head) (fragmentOf d r))
+  open-record-at s c one es ec ep a =
+      subst (Row h random d r) (sym (opened-record-is h (kindBy c true one) (r .byte) (r .number) (r .start + r .head) (fragmentOf d r)))
+      (open-record-row s c one es ec ep a (genuineIn h (r .byte) (r .number) (fragmentOf d r)) refl)
 
   by-state : (s : State) (c : Content) (p one : Bool) → h .state ≡ s → r .content ≡ c → r .protected ≡ p → beginsHello d r ≡ one
       → Row h random d r (ruledBy h random (ruleOf s (kindBy c p one)) (kindBy c p one) (r .byte) (r .number) (r .start) (r .start + r .head) (fragmentOf d r))
@@ -330,21 +330,21 @@ module _ (h : Handshake) (random d : List ℕ) (r : Record) where
   by-state S.Spec C.ChangeCipherSpec false one es ec ep eo = refuse-8 S.Spec C.ChangeCipherSpec false one es ec ep eo refl refl refl
   by-state S.Spec C.ChangeCipherSpec true one es ec ep eo = refuse-8 S.Spec C.ChangeCipherSpec true one es ec ep eo refl refl refl
   by-state S.Spec C.Alert false one es ec ep eo = hear-row (inr es) ep ec (alertOf (fragmentOf d r)) refl
-  by-state S.Spec C.Alert true one es ec ep eo = unseal-at S.Spec C.Alert one es ec ep refl
+  by-state S.Spec C.Alert true one es ec ep eo = open-record-at S.Spec C.Alert one es ec ep refl
   by-state S.Spec C.Handshake false true es ec ep eo = again-row (inr es) (allowed-is S.Spec C.Handshake false true es ec ep eo) (hello-is C.Handshake false true ec ep eo) (eqb (r .start) 0) refl
   by-state S.Spec C.Handshake false false es ec ep eo = refuse-8 S.Spec C.Handshake false false es ec ep eo refl refl refl
-  by-state S.Spec C.Handshake true one es ec ep eo = unseal-at S.Spec C.Handshake one es ec ep refl
+  by-state S.Spec C.Handshake true one es ec ep eo = open-record-at S.Spec C.Handshake one es ec ep refl
   by-state S.Spec C.Data false one es ec ep eo = refuse-8 S.Spec C.Data false one es ec ep eo refl refl refl
   by-state S.Spec C.Data true one es ec ep eo = refuse-8 S.Spec C.Data true one es ec ep eo refl refl refl
   by-state S.Open C.ChangeCipherSpec false one es ec ep eo = refuse-8 S.Open C.ChangeCipherSpec false one es ec ep eo refl refl refl
-  by-state S.Open C.ChangeCipherSpec true one es ec ep eo = unseal-at S.Open C.ChangeCipherSpec one es ec ep refl
+  by-state S.Open C.ChangeCipherSpec true one es ec ep eo = open-record-at S.Open C.ChangeCipherSpec one es ec ep refl
   by-state S.Open C.Alert false one es ec ep eo = refuse-8 S.Open C.Alert false one es ec ep eo refl refl refl
-  by-state S.Open C.Alert true one es ec ep eo = unseal-at S.Open C.Alert one es ec ep refl
+  by-state S.Open C.Alert true one es ec ep eo = open-record-at S.Open C.Alert one es ec ep refl
   by-state S.Open C.Handshake false true es ec ep eo = row-hello-while-open (λ i. pick (openIs (es i)) (helloFor (ec i) (ep i) (eo i)) false)
   by-state S.Open C.Handshake false false es ec ep eo = refuse-8 S.Open C.Handshake false false es ec ep eo refl refl refl
-  by-state S.Open C.Handshake true one es ec ep eo = unseal-at S.Open C.Handshake one es ec ep refl
+  by-state S.Open C.Handshake true one es ec ep eo = open-record-at S.Open C.Handshake one es ec ep refl
   by-state S.Open C.Data false one es ec ep eo = refuse-8 S.Open C.Data false one es ec ep eo refl refl refl
-  by-state S.Open C.Data true one es ec ep eo = unseal-at S.Open C.Data one es ec ep refl
+  by-state S.Open C.Data true one es ec ep eo = open-record-at S.Open C.Data one es ec ep refl
   by-state S.Closed c p one es ec ep eo = row-ended (ap ended es)
   by-state S.Barred c p one es ec ep eo = row-ended (ap ended es)
 
@@ -440,25 +440,25 @@ module _ (h : Handshake) (random d : List ℕ) (r : Record) where
   unfolding ruledBy
   guarded-is g =
       ruled-at (h .state) (r .content) true (beginsHello d r) refl refl (g .protection) refl
-      ∙ ap (λ x. ruledBy h random x (kindBy (r .content) true (beginsHello d r)) (r .byte) (r .number) (r .start) (r .start + r .head) (fragmentOf d r)) (unseal-rule (h .state) (r .content) (beginsHello d r) (g .kind))
-      ∙ unsealed-is h (kindBy (r .content) true (beginsHello d r)) (r .byte) (r .number) (r .start + r .head) (fragmentOf d r)
+      ∙ ap (λ x. ruledBy h random x (kindBy (r .content) true (beginsHello d r)) (r .byte) (r .number) (r .start) (r .start + r .head) (fragmentOf d r)) (open-record-rule (h .state) (r .content) (beginsHello d r) (g .kind))
+      ∙ opened-record-is h (kindBy (r .content) true (beginsHello d r)) (r .byte) (r .number) (r .start + r .head) (fragmentOf d r)
 
   forged-is : Guarded h r → genuineIn h (r .byte) (r .number) (fragmentOf d r) ≡ false → judgedRecord h random d r ≡ refusing X.Forged h
   forged-is g e =
       guarded-is g
       ∙ ap (λ b. pick b (windowedTo h (kindBy (r .content) true (beginsHello d r)) (r .number) (r .start + r .head) (contentIn h (fragmentOf d r)) (acceptOf (h .protection .window) (r .number))) (refusing X.Forged h)) e
 
-  sealed-is : (c : List ℕ) → Guarded h r → Sealed (keysOf h) d r c → (x : Acceptance) → acceptOf (h .protection .window) (r .number) ≡ x
+  protected-is : (c : List ℕ) → Guarded h r → Protected (keysOf h) d r c → (x : Acceptance) → acceptOf (h .protection .window) (r .number) ≡ x
       → judgedRecord h random d r ≡ windowedTo h (kindBy (r .content) true (beginsHello d r)) (r .number) (r .start + r .head) c x
-  sealed-is c g s x e =
+  protected-is c g s x e =
       guarded-is g
-      ∙ ap (λ b. pick b (windowedTo h (kindBy (r .content) true (beginsHello d r)) (r .number) (r .start + r .head) (contentIn h (fragmentOf d r)) (acceptOf (h .protection .window) (r .number))) (refusing X.Forged h)) (sealed-right (keysOf h) d r c s)
-      ∙ ap₂ (λ y z. windowedTo h (kindBy (r .content) true (beginsHello d r)) (r .number) (r .start + r .head) y z) (sealed-content (keysOf h) d r c s) e
+      ∙ ap (λ b. pick b (windowedTo h (kindBy (r .content) true (beginsHello d r)) (r .number) (r .start + r .head) (contentIn h (fragmentOf d r)) (acceptOf (h .protection .window) (r .number))) (refusing X.Forged h)) (protected-right (keysOf h) d r c s)
+      ∙ ap₂ (λ y z. windowedTo h (kindBy (r .content) true (beginsHello d r)) (r .number) (r .start + r .head) y z) (protected-content (keysOf h) d r c s) e
 
   new-is : (c : List ℕ) (w : Window) → New h d r c w → (x : Content) → r .content ≡ x
       → judgedRecord h random d r ≡ contentBy (withWindow h w) (kindBy x true (beginsHello d r)) (r .number) (r .start + r .head) c
   new-is c w n x e =
-      sealed-is c (n .guarded) (n .coded) (A.New w (n .arrived)) (n .accepted)
+      protected-is c (n .guarded) (n .coded) (A.New w (n .arrived)) (n .accepted)
       ∙ ap (λ y. contentBy (withWindow h w) (kindBy y true (beginsHello d r)) (r .number) (r .start + r .head) c) e
 
   malformed-is : (c : List ℕ) (w : Window) → New h d r c w → (x : Content) → r .content ≡ x → MalformedAs x c (h .expected)
@@ -479,19 +479,19 @@ module _ (h : Handshake) (random d : List ℕ) (r : Record) where
       ∙ ap (λ b. pick b (refusing X.Malformed (withWindow h w)) (judged (W.Data (r .number) (r .start + r .head) (length c)) (withWindow h w))) (ne-eqb (length c) 0 (λ z. omega arith))
 
   alert-is : (c : List ℕ) (w : Window) (a : Alert) → New h d r c w → r .content ≡ C.Alert → alertOf c ≡ R.WellFormed a → (l : Level) → a .level ≡ l
-      → judgedRecord h random d r ≡ sealedLevel (withWindow h w) l (a .description)
+      → judgedRecord h random d r ≡ protectedLevel (withWindow h w) l (a .description)
   unfolding contentBy alertedBy
   alert-is c w a n e m l el =
-      new-is c w n C.Alert e ∙ ap (alertedTo (withWindow h w)) m ∙ ap (λ x. sealedLevel (withWindow h w) x (a .description)) el
+      new-is c w n C.Alert e ∙ ap (alertedTo (withWindow h w)) m ∙ ap (λ x. protectedLevel (withWindow h w) x (a .description)) el
 
   abbrev verifiedIn : Window → State → Verified → Judged
   verifiedIn w s F.Right = finishedIn (withWindow h w) s
   verifiedIn w s F.Wrong = judged (W.Refused X.WrongFinished) (withState (withWindow h w) S.Closed)
   verifiedIn w s F.Malformed = refusing X.Malformed (withWindow h w)
 
-  not-right : Guarded h r → ((c : List ℕ) → Sealed (keysOf h) d r c → ⊥) → (b : Bool) → genuineIn h (r .byte) (r .number) (fragmentOf d r) ≡ b
+  not-right : Guarded h r → ((c : List ℕ) → Protected (keysOf h) d r c → ⊥) → (b : Bool) → genuineIn h (r .byte) (r .number) (fragmentOf d r) ≡ b
       → genuineIn h (r .byte) (r .number) (fragmentOf d r) ≡ false
-  not-right g f true e = absurd (f (contentIn h (fragmentOf d r)) (right-sealed (keysOf h) d r (g .protection) e))
+  not-right g f true e = absurd (f (contentIn h (fragmentOf d r)) (right-protected (keysOf h) d r (g .protection) e))
   not-right g f false e = e
 
   finished-is : (c : List ℕ) (w : Window) → New h d r c w → r .content ≡ C.Handshake → (x : Verified) → judgedOf c (h .expected) ≡ x
@@ -515,7 +515,7 @@ module _ (h : Handshake) (random d : List ℕ) (r : Record) where
       ruled-by T.NotAllowed (not-allowed-rule (h .state) (r .content) (r .protected) (beginsHello d r) e o a)
   row-is (row-not-first a i z) =
       let q = hello-parts (r .content) (r .protected) (beginsHello d r) i in
-      not-first-is i z (heard-in (h .state) (sym (λ k. pick (q .1 k) (sealedAllowed (h .state) (q .0 k)) (clearAllowed (h .state) (q .0 k) (q .2 k))) ∙ a))
+      not-first-is i z (heard-in (h .state) (sym (λ k. pick (q .1 k) (protectedAllowed (h .state) (q .0 k)) (clearAllowed (h .state) (q .0 k) (q .2 k))) ∙ a))
   row-is (row-reply plan g e) = greets-is g (H.Accepted plan) e
   row-is (row-hello-malformed fault g e) = greets-is g (H.Malformed fault) e
   row-is (row-unacceptable condition g e) = greets-is g (H.Unacceptable condition) e
@@ -534,8 +534,8 @@ module _ (h : Handshake) (random d : List ℕ) (r : Record) where
   row-is (row-clear-critical a s p c e k l) = heard-level a s p c e k L.Critical l
   row-is (row-clear-fatal a s p c e k l) = heard-level a s p c e k L.Fatal l
   row-is (row-forged g f) = forged-is g (not-right g f (genuineIn h (r .byte) (r .number) (fragmentOf d r)) refl)
-  row-is (row-old c g s e) = sealed-is c g s A.TooOld e
-  row-is (row-repeated c g s e) = sealed-is c g s A.Repeated e
+  row-is (row-old c g s e) = protected-is c g s A.TooOld e
+  row-is (row-repeated c g s e) = protected-is c g s A.Repeated e
   row-is (row-malformed c w n m) = malformed-is c w n (r .content) refl m
   row-is (row-data c w n e m) = data-is c w n e m
   row-is (row-warning c w a n e m l) = alert-is c w a n e m L.Warning l

@@ -18,7 +18,7 @@ use Rattle.record.specs.declared.window.Window.{Window}
 use Rattle.record.specs.declared.window.Acceptance.the-variants as A
 use Rattle.record.proofs.Histories.{meaning, new-when, repeated-when}
 use Rattle.record.proofs.RoundTrip.{readBack}
-use Rattle.record.proofs.Sealed.{size-most}
+use Rattle.record.proofs.ProtectedBytes.{size-most}
 use Rattle.message.specs.Alert.{alertBytes}
 use Rattle.message.specs.declared.alert.Alert.{Alert}
 use Rattle.message.specs.declared.alert.Description.{Description}
@@ -33,20 +33,20 @@ use Rattle.connection.specs.declared.refusal.Refusal.the-variants as X
 use Rattle.connection.specs.declared.answer.Answer.{Answer}
 use Rattle.connection.specs.declared.answer.Answer.the-variants as W
 use Rattle.connection.specs.declared.answer.Judged.{Judged}
-use Rattle.connection.specs.declared.calls.Connection.{Connection}
+use Rattle.connection.specs.declared.connection.Connection.{Connection}
 use Rattle.connection.specs.declared.handshake.Handshake.{Handshake}
 use Rattle.connection.specs.declared.receive.Taken.the-variants as T
 use Rattle.demands.specs.Runs.{receive, received, stepOf}
 use Rattle.record.specs.declared.keys.Keys.{Keys}
-use Rattle.demands.specs.Genuine.{Sealed, keysOf, unitKey}
-use Rattle.demands.specs.Table.{Row, New, Guarded, sealedAllowed, row-ended, row-repeated, row-malformed, row-data, row-critical}
+use Rattle.demands.specs.Genuine.{Protected, keysOf, unitKey}
+use Rattle.demands.specs.Table.{Row, New, Guarded, protectedAllowed, row-ended, row-repeated, row-malformed, row-data, row-critical}
 use Rattle.demands.specs.Calls.{Chain, chain-end, chain-more}
 use Rattle.demands.specs.Events.{connectionOf}
-use Rattle.demands.specs.Traps.{longSealed, lastSealed, JustOpen, EmptyThenData, TwiceInOne, ClosedBetween}
+use Rattle.demands.specs.Traps.{longProtected, lastProtected, JustOpen, EmptyThenData, TwiceInOne, ClosedBetween}
 use Rattle.demands.proofs.Table.{row-is}
 use Rattle.demands.proofs.Calls.{by-chain, call-is}
 use Rattle.demands.proofs.Refusals.{no-reply}
-use Rattle.demands.proofs.Wire.{front-framed, last-framed, sized, sealed-size, sealed-read, sealed-framed, sealed-fragment, long-size, long-read, long-fragment, behind}
+use Rattle.demands.proofs.Wire.{front-framed, last-framed, sized, size-protected, protected-read, protected-framed, protected-fragment, long-size, long-read, long-fragment, behind}
 
 -- the result of a receive, by its chain, where the first record gets no reply
 result-by : (c : Connection) (d random out : List ℕ) (r : Record) (rs : List Record) (j : Judged) (answers : List Answer) (last : Handshake)
@@ -88,18 +88,18 @@ takes-8 width held = meaning width held (7 ∷ 0 ∷ []) 8 ∙ new-when width (7
 
 module _ (h : Handshake) (is-open : h .state ≡ S.Open) (width : ℕ) (held : Held width) (window-is : h .protection .window ≡ w₀ width) where
   guarded : (x : Window) (r : Record) → r .protected ≡ true → Guarded (withWindow h x) r
-  guarded x r p = record { protection = p; kind = ap (λ s. sealedAllowed s (r .content)) is-open }
+  guarded x r p = record { protection = p; kind = ap (λ s. protectedAllowed s (r .content)) is-open }
 
-  pub new-7 : (d : List ℕ) (r : Record) (c : List ℕ) → r .number ≡ 7 → Sealed (keysOf h) d r c → New h d r c (w₇ width)
+  pub new-7 : (d : List ℕ) (r : Record) (c : List ℕ) → r .number ≡ 7 → Protected (keysOf h) d r c → New h d r c (w₇ width)
   new-7 d r c e s =
       record {
-        guarded = record { protection = s .is-protected; kind = ap (λ x. sealedAllowed x (r .content)) is-open };
+        guarded = record { protection = s .is-protected; kind = ap (λ x. protectedAllowed x (r .content)) is-open };
         coded = s;
         arrived = arrivedOf width (7 ∷ 0 ∷ []);
         accepted = ap₂ (λ w n. acceptOf w n) window-is e ∙ takes-7 width held;
       }
 
-  new-8 : (d : List ℕ) (r : Record) (c : List ℕ) → r .number ≡ 8 → Sealed (keysOf h) d r c → New (withWindow h (w₇ width)) d r c (w₈ width)
+  new-8 : (d : List ℕ) (r : Record) (c : List ℕ) → r .number ≡ 8 → Protected (keysOf h) d r c → New (withWindow h (w₇ width)) d r c (w₈ width)
   new-8 d r c e s =
       record {
         guarded = guarded (w₇ width) r (s .is-protected);
@@ -108,7 +108,7 @@ module _ (h : Handshake) (is-open : h .state ≡ S.Open) (width : ℕ) (held : H
         accepted = ap (acceptOf (w₇ width)) e ∙ takes-8 width held;
       }
 
-  repeated-7 : (random d : List ℕ) (r : Record) (c : List ℕ) → r .number ≡ 7 → Sealed (keysOf h) d r c
+  repeated-7 : (random d : List ℕ) (r : Record) (c : List ℕ) → r .number ≡ 7 → Protected (keysOf h) d r c
       → Row (withWindow h (w₇ width)) random d r (refusing X.Repeated (withWindow h (w₇ width)))
   repeated-7 random d r c e s = row-repeated c (guarded (w₇ width) r (s .is-protected)) s (ap (acceptOf (w₇ width)) e ∙ again-7 width held)
 
@@ -118,27 +118,27 @@ module _ (k : Keys) (content : Content) (s : ℕ) (inside : s ≤ 65535) (body :
   unfoldable pub alone : Record
   alone = readBack false true content s (length body + sizeOf (k .mac))
 
-  pub alone-framed : length body ≤ 1300 → framingOf (lastSealed k content s body) ≡ framed (alone ∷ [])
+  pub alone-framed : length body ≤ 1300 → framingOf (lastProtected k content s body) ≡ framed (alone ∷ [])
   unfolding alone
-  alone-framed most = sealed-framed content s inside (unitKey k s) (k .mac) body (omega (arith, size-most (k .mac)))
+  alone-framed most = protected-framed content s inside (unitKey k s) (k .mac) body (omega (arith, size-most (k .mac)))
 
-  pub alone-sealed : Sealed k (lastSealed k content s body) alone body
+  pub alone-protected : Protected k (lastProtected k content s body) alone body
   unfolding alone
-  alone-sealed = record { is-protected = refl; is-coded = sealed-fragment content s inside (unitKey k s) (k .mac) body }
+  alone-protected = record { is-protected = refl; is-coded = protected-fragment content s inside (unitKey k s) (k .mac) body }
 
 pub empty-then-data : EmptyThenData stepOf
 unfolding EmptyThenData alone w₀
 empty-then-data c o random out bytes lr lo most =
     let h : Handshake = c .handshake in
     let k : Keys = keysOf h in
-    let d : List ℕ = lastSealed k C.Data 7 [] in
-    let e : List ℕ = lastSealed k C.Data 7 bytes in
+    let d : List ℕ = lastProtected k C.Data 7 [] in
+    let e : List ℕ = lastProtected k C.Data 7 bytes in
     let r : Record = alone k C.Data 7 (omega arith) [] in
     let q : Record = alone k C.Data 7 (omega arith) bytes in
     let row : Row h random d r (refusing X.Malformed (withWindow h (w₇ (o .width))))
-    = row-malformed [] (w₇ (o .width)) (new-7 h (o .is-open) (o .width) (o .held) (o .window-is) d r [] refl (alone-sealed k C.Data 7 (omega arith) [])) refl in
+    = row-malformed [] (w₇ (o .width)) (new-7 h (o .is-open) (o .width) (o .held) (o .window-is) d r [] refl (alone-protected k C.Data 7 (omega arith) [])) refl in
     let again : Row (withWindow h (w₇ (o .width))) random e q (refusing X.Repeated (withWindow h (w₇ (o .width))))
-    = repeated-7 h (o .is-open) (o .width) (o .held) (o .window-is) random e q bytes refl (alone-sealed k C.Data 7 (omega arith) bytes) in
+    = repeated-7 h (o .is-open) (o .width) (o .held) (o .window-is) random e q bytes refl (alone-protected k C.Data 7 (omega arith) bytes) in
     let f = alone-framed k C.Data 7 (omega arith) [] (omega arith) in (
       result-by c d random out r [] (refusing X.Malformed (withWindow h (w₇ (o .width)))) [] (withWindow h (w₇ (o .width))) lr lo f row refl chain-end,
       ap (λ x. stepOf x (receive e random out) .result) (left-by c d random out r [] (refusing X.Malformed (withWindow h (w₇ (o .width)))) [] (withWindow h (w₇ (o .width))) lr lo f row chain-end)
@@ -149,20 +149,20 @@ empty-then-data c o random out bytes lr lo most =
 
 module _ (k : Keys) (t u : Content) (s v : ℕ) (is : s ≤ 65535) (iv : v ≤ 65535) (one two : List ℕ) (tail : List ℕ) (most : length one ≤ 600) where
   abbrev front : List ℕ
-  front = longSealed k t s one
+  front = longProtected k t s one
 
   -- the record at the front
   pub at-front : Record
   at-front = readBack true true t s (length one + sizeOf (k .mac))
 
-  pub front-sealed : Sealed k (longSealed k t s one ++ tail) at-front one
+  pub front-protected : Protected k (longProtected k t s one ++ tail) at-front one
   unfolding at-front
-  front-sealed = record { is-protected = refl; is-coded = long-fragment t s is (unitKey k s) (k .mac) one tail }
+  front-protected = record { is-protected = refl; is-coded = long-fragment t s is (unitKey k s) (k .mac) one tail }
 
-  front-by : (room at : ℕ) → framingFrom (suc room) at (longSealed k t s one ++ tail) ≡ after (placedAt at-front at ∷ []) (framingFrom room (at + length (longSealed k t s one)) tail)
+  front-by : (room at : ℕ) → framingFrom (suc room) at (longProtected k t s one ++ tail) ≡ after (placedAt at-front at ∷ []) (framingFrom room (at + length (longProtected k t s one)) tail)
   unfolding at-front
   front-by room at =
-      front-framed room at (longSealed k t s one) tail (readBack true true t s (length one + sizeOf (k .mac))) (long-read t s is (unitKey k s) (k .mac) one tail (omega arith))
+      front-framed room at (longProtected k t s one) tail (readBack true true t s (length one + sizeOf (k .mac))) (long-read t s is (unitKey k s) (k .mac) one tail (omega arith))
       (sym (long-size t s is (unitKey k s) (k .mac) one)) (omega (arith, long-size t s is (unitKey k s) (k .mac) one))
 
 module _ (k : Keys) (u : Content) (v : ℕ) (iv : v ≤ 65535) (two : List ℕ) where
@@ -170,28 +170,28 @@ module _ (k : Keys) (u : Content) (v : ℕ) (iv : v ≤ 65535) (two : List ℕ) 
   at-end : ℕ → Record
   at-end at = placedAt (readBack false true u v (length two + sizeOf (k .mac))) at
 
-  end-by : (room at : ℕ) → framingFrom (suc room) at (lastSealed k u v two) ≡ framed (at-end at ∷ [])
+  end-by : (room at : ℕ) → framingFrom (suc room) at (lastProtected k u v two) ≡ framed (at-end at ∷ [])
   unfolding at-end
   end-by room at =
-      last-framed room at (lastSealed k u v two) (readBack false true u v (length two + sizeOf (k .mac))) (sealed-read u v iv (unitKey k v) (k .mac) two)
-      (sym (sealed-size u v iv (unitKey k v) (k .mac) two)) (omega (arith, sealed-size u v iv (unitKey k v) (k .mac) two))
+      last-framed room at (lastProtected k u v two) (readBack false true u v (length two + sizeOf (k .mac))) (protected-read u v iv (unitKey k v) (k .mac) two)
+      (sym (size-protected u v iv (unitKey k v) (k .mac) two)) (omega (arith, size-protected u v iv (unitKey k v) (k .mac) two))
 
-  end-sealed : (a : List ℕ) (at : ℕ) → at ≡ length a → Sealed k (a ++ lastSealed k u v two) (at-end at) two
+  end-protected : (a : List ℕ) (at : ℕ) → at ≡ length a → Protected k (a ++ lastProtected k u v two) (at-end at) two
   unfolding at-end
-  end-sealed a at e =
+  end-protected a at e =
       record {
         is-protected = refl;
-        is-coded = behind a (lastSealed k u v two) at 3 (length two + sizeOf (k .mac)) e ∙ sealed-fragment u v iv (unitKey k v) (k .mac) two;
+        is-coded = behind a (lastProtected k u v two) at 3 (length two + sizeOf (k .mac)) e ∙ protected-fragment u v iv (unitKey k v) (k .mac) two;
       }
 
 -- a record in the midst
 module _ (k : Keys) (t : Content) (s : ℕ) (is : s ≤ 65535) (one tail : List ℕ) where
-  mid-sealed : (a : List ℕ) (at : ℕ) → at ≡ length a
-      → Sealed k (a ++ (longSealed k t s one ++ tail)) (placedAt (readBack true true t s (length one + sizeOf (k .mac))) at) one
-  mid-sealed a at e =
+  mid-protected : (a : List ℕ) (at : ℕ) → at ≡ length a
+      → Protected k (a ++ (longProtected k t s one ++ tail)) (placedAt (readBack true true t s (length one + sizeOf (k .mac))) at) one
+  mid-protected a at e =
       record {
         is-protected = refl;
-        is-coded = behind a (longSealed k t s one ++ tail) at 5 (length one + sizeOf (k .mac)) e ∙ long-fragment t s is (unitKey k s) (k .mac) one tail;
+        is-coded = behind a (longProtected k t s one ++ tail) at 5 (length one + sizeOf (k .mac)) e ∙ long-fragment t s is (unitKey k s) (k .mac) one tail;
       }
 
 pub twice-in-one : TwiceInOne stepOf
@@ -200,21 +200,21 @@ twice-in-one c o random out one two lr lo some most most′ =
     let h : Handshake = c .handshake in
     let k : Keys = keysOf h in
     let i : 7 ≤ 65535 = omega arith in
-    let a : List ℕ = longSealed k C.Data 7 one in
-    let b : List ℕ = lastSealed k C.Data 7 two in
+    let a : List ℕ = longProtected k C.Data 7 one in
+    let b : List ℕ = lastProtected k C.Data 7 two in
     let d : List ℕ = a ++ b in
     let n : ℕ = 0 + length a in
     let r : Record = readBack true true C.Data 7 (length one + sizeOf (k .mac)) in
     let q : Record = placedAt (readBack false true C.Data 7 (length two + sizeOf (k .mac))) n in
     let at : n ≡ length a = omega arith in
-    let size : length d ≤ 1400 = omega (arith, length-append a b, long-size C.Data 7 i (unitKey k 7) (k .mac) one, sealed-size C.Data 7 i (unitKey k 7) (k .mac) two, size-most (k .mac)) in
+    let size : length d ≤ 1400 = omega (arith, length-append a b, long-size C.Data 7 i (unitKey k 7) (k .mac) one, size-protected C.Data 7 i (unitKey k 7) (k .mac) two, size-most (k .mac)) in
     let nonempty : 1 ≤ length d = omega (arith, length-append a b, long-size C.Data 7 i (unitKey k 7) (k .mac) one) in
     let f : framingOf d ≡ framed (r ∷ q ∷ [])
     = sized d nonempty size ∙ front-by k C.Data C.Data 7 7 i i one two b most 7 0 ∙ ap (after (r ∷ [])) (end-by k C.Data 7 i two 6 n) in
     let first : Row h random d r (judged (W.Data 7 5 (length one)) (withWindow h (w₇ (o .width))))
-    = row-data one (w₇ (o .width)) (new-7 h (o .is-open) (o .width) (o .held) (o .window-is) d r one refl (front-sealed k C.Data C.Data 7 7 i i one two b most)) refl some in
+    = row-data one (w₇ (o .width)) (new-7 h (o .is-open) (o .width) (o .held) (o .window-is) d r one refl (front-protected k C.Data C.Data 7 7 i i one two b most)) refl some in
     let second : Row (withWindow h (w₇ (o .width))) random d q (refusing X.Repeated (withWindow h (w₇ (o .width))))
-    = repeated-7 h (o .is-open) (o .width) (o .held) (o .window-is) random d q two refl (end-sealed k C.Data 7 i two a n at) in
+    = repeated-7 h (o .is-open) (o .width) (o .held) (o .window-is) random d q two refl (end-protected k C.Data 7 i two a n at) in
     result-by c d random out r (q ∷ []) (judged (W.Data 7 5 (length one)) (withWindow h (w₇ (o .width)))) (W.Refused X.Repeated ∷ []) (withWindow h (w₇ (o .width))) lr lo f first refl (chain-more second chain-end)
 
 pub closed-between : ClosedBetween stepOf
@@ -226,9 +226,9 @@ closed-between c o random out one two description checksum lr lo some most most�
     let i₈ : 8 ≤ 65535 = omega arith in
     let i₉ : 9 ≤ 65535 = omega arith in
     let alert : List ℕ = alertBytes L.Critical description checksum in
-    let a : List ℕ = longSealed k C.Data 7 one in
-    let b : List ℕ = longSealed k C.Alert 8 alert in
-    let e : List ℕ = lastSealed k C.Data 9 two in
+    let a : List ℕ = longProtected k C.Data 7 one in
+    let b : List ℕ = longProtected k C.Alert 8 alert in
+    let e : List ℕ = lastProtected k C.Data 9 two in
     let d : List ℕ = a ++ (b ++ e) in
     let n : ℕ = 0 + length a in
     let m : ℕ = n + length b in
@@ -236,15 +236,15 @@ closed-between c o random out one two description checksum lr lo some most most�
     let q : Record = placedAt (readBack true true C.Alert 8 (length alert + sizeOf (k .mac))) n in
     let p : Record = placedAt (readBack false true C.Data 9 (length two + sizeOf (k .mac))) m in
     let at : n ≡ length a = omega arith in
-    let size : length d ≤ 1400 = omega (arith, length-append a (b ++ e), length-append b e, long-size C.Data 7 i₇ (unitKey k 7) (k .mac) one, long-size C.Alert 8 i₈ (unitKey k 8) (k .mac) alert, sealed-size C.Data 9 i₉ (unitKey k 9) (k .mac) two, size-most (k .mac)) in
+    let size : length d ≤ 1400 = omega (arith, length-append a (b ++ e), length-append b e, long-size C.Data 7 i₇ (unitKey k 7) (k .mac) one, long-size C.Alert 8 i₈ (unitKey k 8) (k .mac) alert, size-protected C.Data 9 i₉ (unitKey k 9) (k .mac) two, size-most (k .mac)) in
     let nonempty : 1 ≤ length d = omega (arith, length-append a (b ++ e), long-size C.Data 7 i₇ (unitKey k 7) (k .mac) one) in
     let f : framingOf d ≡ framed (r ∷ q ∷ p ∷ [])
     = sized d nonempty size ∙ front-by k C.Data C.Data 7 7 i₇ i₇ one two (b ++ e) most 7 0
     ∙ ap (after (r ∷ [])) (front-by k C.Alert C.Data 8 9 i₈ i₉ alert two e (omega arith) 6 n ∙ ap (after (q ∷ [])) (end-by k C.Data 9 i₉ two 5 m)) in
     let first : Row h random d r (judged (W.Data 7 5 (length one)) (withWindow h (w₇ (o .width))))
-    = row-data one (w₇ (o .width)) (new-7 h (o .is-open) (o .width) (o .held) (o .window-is) d r one refl (front-sealed k C.Data C.Data 7 7 i₇ i₇ one two (b ++ e) most)) refl some in
+    = row-data one (w₇ (o .width)) (new-7 h (o .is-open) (o .width) (o .held) (o .window-is) d r one refl (front-protected k C.Data C.Data 7 7 i₇ i₇ one two (b ++ e) most)) refl some in
     let second : Row (withWindow h (w₇ (o .width))) random d q (judged (W.Critical description) (withState (withWindow h (w₈ (o .width))) S.Closed))
-    = row-critical alert (w₈ (o .width)) (record { level = L.Critical; description = description; checksum = checksum }) (new-8 h (o .is-open) (o .width) (o .held) (o .window-is) d q alert refl (mid-sealed k C.Alert 8 i₈ alert e a n at)) refl (alert-back L.Critical description checksum small) refl in
+    = row-critical alert (w₈ (o .width)) (record { level = L.Critical; description = description; checksum = checksum }) (new-8 h (o .is-open) (o .width) (o .held) (o .window-is) d q alert refl (mid-protected k C.Alert 8 i₈ alert e a n at)) refl (alert-back L.Critical description checksum small) refl in
     let third : Row (withState (withWindow h (w₈ (o .width))) S.Closed) random d p (refusing X.Ended (withState (withWindow h (w₈ (o .width))) S.Closed)) = row-ended refl in
     result-by c d random out r (q ∷ p ∷ []) (judged (W.Data 7 5 (length one)) (withWindow h (w₇ (o .width)))) (W.Critical description ∷ W.Refused X.Ended ∷ []) (withState (withWindow h (w₈ (o .width))) S.Closed) lr lo f first refl
     (chain-more second (chain-more third chain-end))

@@ -23,7 +23,7 @@ use Rattle.record.specs.declared.reader.Fault.the-variants as F
 use Rattle.record.specs.declared.reader.Reading.the-variants as Q
 use Rattle.record.proofs.Fronts.{record-length}
 use Rattle.record.proofs.RoundTrip.{readBack, read-long, read-short, read-protected, fragment-back}
-use Rattle.record.proofs.Sealed.{sealed-length, size-some, size-most}
+use Rattle.record.proofs.ProtectedBytes.{protected-length, size-some, size-most}
 use Rattle.connection.specs.Judge.{fragmentOf}
 
 -- no record where no byte is left
@@ -88,27 +88,27 @@ module _ (content : Content) (number : ℕ) (inside : number ≤ 65535) where
 
   -- a protected record
   module _ (k : List ℕ) (mac : Mac) (body : List ℕ) where
-    pub sealed-size : length (protectedBy (hmac k) (sizeOf mac) false content number body) ≡ 3 + (length body + sizeOf mac)
+    pub size-protected : length (protectedBy (hmac k) (sizeOf mac) false content number body) ≡ 3 + (length body + sizeOf mac)
     unfolding protectedBy
-    sealed-size =
+    size-protected =
         record-length false true content number (fragmentBy (hmac k) (sizeOf mac) number (byteFor false true content) body)
-        ∙ ap (λ n. 3 + n) (sealed-length k mac number (byteFor false true content) body)
+        ∙ ap (λ n. 3 + n) (protected-length k mac number (byteFor false true content) body)
 
-    pub sealed-read : readOf (protectedBy (hmac k) (sizeOf mac) false content number body) ≡ Q.Sound (readBack false true content number (length body + sizeOf mac))
-    sealed-read = read-protected k mac content number body (omega arith)
+    pub protected-read : readOf (protectedBy (hmac k) (sizeOf mac) false content number body) ≡ Q.Sound (readBack false true content number (length body + sizeOf mac))
+    protected-read = read-protected k mac content number body (omega arith)
 
-    pub sealed-framed : length body + sizeOf mac ≤ 1397
+    pub protected-framed : length body + sizeOf mac ≤ 1397
         → framingOf (protectedBy (hmac k) (sizeOf mac) false content number body) ≡ framed (readBack false true content number (length body + sizeOf mac) ∷ [])
-    sealed-framed most =
-        lone (protectedBy (hmac k) (sizeOf mac) false content number body) (readBack false true content number (length body + sizeOf mac)) sealed-read
-        (sym sealed-size) (omega (arith, sealed-size)) (omega (arith, sealed-size))
+    protected-framed most =
+        lone (protectedBy (hmac k) (sizeOf mac) false content number body) (readBack false true content number (length body + sizeOf mac)) protected-read
+        (sym size-protected) (omega (arith, size-protected)) (omega (arith, size-protected))
 
-    pub sealed-fragment : take (length body + sizeOf mac) (drop 3 (protectedBy (hmac k) (sizeOf mac) false content number body))
+    pub protected-fragment : take (length body + sizeOf mac) (drop 3 (protectedBy (hmac k) (sizeOf mac) false content number body))
         ≡ fragmentBy (hmac k) (sizeOf mac) number (byteFor false true content) body
     unfolding protectedBy
-    sealed-fragment =
+    protected-fragment =
         let f : List ℕ = fragmentBy (hmac k) (sizeOf mac) number (byteFor false true content) body in
-        ap₂ (λ n s. take n (drop 3 s)) (sym (sealed-length k mac number (byteFor false true content) body)) (sym (append-nil (recordOf false true content number f)))
+        ap₂ (λ n s. take n (drop 3 s)) (sym (protected-length k mac number (byteFor false true content) body)) (sym (append-nil (recordOf false true content number f)))
         ∙ fragment-back false true content number f []
 
     -- with a length, and something behind it
@@ -116,14 +116,14 @@ module _ (content : Content) (number : ℕ) (inside : number ≤ 65535) where
     unfolding protectedBy
     long-size =
         record-length true true content number (fragmentBy (hmac k) (sizeOf mac) number (byteFor true true content) body)
-        ∙ ap (λ n. 5 + n) (sealed-length k mac number (byteFor true true content) body)
+        ∙ ap (λ n. 5 + n) (protected-length k mac number (byteFor true true content) body)
 
     pub long-read : (tail : List ℕ) → length body ≤ 1400
         → readOf (protectedBy (hmac k) (sizeOf mac) true content number body ++ tail) ≡ Q.Sound (readBack true true content number (length body + sizeOf mac))
     unfolding protectedBy
     long-read tail most =
         let f : List ℕ = fragmentBy (hmac k) (sizeOf mac) number (byteFor true true content) body in
-        let size = sealed-length k mac number (byteFor true true content) body in
+        let size = protected-length k mac number (byteFor true true content) body in
         read-long true content number f tail (omega arith) (omega (arith, size, size-some mac)) (omega (arith, size, size-most mac))
         ∙ ap (λ n. Q.Sound (readBack true true content number n)) size
 
@@ -132,7 +132,7 @@ module _ (content : Content) (number : ℕ) (inside : number ≤ 65535) where
     unfolding protectedBy
     long-fragment tail =
         let f : List ℕ = fragmentBy (hmac k) (sizeOf mac) number (byteFor true true content) body in
-        ap (λ n. take n (drop 5 (recordOf true true content number f ++ tail))) (sym (sealed-length k mac number (byteFor true true content) body))
+        ap (λ n. take n (drop 5 (recordOf true true content number f ++ tail))) (sym (protected-length k mac number (byteFor true true content) body))
         ∙ fragment-back true true content number f tail
 
 -- a fragment behind other records

@@ -29,7 +29,7 @@ use Rattle.record.specs.declared.window.Window.{Window}
 use Rattle.record.specs.declared.window.Acceptance.the-variants as A
 use Rattle.record.proofs.Histories.{meaning, fresh-means, new-when}
 use Rattle.record.proofs.RoundTrip.{readBack}
-use Rattle.record.proofs.Sealed.{size-most}
+use Rattle.record.proofs.ProtectedBytes.{size-most}
 use Rattle.message.specs.Acceptance.{heardOf, heardAs}
 use Rattle.message.specs.Hello.{readOf}
 use Rattle.message.specs.Handshake.{fills, clientHello}
@@ -53,23 +53,23 @@ use Rattle.connection.specs.declared.state.State.the-variants as S
 use Rattle.connection.specs.declared.answer.Answer.{Answer}
 use Rattle.connection.specs.declared.answer.Answer.the-variants as W
 use Rattle.connection.specs.declared.answer.Judged.{Judged}
-use Rattle.connection.specs.declared.calls.Connection.{Connection}
+use Rattle.connection.specs.declared.connection.Connection.{Connection}
 use Rattle.connection.specs.declared.handshake.Handshake.{Handshake}
 use Rattle.connection.specs.declared.handshake.Session.{Session}
 use Rattle.demands.specs.Runs.{receive, received, Step, stepOf}
 use Rattle.record.specs.declared.keys.Keys.{Keys}
-use Rattle.demands.specs.Genuine.{Sealed, RecordOf, keysOf, unitKey}
+use Rattle.demands.specs.Genuine.{Protected, RecordOf, keysOf, unitKey}
 use Rattle.demands.specs.Table.{Row, New, Guarded, Greets, isHello, row-reply, row-change, row-open, row-data}
 use Rattle.demands.specs.Calls.{chain-end, chain-more, taken}
 use Rattle.demands.specs.Events.{connectionOf}
 use Rattle.demands.specs.Runs.{freshWith}
-use Rattle.demands.specs.Works.{clearDatagram, sealedDatagram, keysAfter, oneAnswer, Worked, Works}
+use Rattle.demands.specs.Works.{clearDatagram, protectedDatagram, keysAfter, oneAnswer, Worked, Works}
 use Rattle.demands.proofs.Genuine.{true-false}
 use Rattle.demands.proofs.Table.{row-is}
 use Rattle.demands.proofs.Calls.{by-chain, call-is}
 use Rattle.demands.proofs.Refusals.{laid-nothing}
 use Rattle.demands.proofs.HandedOut.{handed-part}
-use Rattle.demands.proofs.Wire.{clear-framed, clear-fragment, sealed-framed, sealed-fragment}
+use Rattle.demands.proofs.Wire.{clear-framed, clear-fragment, protected-framed, protected-fragment}
 
 -- ---- a datagram of one record
 
@@ -240,7 +240,7 @@ module _ (id secret : List ℕ) (width : ℕ) (held : Held width) (m random out 
 
   -- Finished
   d₃ : List ℕ
-  d₃ = sealedDatagram k C.Handshake 0 (finishedOf expected)
+  d₃ = protectedDatagram k C.Handshake 0 (finishedOf expected)
 
   r₃ : Record
   r₃ = readBack false true C.Handshake 0 (length (finishedOf expected) + sizeOf (plan .mac))
@@ -251,26 +251,26 @@ module _ (id secret : List ℕ) (width : ℕ) (held : Held width) (m random out 
   h₃ : Handshake
   h₃ = withState (withWindow h₂ w₃) S.Open
 
-  sealed₃ : Sealed k d₃ r₃ (finishedOf expected)
+  protected₃ : Protected k d₃ r₃ (finishedOf expected)
   unfolding d₃ r₃
-  sealed₃ =
-      record { is-protected = refl; is-coded = sealed-fragment C.Handshake 0 (omega arith) (unitKey k 0) (plan .mac) (finishedOf expected) }
+  protected₃ =
+      record { is-protected = refl; is-coded = protected-fragment C.Handshake 0 (omega arith) (unitKey k 0) (plan .mac) (finishedOf expected) }
 
   row₃ : Row h₂ random d₃ r₃ (judged W.Open h₃)
   unfolding h₁ answeredWith h₂ h₃ r₃ w₃
   row₃ =
       row-open (finishedOf expected) w₃
-      (record { guarded = record { protection = refl; kind = refl }; coded = sealed₃; arrived = arrivedOf width (0 ∷ []); accepted = takes-0 width held }) refl refl (finished-right expected (expected-size session random m plan))
+      (record { guarded = record { protection = refl; kind = refl }; coded = protected₃; arrived = arrivedOf width (0 ∷ []); accepted = takes-0 width held }) refl refl (finished-right expected (expected-size session random m plan))
 
-  opened : stepOf (connectionOf h₂) (receive (sealedDatagram k C.Handshake 0 (finishedOf expected)) random out) ≡ record { result = oneAnswer W.Open 0; output = out; connection = connectionOf h₃ }
+  opened : stepOf (connectionOf h₂) (receive (protectedDatagram k C.Handshake 0 (finishedOf expected)) random out) ≡ record { result = oneAnswer W.Open 0; output = out; connection = connectionOf h₃ }
   unfolding d₃ r₃
   opened =
       one-silent (connectionOf h₂) d₃ random out r₃ (judged W.Open h₃) lr lo
-      (sealed-framed C.Handshake 0 (omega arith) (unitKey k 0) (plan .mac) (finishedOf expected) (omega (arith, size-most (plan .mac), expected-size session random m plan))) row₃ refl
+      (protected-framed C.Handshake 0 (omega arith) (unitKey k 0) (plan .mac) (finishedOf expected) (omega (arith, size-most (plan .mac), expected-size session random m plan))) row₃ refl
 
   -- data
   d₄ : List ℕ
-  d₄ = sealedDatagram k C.Data 1 bytes
+  d₄ = protectedDatagram k C.Data 1 bytes
 
   r₄ : Record
   r₄ = readBack false true C.Data 1 (length bytes + sizeOf (plan .mac))
@@ -281,24 +281,24 @@ module _ (id secret : List ℕ) (width : ℕ) (held : Held width) (m random out 
   h₄ : Handshake
   h₄ = withWindow h₃ w₄
 
-  sealed₄ : Sealed k d₄ r₄ bytes
+  protected₄ : Protected k d₄ r₄ bytes
   unfolding d₄ r₄
-  sealed₄ = record { is-protected = refl; is-coded = sealed-fragment C.Data 1 (omega arith) (unitKey k 1) (plan .mac) bytes }
+  protected₄ = record { is-protected = refl; is-coded = protected-fragment C.Data 1 (omega arith) (unitKey k 1) (plan .mac) bytes }
 
   row₄ : Row h₃ random d₄ r₄ (judged (W.Data 1 3 (length bytes)) h₄)
   unfolding h₁ answeredWith h₂ h₃ h₄ r₄ w₃ w₄
   row₄ =
-      row-data bytes w₄ (record { guarded = record { protection = refl; kind = refl }; coded = sealed₄; arrived = arrivedOf width (1 ∷ 0 ∷ []); accepted = takes-1 width held }) refl some
+      row-data bytes w₄ (record { guarded = record { protection = refl; kind = refl }; coded = protected₄; arrived = arrivedOf width (1 ∷ 0 ∷ []); accepted = takes-1 width held }) refl some
 
-  handed : stepOf (connectionOf h₃) (receive (sealedDatagram k C.Data 1 bytes) random out) ≡ record { result = oneAnswer (W.Data 1 3 (length bytes)) 0; output = out; connection = connectionOf h₄ }
+  handed : stepOf (connectionOf h₃) (receive (protectedDatagram k C.Data 1 bytes) random out) ≡ record { result = oneAnswer (W.Data 1 3 (length bytes)) 0; output = out; connection = connectionOf h₄ }
   unfolding d₄ r₄
   handed =
       one-silent (connectionOf h₃) d₄ random out r₄ (judged (W.Data 1 3 (length bytes)) h₄) lr lo
-      (sealed-framed C.Data 1 (omega arith) (unitKey k 1) (plan .mac) bytes (omega (arith, size-most (plan .mac)))) row₄ refl
+      (protected-framed C.Data 1 (omega arith) (unitKey k 1) (plan .mac) bytes (omega (arith, size-most (plan .mac)))) row₄ refl
 
-  as-sent : handedOf (sealedDatagram k C.Data 1 bytes) (W.Data 1 3 (length bytes)) ≡ bytes
+  as-sent : handedOf (protectedDatagram k C.Data 1 bytes) (W.Data 1 3 (length bytes)) ≡ bytes
   unfolding d₄ r₄
-  as-sent = handed-part k d₄ r₄ bytes some sealed₄
+  as-sent = handed-part k d₄ r₄ bytes some protected₄
 
   -- the datagrams, the records in them, and what each leaves
   pub walk : Walk id secret width random bytes
@@ -320,8 +320,8 @@ module _ (id secret : List ℕ) (width : ℕ) (held : Held width) (m random out 
         reply = length (replyTo session random m plan);
         framed₁ = clear-framed C.Handshake 0 (omega arith) m hello-some hello-most;
         framed₂ = clear-framed C.ChangeCipherSpec 1 (omega arith) changeBytes (omega arith) (omega arith);
-        framed₃ = sealed-framed C.Handshake 0 (omega arith) (unitKey k 0) (plan .mac) (finishedOf expected) (omega (arith, size-most (plan .mac), expected-size session random m plan));
-        framed₄ = sealed-framed C.Data 1 (omega arith) (unitKey k 1) (plan .mac) bytes (omega (arith, size-most (plan .mac)));
+        framed₃ = protected-framed C.Handshake 0 (omega arith) (unitKey k 0) (plan .mac) (finishedOf expected) (omega (arith, size-most (plan .mac), expected-size session random m plan));
+        framed₄ = protected-framed C.Data 1 (omega arith) (unitKey k 1) (plan .mac) bytes (omega (arith, size-most (plan .mac)));
         row₁ = row₁;
         row₂ = row₂;
         row₃ = row₃;

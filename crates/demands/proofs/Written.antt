@@ -15,7 +15,7 @@ use Rattle.digest.specs.declared.mac.Mac.{Mac}
 use Rattle.digest.proofs.Codes.{length-hmac}
 use Rattle.record.specs.Code.{codedOf, fragmentBy, genuineBy}
 use Rattle.record.proofs.RoundTrip.{read-long, read-short, fragment-back}
-use Rattle.record.proofs.Sealed.{size-most, genuine-made, made-genuine}
+use Rattle.record.proofs.ProtectedBytes.{size-most, genuine-made, made-genuine}
 use Rattle.message.specs.Change.{isChange, changeBytes}
 use Rattle.message.specs.Finished.{finishedOf, judgedOf}
 use Rattle.message.specs.declared.finished.Verified.the-variants as F

@@ -25,7 +25,7 @@ use Rattle.connection.specs.declared.state.State.the-variants.{Barred}
 use Rattle.connection.specs.declared.refusal.Refusal.the-variants as X
 use Rattle.connection.specs.declared.answer.Answer.{Answer}
 use Rattle.connection.specs.declared.answer.Answer.the-variants as W
-use Rattle.connection.specs.declared.calls.Connection.{Connection}
+use Rattle.connection.specs.declared.connection.Connection.{Connection}
 use Rattle.connection.specs.declared.calls.Outcome.the-variants as O
 use Rattle.connection.specs.declared.receive.Taken.the-variants as T
 use Rattle.connection.specs.declared.handshake.Handshake.{Handshake}
@@ -67,9 +67,9 @@ AnswersSeven g c =
     → g c (receive d random out) .result ≡ received (T.Records (length rs)) (slotsOf (refusedAll rs)) 0)
     × ((bytes out : List ℕ) → 1 ≤ length bytes → length bytes ≤ 1300
     → g c (send-data bytes out) .result ≡ sent (O.Refused X.Ended) 0)
-    × ((sealed : Bool) (level description : ℕ) (l : Level) (k : Description) (answered out : List ℕ)
+    × ((protected : Bool) (level description : ℕ) (l : Level) (k : Description) (answered out : List ℕ)
     → levelOf level ≡ G.Is l → sortedOf description ≡ D.Assigned k → length answered ≤ 1400
-    → g c (send-alert sealed level description answered out) .result ≡ sent (O.Refused X.Ended) 0)
+    → g c (send-alert protected level description answered out) .result ≡ sent (O.Refused X.Ended) 0)
     × (g c close .result ≡ called (O.Refused X.Ended)) × (g c start .result ≡ called (O.Refused X.Ended))
 
 -- from then on, in any run, the value does not change, nothing is written, and the calls are refused

@@ -36,7 +36,7 @@ use Rattle.connection.specs.declared.refusal.Refusal.the-variants as X
 use Rattle.connection.specs.declared.answer.Answer.{Answer}
 use Rattle.connection.specs.declared.answer.Answer.the-variants as W
 use Rattle.connection.specs.declared.answer.Judged.{Judged}
-use Rattle.connection.specs.declared.calls.Connection.{Connection}
+use Rattle.connection.specs.declared.connection.Connection.{Connection}
 use Rattle.connection.specs.declared.calls.Called.{Called}
 use Rattle.connection.specs.declared.calls.Outcome.{Outcome}
 use Rattle.connection.specs.declared.calls.Outcome.the-variants as O
@@ -108,12 +108,12 @@ wasCalled left = record { result = called O.Done; output = []; connection = ofHa
 
 -- "protected alerts in Replied, Spec and Open, clear ones in Replied and Spec"
 abbrev pub mayAlert : Bool → State → Bool
-mayAlert sealed Idle = false
-mayAlert sealed Replied = true
-mayAlert sealed Spec = true
-mayAlert sealed Open = sealed
-mayAlert sealed Closed = false
-mayAlert sealed Barred = false
+mayAlert protected Idle = false
+mayAlert protected Replied = true
+mayAlert protected Spec = true
+mayAlert protected Open = protected
+mayAlert protected Closed = false
+mayAlert protected Barred = false
 
 -- the number that a send would carry, and the size of its code
 abbrev pub numberFor : Bool → Handshake → ℕ
@@ -172,32 +172,32 @@ pub data CallRow (c : Connection) : Call → Step → Type 0 where
       (wasSent out (nextProtected (c .handshake) C.Data bytes)
       (afterProtected (c .handshake) (nextProtected (c .handshake) C.Data bytes)))
   -- send an alert
-  alert-16 : {sealed : Bool} {level description : ℕ} {answered out : List ℕ} → BadAlert level description answered
-      → CallRow c (send-alert sealed level description answered out) (notSent c out X.Argument)
-  alert-7 : {sealed : Bool} {level description : ℕ} {answered out : List ℕ} {l : Level} {k : Description}
+  alert-16 : {protected : Bool} {level description : ℕ} {answered out : List ℕ} → BadAlert level description answered
+      → CallRow c (send-alert protected level description answered out) (notSent c out X.Argument)
+  alert-7 : {protected : Bool} {level description : ℕ} {answered out : List ℕ} {l : Level} {k : Description}
       → GoodAlert level description answered l k
       → ended (c .handshake .state) ≡ true
-      → CallRow c (send-alert sealed level description answered out) (notSent c out X.Ended)
-  alert-8 : {sealed : Bool} {level description : ℕ} {answered out : List ℕ} {l : Level} {k : Description}
+      → CallRow c (send-alert protected level description answered out) (notSent c out X.Ended)
+  alert-8 : {protected : Bool} {level description : ℕ} {answered out : List ℕ} {l : Level} {k : Description}
       → GoodAlert level description answered l k
-      → ended (c .handshake .state) ≡ false → mayAlert sealed (c .handshake .state) ≡ false
-      → CallRow c (send-alert sealed level description answered out) (notSent c out X.NotAllowed)
-  alert-15 : {sealed : Bool} {level description : ℕ} {answered out : List ℕ} {l : Level} {k : Description}
+      → ended (c .handshake .state) ≡ false → mayAlert protected (c .handshake .state) ≡ false
+      → CallRow c (send-alert protected level description answered out) (notSent c out X.NotAllowed)
+  alert-15 : {protected : Bool} {level description : ℕ} {answered out : List ℕ} {l : Level} {k : Description}
       → GoodAlert level description answered l k
-      → mayAlert sealed (c .handshake .state) ≡ true → 65535 < numberFor sealed (c .handshake)
-      → CallRow c (send-alert sealed level description answered out) (notSent c out X.Spent)
-  alert-6 : {sealed : Bool} {level description : ℕ} {answered out : List ℕ} {l : Level} {k : Description}
+      → mayAlert protected (c .handshake .state) ≡ true → 65535 < numberFor protected (c .handshake)
+      → CallRow c (send-alert protected level description answered out) (notSent c out X.Spent)
+  alert-6 : {protected : Bool} {level description : ℕ} {answered out : List ℕ} {l : Level} {k : Description}
       → GoodAlert level description answered l k
-      → mayAlert sealed (c .handshake .state) ≡ true → numberFor sealed (c .handshake) ≤ 65535
-      → length out < 9 + codeFor sealed (c .handshake)
-      → CallRow c (send-alert sealed level description answered out) (notSent c out X.Room)
-  alert-sent : {sealed : Bool} {level description : ℕ} {answered out : List ℕ} {l : Level} {k : Description}
+      → mayAlert protected (c .handshake .state) ≡ true → numberFor protected (c .handshake) ≤ 65535
+      → length out < 9 + codeFor protected (c .handshake)
+      → CallRow c (send-alert protected level description answered out) (notSent c out X.Room)
+  alert-sent : {protected : Bool} {level description : ℕ} {answered out : List ℕ} {l : Level} {k : Description}
       → GoodAlert level description answered l k
-      → mayAlert sealed (c .handshake .state) ≡ true → numberFor sealed (c .handshake) ≤ 65535
-      → 9 + codeFor sealed (c .handshake) ≤ length out
-      → CallRow c (send-alert sealed level description answered out)
-      (wasSent out (nextAlert sealed (c .handshake) (alertBody l k answered))
-      (afterAlert sealed (c .handshake) (nextAlert sealed (c .handshake) (alertBody l k answered))))
+      → mayAlert protected (c .handshake .state) ≡ true → numberFor protected (c .handshake) ≤ 65535
+      → 9 + codeFor protected (c .handshake) ≤ length out
+      → CallRow c (send-alert protected level description answered out)
+      (wasSent out (nextAlert protected (c .handshake) (alertBody l k answered))
+      (afterAlert protected (c .handshake) (nextAlert protected (c .handshake) (alertBody l k answered))))
   -- close, and start again
   close-7 : c .handshake .state ≡ Barred → CallRow c close (notCalled c X.Ended)
   close-done : c .handshake .state ≢ Barred → CallRow c close (wasCalled (withState (c .handshake) Closed))

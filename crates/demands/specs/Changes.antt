@@ -23,7 +23,7 @@ use Rattle.connection.specs.Calls.{closedOf, startedOf}
 use Rattle.connection.specs.declared.state.State.the-variants as S
 use Rattle.connection.specs.declared.answer.Answer.{Answer}
 use Rattle.connection.specs.declared.answer.Answer.the-variants.{Nothing, Reply, Resent, Spec, Open, Again, Data, Warning, Critical, Fatal, Barred, Refused}
-use Rattle.connection.specs.declared.calls.Connection.{Connection}
+use Rattle.connection.specs.declared.connection.Connection.{Connection}
 use Rattle.connection.specs.declared.calls.Outcome.the-variants as O
 use Rattle.connection.specs.declared.handshake.Handshake.{Handshake}
 use Rattle.demands.specs.Refusals.{marked, refusedLeaves}
@@ -68,12 +68,12 @@ DataChangesOnly =
 
 unfoldable pub AlertChangesOnly : Type 0
 AlertChangesOnly =
-    (c : Connection) (sealed : Bool) (level description : ℕ) (answered out : List ℕ)
-    → alertSent c sealed level description answered (length out) .outcome ≡ O.Done
-    → alertSent c sealed level description answered (length out) .connection .handshake
-    ≡ afterSending sealed (c .handshake)
-    (take (alertSent c sealed level description answered (length out) .written)
-    (alertOutput c sealed level description answered out))
+    (c : Connection) (protected : Bool) (level description : ℕ) (answered out : List ℕ)
+    → alertSent c protected level description answered (length out) .outcome ≡ O.Done
+    → alertSent c protected level description answered (length out) .connection .handshake
+    ≡ afterSending protected (c .handshake)
+    (take (alertSent c protected level description answered (length out) .written)
+    (alertOutput c protected level description answered out))
 
 unfoldable pub CloseChangesOnly : Type 0
 CloseChangesOnly =

@@ -80,7 +80,7 @@ withRecord k expected course d r =
 abbrev pub withEvent : Keys → List ℕ → Course → Event → Course
 withEvent k expected course (took random d r) = withRecord k expected course d r
 withEvent k expected course (sending bytes out) = course
-withEvent k expected course (alerting sealed level description answered out) = course
+withEvent k expected course (alerting protected level description answered out) = course
 withEvent k expected course closing = record { width = course .width; numbers = course .numbers; shut = true }
 withEvent k expected course starting = course
 
@@ -93,7 +93,7 @@ abbrev pub Ongoing : Keys → List ℕ → Course → List Event → Type 0
 Ongoing k expected course [] = Unit
 Ongoing k expected course (took random d r ∷ es) = Ongoing k expected (withEvent k expected course (took random d r)) es
 Ongoing k expected course (sending bytes out ∷ es) = Ongoing k expected course es
-Ongoing k expected course (alerting sealed level description answered out ∷ es) = Ongoing k expected course es
+Ongoing k expected course (alerting protected level description answered out ∷ es) = Ongoing k expected course es
 Ongoing k expected course (closing ∷ es) = Ongoing k expected (withEvent k expected course closing) es
 Ongoing k expected course (starting ∷ es) = (course .shut ≡ false) × Ongoing k expected course es
 

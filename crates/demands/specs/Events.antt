@@ -14,7 +14,7 @@ use Rattle.connection.specs.Judge.{judgedRecord}
 use Rattle.connection.specs.Send.{dataSent, dataOutput, alertSent, alertOutput}
 use Rattle.connection.specs.Calls.{closedOf, startedOf}
 use Rattle.connection.specs.declared.answer.Answer.{Answer}
-use Rattle.connection.specs.declared.calls.Connection.{Connection}
+use Rattle.connection.specs.declared.connection.Connection.{Connection}
 use Rattle.connection.specs.declared.calls.Outcome.{Outcome}
 use Rattle.connection.specs.declared.calls.Outcome.the-variants.{Done, Refused}
 use Rattle.connection.specs.declared.handshake.Handshake.{Handshake}
@@ -27,7 +27,7 @@ pub data Event : Type 0 where
   took : (random d : List ℕ) (r : Record) → Event
   -- the other calls
   sending : (bytes out : List ℕ) → Event
-  alerting : (sealed : Bool) (level description : ℕ) (answered out : List ℕ) → Event
+  alerting : (protected : Bool) (level description : ℕ) (answered out : List ℕ) → Event
   closing : Event
   starting : Event
 
@@ -35,7 +35,7 @@ pub data Event : Type 0 where
 abbrev pub Sound : Event → Type 0
 Sound (took random d r) = (length random ≡ 16) × RecordOf d r
 Sound (sending bytes out) = Unit
-Sound (alerting sealed level description answered out) = Unit
+Sound (alerting protected level description answered out) = Unit
 Sound closing = Unit
 Sound starting = Unit
 
@@ -52,7 +52,7 @@ abbrev pub eventsIn : Call → List Event
 eventsIn (receive d random out) =
     pick (eqb (length random) 16) (pick (ltb (length out) 128) [] (recordsIn random d (framingOf d))) []
 eventsIn (send-data bytes out) = sending bytes out ∷ []
-eventsIn (send-alert sealed level description answered out) = alerting sealed level description answered out ∷ []
+eventsIn (send-alert protected level description answered out) = alerting protected level description answered out ∷ []
 eventsIn close = closing ∷ []
 eventsIn start = starting ∷ []
 
@@ -67,8 +67,8 @@ connectionOf h = record { handshake = h }
 abbrev pub next : Handshake → Event → Handshake
 next h (took random d r) = judgedRecord h random d r .handshake
 next h (sending bytes out) = dataSent (connectionOf h) bytes (length out) .connection .handshake
-next h (alerting sealed level description answered out) =
-    alertSent (connectionOf h) sealed level description answered (length out) .connection .handshake
+next h (alerting protected level description answered out) =
+    alertSent (connectionOf h) protected level description answered (length out) .connection .handshake
 next h closing = closedOf (connectionOf h) .connection .handshake
 next h starting = startedOf (connectionOf h) .connection .handshake
 
@@ -80,7 +80,7 @@ after h (e ∷ es) = after (next h e) es
 -- front of the output; we closed; we started again; or the call was refused.
 pub data Happened : Type 0 where
   answered : (random d : List ℕ) (r : Record) (a : Answer) → Happened
-  wrote : (sealed : Bool) (bytes : List ℕ) → Happened
+  wrote : (protected : Bool) (bytes : List ℕ) → Happened
   closed : Happened
   started : Happened
   refused : Happened
@@ -90,15 +90,15 @@ ifDone Done what = what
 ifDone (Refused refusal) what = refused
 
 abbrev pub wrote-by : Sent → Bool → List ℕ → Happened
-wrote-by s sealed out = ifDone (s .outcome) (wrote sealed (take (s .written) out))
+wrote-by s protected out = ifDone (s .outcome) (wrote protected (take (s .written) out))
 
 abbrev pub happening : Handshake → Event → Happened
 happening h (took random d r) = answered random d r (judgedRecord h random d r .answer)
 happening h (sending bytes out) =
     wrote-by (dataSent (connectionOf h) bytes (length out)) true (dataOutput (connectionOf h) bytes out)
-happening h (alerting sealed level description lent out) =
-    wrote-by (alertSent (connectionOf h) sealed level description lent (length out)) sealed
-    (alertOutput (connectionOf h) sealed level description lent out)
+happening h (alerting protected level description lent out) =
+    wrote-by (alertSent (connectionOf h) protected level description lent (length out)) protected
+    (alertOutput (connectionOf h) protected level description lent out)
 happening h closing = ifDone (closedOf (connectionOf h) .outcome) closed
 happening h starting = ifDone (startedOf (connectionOf h) .outcome) started
 

@@ -25,7 +25,7 @@ use Rattle.demands.specs.Runs.{freshWith}
 abbrev pub Quiet : List Happened → Type 0
 Quiet [] = Unit
 Quiet (answered random d r a ∷ past) = (isReply a ≡ false) × (shuts a ≡ false) × Quiet past
-Quiet (wrote sealed bytes ∷ past) = Quiet past
+Quiet (wrote protected bytes ∷ past) = Quiet past
 Quiet (closed ∷ past) = ⊥
 Quiet (started ∷ past) = ⊥
 Quiet (refused ∷ past) = Quiet past

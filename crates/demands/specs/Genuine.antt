@@ -26,14 +26,14 @@ pub record RecordOf (d : List ℕ) (r : Record) : Type 0 where
   pub framing : framingOf d ≡ framed (before ++ (r ∷ behind))
 
 -- the record is protected, and its fragment is the content c with the right code behind it
-pub record Sealed (k : Keys) (d : List ℕ) (r : Record) (c : List ℕ) : Type 0 where
+pub record Protected (k : Keys) (d : List ℕ) (r : Record) (c : List ℕ) : Type 0 where
   pub is-protected : r .protected ≡ true
   pub is-coded : fragmentOf d r ≡ fragmentBy (hmac (unitKey k (r .number))) (sizeOf (k .mac)) (r .number) (r .byte) c
 
 -- r is a genuine record of d with the content c
 pub record Genuine (k : Keys) (d : List ℕ) (r : Record) (c : List ℕ) : Type 0 where
   pub in-place : RecordOf d r
-  pub is-sealed : Sealed k d r c
+  pub protected-as : Protected k d r c
 
 -- the keys that a handshake holds
 abbrev pub keysOf : Handshake → Keys

@@ -12,7 +12,7 @@ use Rattle.message.specs.declared.acceptance.Heard.the-variants.{Accepted}
 use Rattle.connection.specs.Judge.{judgedRecord}
 use Rattle.connection.specs.Send.{dataSent, alertSent}
 use Rattle.connection.specs.declared.state.State.the-variants.{Open, Barred}
-use Rattle.connection.specs.declared.calls.Connection.{Connection}
+use Rattle.connection.specs.declared.connection.Connection.{Connection}
 use Rattle.connection.specs.declared.calls.Outcome.the-variants.{Done}
 use Rattle.connection.specs.declared.handshake.Handshake.{Handshake}
 use Rattle.demands.specs.Runs.{freshWith}

@@ -15,7 +15,7 @@ use Rattle.connection.specs.declared.handshake.Handshake.{Handshake}
 use Rattle.connection.specs.declared.handshake.Session.{Session}
 use Rattle.connection.specs.declared.state.State.the-variants.{Barred}
 use Rattle.demands.specs.Events.{Event, Happened, after, history}
-use Rattle.demands.specs.Past.{lastReply, keptGreeting, agreedFor, helloAs, replyFor, nextSealed, nextClearNumber, sentSince, acceptedIn, barredIn, agreedOf, nothingAgreed, Agreed}
+use Rattle.demands.specs.Past.{lastReply, keptGreeting, agreedFor, helloAs, replyFor, protectedNext, nextClearNumber, sentSince, acceptedIn, barredIn, agreedOf, nothingAgreed, Agreed}
 use Rattle.record.specs.Window.{Held}
 
 pub record KeptAs (session : Session) (width : ℕ) (past : List Happened) (h : Handshake) : Type 0 where
@@ -27,7 +27,7 @@ pub record KeptAs (session : Session) (width : ℕ) (past : List Happened) (h : 
   pub hello-is : barredIn past ≡ false → keptHello h ≡ helloAs (keptGreeting past)
   pub reply-is : barredIn past ≡ false → keptReply h ≡ replyFor session (keptGreeting past)
   -- "After each new reply our data and protected alerts count on from 1, clear alerts from 2"
-  pub sealed-is : h .protection .protected ≡ nextSealed past
+  pub protected-is : h .protection .protected ≡ protectedNext past
   pub clear-is : h .protection .clear ≡ nextClearNumber past
   -- the checksums of "the last eight records that we sent since the last start, fewer if fewer were sent"
   pub sent-is : sumsOf (h .sent) ≡ map sumOf (take recordsKept (sentSince session past))

@@ -11,7 +11,7 @@ use Rattle.record.specs.declared.reader.Record.{Record}
 use Rattle.connection.specs.Answer.{handedOf}
 use Rattle.connection.specs.Tally.{countedOf}
 use Rattle.connection.specs.declared.answer.Slot.{Slot}
-use Rattle.connection.specs.declared.calls.Connection.{Connection}
+use Rattle.connection.specs.declared.connection.Connection.{Connection}
 use Rattle.connection.specs.declared.state.State.{State}
 use Rattle.connection.specs.declared.state.State.the-variants.{Open, Closed}
 use Rattle.connection.specs.declared.tally.Tally.{Tally}
@@ -28,7 +28,7 @@ NoneGenuine k d = (r : Record) (c : List ℕ) → Genuine k d r c → ⊥
 abbrev pub Continues : State → Call → Type 0
 Continues s (receive d random out) = Unit
 Continues s (send-data bytes out) = Unit
-Continues s (send-alert sealed level description answered out) = Unit
+Continues s (send-alert protected level description answered out) = Unit
 Continues s close = Unit
 Continues s start = s ≢ Closed
 
@@ -64,7 +64,7 @@ answersIn (called outcome) = []
 abbrev pub datagramOf : Call → List ℕ
 datagramOf (receive d random out) = d
 datagramOf (send-data bytes out) = []
-datagramOf (send-alert sealed level description answered out) = []
+datagramOf (send-alert protected level description answered out) = []
 datagramOf close = []
 datagramOf start = []
 

@@ -7,7 +7,7 @@ use lib.ListN.{length}
 use Rattle.digest.specs.Pick.{pick}
 use Rattle.gather.specs.Gatherer.{Left, dropOf, datagramOf}
 use Rattle.gather.specs.declared.gatherer.Gatherer.{Gatherer}
-use Rattle.connection.specs.declared.calls.Connection.{Connection}
+use Rattle.connection.specs.declared.connection.Connection.{Connection}
 use Rattle.connection.specs.declared.state.State.the-variants.{Open}
 use Rattle.connection.specs.declared.tally.Tally.{Tally}
 use Rattle.short.specs.Message.{Leaves, isShown, gatheredOf, messageOf}

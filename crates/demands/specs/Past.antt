@@ -79,7 +79,7 @@ pub data Greeting : Type 0 where
 unfoldable pub lastReply : List Happened → Greeting
 lastReply [] = none
 lastReply (answered random d r a ∷ past) = pick (isReply a) (greeting (fragmentOf d r) random) (lastReply past)
-lastReply (wrote sealed bytes ∷ past) = lastReply past
+lastReply (wrote protected bytes ∷ past) = lastReply past
 lastReply (closed ∷ past) = lastReply past
 lastReply (started ∷ past) = lastReply past
 lastReply (refused ∷ past) = lastReply past
@@ -88,7 +88,7 @@ lastReply (refused ∷ past) = lastReply past
 unfoldable pub keptGreeting : List Happened → Greeting
 keptGreeting [] = none
 keptGreeting (answered random d r a ∷ past) = pick (isReply a) (greeting (fragmentOf d r) random) (keptGreeting past)
-keptGreeting (wrote sealed bytes ∷ past) = keptGreeting past
+keptGreeting (wrote protected bytes ∷ past) = keptGreeting past
 keptGreeting (closed ∷ past) = keptGreeting past
 keptGreeting (started ∷ past) = none
 keptGreeting (refused ∷ past) = keptGreeting past
@@ -168,14 +168,14 @@ replyFor session (greeting m random) = replyHeard session random m (heardOf m (s
 -- ---- what was written
 
 -- "After each new reply our data and protected alerts count on from 1, clear alerts from 2."
-unfoldable pub nextSealed : List Happened → ℕ
-nextSealed [] = 0
-nextSealed (answered random d r a ∷ past) = pick (isReply a) 1 (nextSealed past)
-nextSealed (wrote true bytes ∷ past) = nextSealed past + 1
-nextSealed (wrote false bytes ∷ past) = nextSealed past
-nextSealed (closed ∷ past) = nextSealed past
-nextSealed (started ∷ past) = nextSealed past
-nextSealed (refused ∷ past) = nextSealed past
+unfoldable pub protectedNext : List Happened → ℕ
+protectedNext [] = 0
+protectedNext (answered random d r a ∷ past) = pick (isReply a) 1 (protectedNext past)
+protectedNext (wrote true bytes ∷ past) = protectedNext past + 1
+protectedNext (wrote false bytes ∷ past) = protectedNext past
+protectedNext (closed ∷ past) = protectedNext past
+protectedNext (started ∷ past) = protectedNext past
+protectedNext (refused ∷ past) = protectedNext past
 
 unfoldable pub nextClearNumber : List Happened → ℕ
 nextClearNumber [] = 0
@@ -199,7 +199,7 @@ sentSince session [] = []
 sentSince session (answered random d r a ∷ past) =
     pick (isReply a) (recordsHeard session random (fragmentOf d r) (heardOf (fragmentOf d r) (session .id)) ++ sentSince session past)
     (sentSince session past)
-sentSince session (wrote sealed bytes ∷ past) = bytes ∷ sentSince session past
+sentSince session (wrote protected bytes ∷ past) = bytes ∷ sentSince session past
 sentSince session (closed ∷ past) = sentSince session past
 sentSince session (started ∷ past) = []
 sentSince session (refused ∷ past) = sentSince session past
@@ -216,7 +216,7 @@ unfoldable pub acceptedIn : List Happened → List ℕ
 acceptedIn [] = []
 acceptedIn (answered random d r a ∷ past) =
     pick (isSpec a) [] (pick (pick (r .protected) (marks a) false) (r .number ∷ acceptedIn past) (acceptedIn past))
-acceptedIn (wrote sealed bytes ∷ past) = acceptedIn past
+acceptedIn (wrote protected bytes ∷ past) = acceptedIn past
 acceptedIn (closed ∷ past) = acceptedIn past
 acceptedIn (started ∷ past) = []
 acceptedIn (refused ∷ past) = acceptedIn past
@@ -225,7 +225,7 @@ acceptedIn (refused ∷ past) = acceptedIn past
 unfoldable pub barredIn : List Happened → Bool
 barredIn [] = false
 barredIn (answered random d r a ∷ past) = pick (isBarred a) true (barredIn past)
-barredIn (wrote sealed bytes ∷ past) = barredIn past
+barredIn (wrote protected bytes ∷ past) = barredIn past
 barredIn (closed ∷ past) = barredIn past
 barredIn (started ∷ past) = barredIn past
 barredIn (refused ∷ past) = barredIn past

@@ -10,7 +10,7 @@ use Rattle.connection.specs.Judge.{judgedRecord}
 use Rattle.connection.specs.Receive.{slot}
 use Rattle.connection.specs.declared.answer.Answer.{Answer}
 use Rattle.connection.specs.declared.answer.Answer.the-variants.{Nothing}
-use Rattle.connection.specs.declared.calls.Connection.{Connection}
+use Rattle.connection.specs.declared.connection.Connection.{Connection}
 use Rattle.demands.specs.Runs.{Call, receive, Gateway, stepOf, finalOf}
 use Rattle.demands.specs.Events.{took, AllSound, eventsOf, after}
 use Rattle.demands.specs.LeftOut.{answersIn}

@@ -18,7 +18,7 @@ use Rattle.connection.specs.declared.state.State.the-variants.{Closed}
 use Rattle.connection.specs.declared.refusal.Refusal.{Refusal}
 use Rattle.connection.specs.declared.refusal.Refusal.the-variants as X
 use Rattle.connection.specs.declared.answer.Answer.the-variants as W
-use Rattle.connection.specs.declared.calls.Connection.{Connection}
+use Rattle.connection.specs.declared.connection.Connection.{Connection}
 use Rattle.connection.specs.declared.calls.Outcome.{Outcome}
 use Rattle.connection.specs.declared.calls.Outcome.the-variants as O
 use Rattle.connection.specs.declared.receive.Taken.{Taken}
@@ -30,7 +30,7 @@ use Rattle.demands.specs.Runs.{Call, receive, send-data, send-alert, clo
 abbrev pub lentBy : Call → List ℕ
 lentBy (receive d random out) = out
 lentBy (send-data bytes out) = out
-lentBy (send-alert sealed level description answered out) = out
+lentBy (send-alert protected level description answered out) = out
 lentBy close = []
 lentBy start = []
 

@@ -9,7 +9,7 @@ use Rattle.connection.specs.Send.{dataSent, dataOutput, alertSent, alertOutput}
 use Rattle.connection.specs.Handshake.{newHandshake}
 use Rattle.connection.specs.Calls.{closedOf, startedOf, sessionOf}
 use Rattle.connection.specs.declared.answer.Slot.{Slot}
-use Rattle.connection.specs.declared.calls.Connection.{Connection}
+use Rattle.connection.specs.declared.connection.Connection.{Connection}
 use Rattle.connection.specs.declared.calls.Called.{Called}
 use Rattle.connection.specs.declared.calls.Outcome.{Outcome}
 use Rattle.connection.specs.declared.receive.Taken.{Taken}
@@ -23,7 +23,7 @@ use Rattle.connection.specs.declared.state.State.the-variants.{Idle}
 pub data Call : Type 0 where
   receive : (datagram random out : List ℕ) → Call
   send-data : (bytes out : List ℕ) → Call
-  send-alert : (sealed : Bool) (level description : ℕ) (answered out : List ℕ) → Call
+  send-alert : (protected : Bool) (level description : ℕ) (answered out : List ℕ) → Call
   close : Call
   start : Call
 
@@ -53,9 +53,9 @@ calledAs c = record { result = called (c .outcome); output = []; connection = c 
 unfoldable pub stepOf : Connection → Call → Step
 stepOf c (receive d random out) = receivedAs (receivedOf c d random (length out)) (outputOf c d random out)
 stepOf c (send-data bytes out) = sentAs (dataSent c bytes (length out)) (dataOutput c bytes out)
-stepOf c (send-alert sealed level description answered out) =
-    sentAs (alertSent c sealed level description answered (length out))
-    (alertOutput c sealed level description answered out)
+stepOf c (send-alert protected level description answered out) =
+    sentAs (alertSent c protected level description answered (length out))
+    (alertOutput c protected level description answered out)
 stepOf c close = calledAs (closedOf c)
 stepOf c start = calledAs (startedOf c)
 

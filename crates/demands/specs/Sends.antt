@@ -25,7 +25,7 @@ use Rattle.message.specs.declared.alert.Sorted.the-variants as D
 use Rattle.connection.specs.declared.calls.Outcome.the-variants as O
 use Rattle.record.specs.declared.keys.Keys.{Keys}
 use Rattle.demands.specs.Events.{Event, AllSound, Happened, connectionOf, after, history}
-use Rattle.demands.specs.Past.{keysIn, nextSealed, nextClearNumber}
+use Rattle.demands.specs.Past.{keysIn, protectedNext, nextClearNumber}
 use Rattle.record.specs.Window.{Held}
 use Rattle.demands.specs.Runs.{freshWith}
 
@@ -35,7 +35,7 @@ ourKey k s = secretFor k FromShore s
 
 -- the bytes are one record without a length that reads back: its number, its content, and a right code under our key
 -- for the number
-pub record SealedRecord (k : Keys) (content : Content) (s : ℕ) (body bytes : List ℕ) : Type 0 where
+pub record ProtectedRecord (k : Keys) (content : Content) (s : ℕ) (body bytes : List ℕ) : Type 0 where
   pub r : Record
   pub reads : readOf bytes ≡ Q.Sound r
   pub protection : r .protected ≡ true
@@ -64,22 +64,22 @@ DataSentRight =
     → let c = connectionOf (after (freshWith id secret width) es) in
     let past = history (freshWith id secret width) es [] in
     dataSent c bytes (length out) .outcome ≡ O.Done
-    → SealedRecord (keysIn (sessionOf id secret) past) C.Data (nextSealed past) bytes
+    → ProtectedRecord (keysIn (sessionOf id secret) past) C.Data (protectedNext past) bytes
     (take (dataSent c bytes (length out) .written) (dataOutput c bytes out))
 
 -- an alert: clear or protected
 abbrev pub AlertRecord : Bool → Keys → List Happened → List ℕ → List ℕ → Type 0
-AlertRecord true k past body bytes = SealedRecord k C.Alert (nextSealed past) body bytes
+AlertRecord true k past body bytes = ProtectedRecord k C.Alert (protectedNext past) body bytes
 AlertRecord false k past body bytes = ClearRecord (nextClearNumber past) body bytes
 
 unfoldable pub AlertSentRight : Type 0
 AlertSentRight =
     (id secret : List ℕ) (width : ℕ) → Held width → (es : List Event) → AllSound es
-    → (sealed : Bool) (level description : ℕ) (l : Level) (k : Description) (answered out : List ℕ)
+    → (protected : Bool) (level description : ℕ) (l : Level) (k : Description) (answered out : List ℕ)
     → levelOf level ≡ G.Is l → sortedOf description ≡ D.Assigned k
     → let c = connectionOf (after (freshWith id secret width) es) in
     let past = history (freshWith id secret width) es [] in
-    alertSent c sealed level description answered (length out) .outcome ≡ O.Done
-    → AlertRecord sealed (keysIn (sessionOf id secret) past) past (alertBody l k answered)
-    (take (alertSent c sealed level description answered (length out) .written)
-    (alertOutput c sealed level description answered out))
+    alertSent c protected level description answered (length out) .outcome ≡ O.Done
+    → AlertRecord protected (keysIn (sessionOf id secret) past) past (alertBody l k answered)
+    (take (alertSent c protected level description answered (length out) .written)
+    (alertOutput c protected level description answered out))

@@ -37,7 +37,7 @@ use Rattle.connection.specs.declared.refusal.Refusal.the-variants as X
 use Rattle.connection.specs.declared.answer.Answer.the-variants as W
 use Rattle.connection.specs.declared.answer.Judged.{Judged}
 use Rattle.connection.specs.declared.handshake.Handshake.{Handshake}
-use Rattle.demands.specs.Genuine.{Sealed, keysOf}
+use Rattle.demands.specs.Genuine.{Protected, keysOf}
 
 -- 7: "Barred, or Closed except for start again and close"
 abbrev pub ended : State → Bool
@@ -93,20 +93,20 @@ clearAllowed Closed content one = false
 clearAllowed Barred content one = false
 
 -- "In Spec the allowed kinds are handshake and alert; in Open all four."
-abbrev pub sealedAllowed : State → Content → Bool
-sealedAllowed Idle content = false
-sealedAllowed Replied content = false
-sealedAllowed Spec C.ChangeCipherSpec = false
-sealedAllowed Spec C.Alert = true
-sealedAllowed Spec C.Handshake = true
-sealedAllowed Spec C.Data = false
-sealedAllowed Open content = true
-sealedAllowed Closed content = false
-sealedAllowed Barred content = false
+abbrev pub protectedAllowed : State → Content → Bool
+protectedAllowed Idle content = false
+protectedAllowed Replied content = false
+protectedAllowed Spec C.ChangeCipherSpec = false
+protectedAllowed Spec C.Alert = true
+protectedAllowed Spec C.Handshake = true
+protectedAllowed Spec C.Data = false
+protectedAllowed Open content = true
+protectedAllowed Closed content = false
+protectedAllowed Barred content = false
 
 -- whether the table has a row for a record in a state
 abbrev pub allowed : State → List ℕ → Record → Bool
-allowed s d r = pick (r .protected) (sealedAllowed s (r .content)) (clearAllowed s (r .content) (beginsHello d r))
+allowed s d r = pick (r .protected) (protectedAllowed s (r .content)) (clearAllowed s (r .content) (beginsHello d r))
 
 -- states by name, where a row is for two of them
 abbrev pub Hears : State → Type 0
@@ -115,12 +115,12 @@ Hears s = (s ≡ Replied) ⊎ (s ≡ Spec)
 -- a protected record of an allowed kind
 pub record Guarded (h : Handshake) (r : Record) : Type 0 where
   pub protection : r .protected ≡ true
-  pub kind : sealedAllowed (h .state) (r .content) ≡ true
+  pub kind : protectedAllowed (h .state) (r .content) ≡ true
 
 -- ".. whose code is right, and whose number is new: w is the window with its mark"
 pub record New (h : Handshake) (d : List ℕ) (r : Record) (c : List ℕ) (w : Window) : Type 0 where
   pub guarded : Guarded h r
-  pub coded : Sealed (keysOf h) d r c
+  pub coded : Protected (keysOf h) d r c
   pub arrived : ℕ
   pub accepted : acceptOf (h .protection .window) (r .number) ≡ A.New w arrived
 
@@ -191,10 +191,10 @@ pub data Row (h : Handshake) (random d : List ℕ) (r : Record) : Judged → Typ
       → alertOf (fragmentOf d r) ≡ R.WellFormed a → wasSent h (a .checksum) ≡ true → a .level ≡ L.Fatal
       → Row h random d r (judged (W.Fatal (a .description)) (withState h Closed))
   -- 9: "code not right"; 10: "too old"; 11: "repeated"
-  row-forged : Guarded h r → ((c : List ℕ) → Sealed (keysOf h) d r c → ⊥) → Row h random d r (refusing X.Forged h)
-  row-old : (c : List ℕ) → Guarded h r → Sealed (keysOf h) d r c → acceptOf (h .protection .window) (r .number) ≡ A.TooOld
+  row-forged : Guarded h r → ((c : List ℕ) → Protected (keysOf h) d r c → ⊥) → Row h random d r (refusing X.Forged h)
+  row-old : (c : List ℕ) → Guarded h r → Protected (keysOf h) d r c → acceptOf (h .protection .window) (r .number) ≡ A.TooOld
       → Row h random d r (refusing X.TooOld h)
-  row-repeated : (c : List ℕ) → Guarded h r → Sealed (keysOf h) d r c → acceptOf (h .protection .window) (r .number) ≡ A.Repeated
+  row-repeated : (c : List ℕ) → Guarded h r → Protected (keysOf h) d r c → acceptOf (h .protection .window) (r .number) ≡ A.Repeated
       → Row h random d r (refusing X.Repeated h)
   -- "A genuine new record marks its number even if its content is then refused."
   row-malformed : (c : List ℕ) (w : Window) → New h d r c w → MalformedAs (r .content) c (h .expected)

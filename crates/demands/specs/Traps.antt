@@ -22,7 +22,7 @@ use Rattle.connection.specs.declared.state.State.the-variants.{Open}
 use Rattle.connection.specs.declared.answer.Answer.{Answer}
 use Rattle.connection.specs.declared.answer.Answer.the-variants as W
 use Rattle.connection.specs.declared.refusal.Refusal.the-variants as X
-use Rattle.connection.specs.declared.calls.Connection.{Connection}
+use Rattle.connection.specs.declared.connection.Connection.{Connection}
 use Rattle.connection.specs.declared.receive.Taken.the-variants as T
 use Rattle.demands.specs.Runs.{receive, Result, received, Gateway}
 use Rattle.record.specs.declared.keys.Keys.{Keys}
@@ -32,11 +32,11 @@ use Rattle.record.specs.Window.{Held}
 use Rattle.record.specs.History.{windowOf}
 
 -- a protected record of the unit with a length, so that another may stand behind it; and one without
-abbrev pub longSealed : Keys → Content → ℕ → List ℕ → List ℕ
-longSealed k content s body = protectedBy (hmac (unitKey k s)) (sizeOf (k .mac)) true content s body
+abbrev pub longProtected : Keys → Content → ℕ → List ℕ → List ℕ
+longProtected k content s body = protectedBy (hmac (unitKey k s)) (sizeOf (k .mac)) true content s body
 
-abbrev pub lastSealed : Keys → Content → ℕ → List ℕ → List ℕ
-lastSealed k content s body = protectedBy (hmac (unitKey k s)) (sizeOf (k .mac)) false content s body
+abbrev pub lastProtected : Keys → Content → ℕ → List ℕ → List ℕ
+lastProtected k content s body = protectedBy (hmac (unitKey k s)) (sizeOf (k .mac)) false content s body
 
 -- an Open connection of any width behind the unit's Finished, whose number was 0
 pub record JustOpen (c : Connection) : Type 0 where
@@ -50,15 +50,15 @@ unfoldable pub EmptyThenData : Gateway → Type 0
 EmptyThenData g =
     (c : Connection) → JustOpen c → (random out bytes : List ℕ) → length random ≡ 16 → 128 ≤ length out
     → length bytes ≤ 1300
-    → (g c (receive (lastSealed (keysOf (c .handshake)) C.Data 7 []) random out) .result
+    → (g c (receive (lastProtected (keysOf (c .handshake)) C.Data 7 []) random out) .result
     ≡ received (T.Records 1) (slotsOf (W.Refused X.Malformed ∷ [])) 0)
-    × (g (g c (receive (lastSealed (keysOf (c .handshake)) C.Data 7 []) random out) .connection)
-    (receive (lastSealed (keysOf (c .handshake)) C.Data 7 bytes) random out) .result
+    × (g (g c (receive (lastProtected (keysOf (c .handshake)) C.Data 7 []) random out) .connection)
+    (receive (lastProtected (keysOf (c .handshake)) C.Data 7 bytes) random out) .result
     ≡ received (T.Records 1) (slotsOf (W.Refused X.Repeated ∷ [])) 0)
 
 -- two records of one number in one datagram: data, 11
 abbrev pub twice : Keys → List ℕ → List ℕ → List ℕ
-twice k one two = longSealed k C.Data 7 one ++ lastSealed k C.Data 7 two
+twice k one two = longProtected k C.Data 7 one ++ lastProtected k C.Data 7 two
 
 unfoldable pub TwiceInOne : Gateway → Type 0
 TwiceInOne g =
@@ -70,7 +70,7 @@ TwiceInOne g =
 
 -- data, critical, data in one datagram: data, critical, 7
 abbrev pub withAlert : Keys → List ℕ → List ℕ → List ℕ → List ℕ
-withAlert k one alert two = longSealed k C.Data 7 one ++ (longSealed k C.Alert 8 alert ++ lastSealed k C.Data 9 two)
+withAlert k one alert two = longProtected k C.Data 7 one ++ (longProtected k C.Alert 8 alert ++ lastProtected k C.Data 9 two)
 
 unfoldable pub ClosedBetween : Gateway → Type 0
 ClosedBetween g =

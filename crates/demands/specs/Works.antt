@@ -24,7 +24,7 @@ use Rattle.connection.specs.Receive.{slotsOf}
 use Rattle.connection.specs.Reply.{replyTo, expectedOf, clientRandom}
 use Rattle.connection.specs.declared.answer.Answer.{Answer}
 use Rattle.connection.specs.declared.answer.Answer.the-variants as W
-use Rattle.connection.specs.declared.calls.Connection.{Connection}
+use Rattle.connection.specs.declared.connection.Connection.{Connection}
 use Rattle.connection.specs.declared.receive.Taken.the-variants as T
 use Rattle.demands.specs.Runs.{Call, receive, Result, received, Step, Gateway, stepsOf}
 use Rattle.record.specs.declared.keys.Keys.{Keys}
@@ -37,8 +37,8 @@ use Rattle.record.specs.Window.{Held}
 abbrev pub clearDatagram : Content → ℕ → List ℕ → List ℕ
 clearDatagram content s fragment = recordOf false false content s fragment
 
-abbrev pub sealedDatagram : Keys → Content → ℕ → List ℕ → List ℕ
-sealedDatagram k content s body = protectedBy (hmac (unitKey k s)) (sizeOf (k .mac)) false content s body
+abbrev pub protectedDatagram : Keys → Content → ℕ → List ℕ → List ℕ
+protectedDatagram k content s body = protectedBy (hmac (unitKey k s)) (sizeOf (k .mac)) false content s body
 
 abbrev pub keysAfter : List ℕ → List ℕ → List ℕ → Plan → Keys
 keysAfter secret random m plan =
@@ -63,12 +63,12 @@ pub record Worked (g : Gateway) (id secret : List ℕ) (width : ℕ) (m random o
   pub changed : g c₁ (receive (clearDatagram C.ChangeCipherSpec 1 changeBytes) random out)
       ≡ record { result = oneAnswer W.Spec 0; output = out; connection = c₂ }
   pub opened : g c₂
-      (receive (sealedDatagram (keysAfter secret random m plan) C.Handshake 0
+      (receive (protectedDatagram (keysAfter secret random m plan) C.Handshake 0
       (finishedOf (expectedOf (sessionOf id secret) random m plan))) random out)
       ≡ record { result = oneAnswer W.Open 0; output = out; connection = c₃ }
-  pub handed : g c₃ (receive (sealedDatagram (keysAfter secret random m plan) C.Data 1 bytes) random out)
+  pub handed : g c₃ (receive (protectedDatagram (keysAfter secret random m plan) C.Data 1 bytes) random out)
       ≡ record { result = oneAnswer (W.Data 1 3 (length bytes)) 0; output = out; connection = c₄ }
-  pub as-sent : handedOf (sealedDatagram (keysAfter secret random m plan) C.Data 1 bytes) (W.Data 1 3 (length bytes))
+  pub as-sent : handedOf (protectedDatagram (keysAfter secret random m plan) C.Data 1 bytes) (W.Data 1 3 (length bytes))
       ≡ bytes
 
 unfoldable pub Works : Gateway → Type 0

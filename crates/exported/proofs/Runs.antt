@@ -16,7 +16,7 @@ use Rattle.connection.specs.Tally.{bumped, countedRefusal, countedAnswer, count
 use Rattle.connection.specs.declared.answer.Answer.{Answer}
 use Rattle.connection.specs.declared.answer.Answer.the-variants as W
 use Rattle.connection.specs.declared.answer.Slot.{Slot}
-use Rattle.connection.specs.declared.calls.Connection.{Connection}
+use Rattle.connection.specs.declared.connection.Connection.{Connection}
 use Rattle.connection.specs.declared.calls.Called.{Called}
 use Rattle.connection.specs.declared.calls.Outcome.{Outcome}
 use Rattle.connection.specs.declared.calls.Outcome.the-variants as O
@@ -244,7 +244,7 @@ module _ (state tally : List ℕ) (e : loaded state ≡ Is (connectionIn state))
 
   module _ (protected level description : ℕ) (answered out : List ℕ) where
     abbrev a : Bool → Sent
-    a sealed = alertSent c sealed level description answered (length out)
+    a protected = alertSent c protected level description answered (length out)
 
     abbrev alerts : Bool → Bool → Bool → List Call
     alerts b z o =
@@ -500,14 +500,14 @@ module _ (state tally : List ℕ) where
       record { result = q .0; state-same = q .1; tally-same = refl; out-same = refl; answers-same = refl }
 
   -- an alert, by three tests
-  alerted : (b z o : Bool) (clear sealed : Call) (n m : ℕ) (left kept out-clear out-sealed out : List ℕ)
-      → pick b (pick z (clear ∷ []) (pick o (sealed ∷ []) [])) [] ≡ []
+  alerted : (b z o : Bool) (clear protected : Call) (n m : ℕ) (left kept out-clear out-protected out : List ℕ)
+      → pick b (pick z (clear ∷ []) (pick o (protected ∷ []) [])) [] ≡ []
       → (pick b (pick z n (pick o m notTaken)) notTaken ≡ notTaken)
-      × (pick b (pick z left (pick o kept state)) state ≡ state) × (pick b (pick z out-clear (pick o out-sealed out)) out ≡ out)
-  alerted true true o clear sealed n m left kept out-clear out-sealed out none = some-call clear none
-  alerted true false true clear sealed n m left kept out-clear out-sealed out none = some-call sealed none
-  alerted true false false clear sealed n m left kept out-clear out-sealed out none = (refl, refl, refl)
-  alerted false z o clear sealed n m left kept out-clear out-sealed out none = (refl, refl, refl)
+      × (pick b (pick z left (pick o kept state)) state ≡ state) × (pick b (pick z out-clear (pick o out-protected out)) out ≡ out)
+  alerted true true o clear protected n m left kept out-clear out-protected out none = some-call clear none
+  alerted true false true clear protected n m left kept out-clear out-protected out none = some-call protected none
+  alerted true false false clear protected n m left kept out-clear out-protected out none = (refl, refl, refl)
+  alerted false z o clear protected n m left kept out-clear out-protected out none = (refl, refl, refl)
 
   alert-16-first : (protected level description : ℕ) (answered out : List ℕ) → callsIn state tally (send-alert protected level description answered out) ≡ []
       → Refused16 state tally (send-alert protected level description answered out)

@@ -8,7 +8,7 @@ use Prim.Native.Nat.{ℕ}
 use lib.ListN.{length}
 use Rattle.digest.specs.Pick.{pick}
 use Rattle.record.specs.Window.{Held}
-use Rattle.connection.specs.declared.calls.Connection.{Connection}
+use Rattle.connection.specs.declared.connection.Connection.{Connection}
 use Rattle.lent.specs.Saved.{stateSize, isSaved, Loaded, Is, loaded}
 use Rattle.lent.specs.Counts.{tallyIn, TallyRanged}
 use Rattle.lent.specs.Report.{reportOf}
@@ -88,7 +88,7 @@ callsIn state tally (receive d random out answers) =
     pick (lentFor state (length tally) (length answers)) (R.receive d random out ∷ []) []
 callsIn state tally (send-data bytes out) = pick (isSaved state) (R.send-data bytes out ∷ []) []
 callsIn state tally (send-alert protected level description answered out) =
-    pick (isSaved state) (sense protected (λ sealed. R.send-alert sealed level description answered out ∷ []) []) []
+    pick (isSaved state) (sense protected (λ isProtected. R.send-alert protected level description answered out ∷ []) []) []
 callsIn state tally close = pick (isSaved state) (R.close ∷ []) []
 callsIn state tally start = pick (isSaved state) (R.start ∷ []) []
 

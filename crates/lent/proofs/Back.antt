@@ -17,7 +17,7 @@ use Rattle.digest.specs.declared.mac.Mac.the-variants.{Sha80, Sha}
 use Rattle.connection.specs.declared.state.State.{State}
 use Rattle.connection.specs.declared.state.State.the-variants.{Idle, Replied, Spec, Open, Closed, Barred}
 use Rattle.connection.specs.declared.handshake.Handshake.{Handshake}
-use Rattle.connection.specs.declared.calls.Connection.{Connection}
+use Rattle.connection.specs.declared.connection.Connection.{Connection}
 use Rattle.lent.specs.Fields.{joined, bytesIn, twoIn, eightIn}
 use Rattle.lent.specs.Saved.{stateSize, mark, stateNumber, savedHandshake, savedOf, isSaved, stateNumbered, macNumbered, protectionIn, keysIn, keptIn, windowIn, sentIn, sumFields, handshakeIn, connectionIn, Is, No, loaded, Ranged, Bytes}
 use Rattle.lent.proofs.Laying.{joined-append, joined-one, joined-none, length-eight}

@@ -18,7 +18,7 @@ use Rattle.message.specs.declared.alert.Graded.{Graded}
 use Rattle.message.specs.declared.alert.Graded.the-variants as G
 use Rattle.message.specs.declared.alert.Sorted.the-variants as D
 use Rattle.connection.specs.Send.{alertSent, alertOutput, alertSentAs, alertOutputAs, unsent}
-use Rattle.connection.specs.declared.calls.Connection.{Connection}
+use Rattle.connection.specs.declared.connection.Connection.{Connection}
 use Rattle.connection.specs.declared.calls.Called.{Called}
 use Rattle.connection.specs.declared.refusal.Refusal.the-variants.{Argument}
 use Rattle.connection.proofs.Sending.{no-level, no-level-output}
@@ -138,34 +138,34 @@ no-description-above (d ∷ ds) n h =
     rw other (no-description-above ds n h)
 
 -- so an alert with one is refused 16, and nothing is written
-pub level-above : (c : Connection) (sealed : Bool) (level description : ℕ) (answered : List ℕ) (room : ℕ) → 255 < level
-    → unsent c Argument ≡ alertSent c sealed level description answered room
+pub level-above : (c : Connection) (protected : Bool) (level description : ℕ) (answered : List ℕ) (room : ℕ) → 255 < level
+    → unsent c Argument ≡ alertSent c protected level description answered room
 unfolding alertSent
-level-above c sealed level description answered room h =
-    rw (no-level-above level h) (no-level c sealed answered room (sortedOf description))
+level-above c protected level description answered room h =
+    rw (no-level-above level h) (no-level c protected answered room (sortedOf description))
 
-pub level-above-output : (c : Connection) (sealed : Bool) (level description : ℕ) (answered out : List ℕ) → 255 < level
-    → out ≡ alertOutput c sealed level description answered out
+pub level-above-output : (c : Connection) (protected : Bool) (level description : ℕ) (answered out : List ℕ) → 255 < level
+    → out ≡ alertOutput c protected level description answered out
 unfolding alertOutput
-level-above-output c sealed level description answered out h =
-    rw (no-level-above level h) (no-level-output c sealed answered out (sortedOf description))
+level-above-output c protected level description answered out h =
+    rw (no-level-above level h) (no-level-output c protected answered out (sortedOf description))
 
-no-sort : (c : Connection) (sealed : Bool) (answered : List ℕ) (room : ℕ) (g : Graded) → unsent c Argument ≡ alertSentAs c sealed answered room g D.Unassigned
-no-sort c sealed answered room (G.Is level) = refl
-no-sort c sealed answered room G.Unassigned = refl
+no-sort : (c : Connection) (protected : Bool) (answered : List ℕ) (room : ℕ) (g : Graded) → unsent c Argument ≡ alertSentAs c protected answered room g D.Unassigned
+no-sort c protected answered room (G.Is level) = refl
+no-sort c protected answered room G.Unassigned = refl
 
-no-sort-output : (c : Connection) (sealed : Bool) (answered out : List ℕ) (g : Graded) → out ≡ alertOutputAs c sealed answered out g D.Unassigned
-no-sort-output c sealed answered out (G.Is level) = refl
-no-sort-output c sealed answered out G.Unassigned = refl
+no-sort-output : (c : Connection) (protected : Bool) (answered out : List ℕ) (g : Graded) → out ≡ alertOutputAs c protected answered out g D.Unassigned
+no-sort-output c protected answered out (G.Is level) = refl
+no-sort-output c protected answered out G.Unassigned = refl
 
-pub description-above : (c : Connection) (sealed : Bool) (level description : ℕ) (answered : List ℕ) (room : ℕ) → 255 < description
-    → unsent c Argument ≡ alertSent c sealed level description answered room
+pub description-above : (c : Connection) (protected : Bool) (level description : ℕ) (answered : List ℕ) (room : ℕ) → 255 < description
+    → unsent c Argument ≡ alertSent c protected level description answered room
 unfolding alertSent sortedOf
-description-above c sealed level description answered room h =
-    rw (no-description-above descriptions description h) (no-sort c sealed answered room (levelOf level))
+description-above c protected level description answered room h =
+    rw (no-description-above descriptions description h) (no-sort c protected answered room (levelOf level))
 
-pub description-above-output : (c : Connection) (sealed : Bool) (level description : ℕ) (answered out : List ℕ) → 255 < description
-    → out ≡ alertOutput c sealed level description answered out
+pub description-above-output : (c : Connection) (protected : Bool) (level description : ℕ) (answered out : List ℕ) → 255 < description
+    → out ≡ alertOutput c protected level description answered out
 unfolding alertOutput sortedOf
-description-above-output c sealed level description answered out h =
-    rw (no-description-above descriptions description h) (no-sort-output c sealed answered out (levelOf level))
+description-above-output c protected level description answered out h =
+    rw (no-description-above descriptions description h) (no-sort-output c protected answered out (levelOf level))

@@ -22,7 +22,7 @@ use Rattle.connection.specs.Send.{dataSent, dataOutput, dataOutcome, alertSent,
 use Rattle.connection.specs.Tally.{countedOf}
 use Rattle.connection.specs.declared.refusal.Refusal.the-variants.{Room, Argument}
 use Rattle.connection.specs.declared.handshake.Handshake.{Handshake}
-use Rattle.connection.specs.declared.calls.Connection.{Connection}
+use Rattle.connection.specs.declared.connection.Connection.{Connection}
 use Rattle.connection.specs.declared.calls.Called.{Called}
 use Rattle.connection.specs.declared.calls.Outcome.{Outcome}
 use Rattle.connection.specs.declared.calls.Outcome.the-variants.{Done, Refused}
@@ -107,19 +107,19 @@ data-refused state bytes out h =
     let next = nextProtected k C.Data bytes in
     sent-alone (isSaved state) (dataOutcome k (length bytes) (length out)) (connectionIn state) next (afterProtected k next) state out h
 
-alert-alone : (t : Bool) (state : List ℕ) (c : Connection) (sealed : Bool) (answered out : List ℕ) (g : Graded) (d : Sorted)
-    → IsRefused (pick t (sentResult (alertSentAs c sealed answered (length out) g d)) notTaken)
-    → (pick t (sentState state (alertSentAs c sealed answered (length out) g d)) state ≡ state) × (pick t (alertOutputAs c sealed answered out g d) out ≡ out)
-alert-alone t state c sealed answered out (G.Is level) (D.Assigned description) h =
+alert-alone : (t : Bool) (state : List ℕ) (c : Connection) (protected : Bool) (answered out : List ℕ) (g : Graded) (d : Sorted)
+    → IsRefused (pick t (sentResult (alertSentAs c protected answered (length out) g d)) notTaken)
+    → (pick t (sentState state (alertSentAs c protected answered (length out) g d)) state ≡ state) × (pick t (alertOutputAs c protected answered out g d) out ≡ out)
+alert-alone t state c protected answered out (G.Is level) (D.Assigned description) h =
     let k = c .handshake in
-    let next = nextAlert sealed k (alertBody level description answered) in
-    sent-alone t (alertOutcome sealed k (length answered) (length out)) c next (afterAlert sealed k next) state out h
-alert-alone true state c sealed answered out (G.Is level) D.Unassigned h = (refl, refl)
-alert-alone false state c sealed answered out (G.Is level) D.Unassigned h = (refl, refl)
-alert-alone true state c sealed answered out G.Unassigned (D.Assigned description) h = (refl, refl)
-alert-alone false state c sealed answered out G.Unassigned (D.Assigned description) h = (refl, refl)
-alert-alone true state c sealed answered out G.Unassigned D.Unassigned h = (refl, refl)
-alert-alone false state c sealed answered out G.Unassigned D.Unassigned h = (refl, refl)
+    let next = nextAlert protected k (alertBody level description answered) in
+    sent-alone t (alertOutcome protected k (length answered) (length out)) c next (afterAlert protected k next) state out h
+alert-alone true state c protected answered out (G.Is level) D.Unassigned h = (refl, refl)
+alert-alone false state c protected answered out (G.Is level) D.Unassigned h = (refl, refl)
+alert-alone true state c protected answered out G.Unassigned (D.Assigned description) h = (refl, refl)
+alert-alone false state c protected answered out G.Unassigned (D.Assigned description) h = (refl, refl)
+alert-alone true state c protected answered out G.Unassigned D.Unassigned h = (refl, refl)
+alert-alone false state c protected answered out G.Unassigned D.Unassigned h = (refl, refl)
 
 pub alert-refused : (state : List ℕ) (protected level description : ℕ) (answered out : List ℕ)
     → IsRefused (alertResult state protected level description answered (length out))
@@ -128,14 +128,14 @@ unfolding alertResult alertState alertOut alertSent alertOutput
 alert-refused state protected level description answered out h =
     told (isSaved state) (eqb protected 0) (eqb protected 1) h
   where
-    told : (t clear seal : Bool)
-        → IsRefused (pick t (pick clear (sentResult (alertSentAs (connectionIn state) false answered (length out) (levelOf level) (sortedOf description))) (pick seal (sentResult (alertSentAs (connectionIn state) true answered (length out) (levelOf level) (sortedOf description))) notTaken)) notTaken)
-        → (pick t (pick clear (sentState state (alertSentAs (connectionIn state) false answered (length out) (levelOf level) (sortedOf description))) (pick seal (sentState state (alertSentAs (connectionIn state) true answered (length out) (levelOf level) (sortedOf description))) state)) state ≡ state)
-        × (pick t (pick clear (alertOutputAs (connectionIn state) false answered out (levelOf level) (sortedOf description)) (pick seal (alertOutputAs (connectionIn state) true answered out (levelOf level) (sortedOf description)) out)) out ≡ out)
-    told true true seal h = alert-alone true state (connectionIn state) false answered out (levelOf level) (sortedOf description) h
+    told : (t clear protect : Bool)
+        → IsRefused (pick t (pick clear (sentResult (alertSentAs (connectionIn state) false answered (length out) (levelOf level) (sortedOf description))) (pick protect (sentResult (alertSentAs (connectionIn state) true answered (length out) (levelOf level) (sortedOf description))) notTaken)) notTaken)
+        → (pick t (pick clear (sentState state (alertSentAs (connectionIn state) false answered (length out) (levelOf level) (sortedOf description))) (pick protect (sentState state (alertSentAs (connectionIn state) true answered (length out) (levelOf level) (sortedOf description))) state)) state ≡ state)
+        × (pick t (pick clear (alertOutputAs (connectionIn state) false answered out (levelOf level) (sortedOf description)) (pick protect (alertOutputAs (connectionIn state) true answered out (levelOf level) (sortedOf description)) out)) out ≡ out)
+    told true true protect h = alert-alone true state (connectionIn state) false answered out (levelOf level) (sortedOf description) h
     told true false true h = alert-alone true state (connectionIn state) true answered out (levelOf level) (sortedOf description) h
     told true false false h = (refl, refl)
-    told false clear seal h = (refl, refl)
+    told false clear protect h = (refl, refl)
 
 -- receive, by how the datagram was taken
 pub record ReceiveAlone (state tally answers d random out : List ℕ) : Type 0 where

@@ -22,7 +22,7 @@ use Rattle.record.specs.declared.window.Acceptance.the-variants as A
 use Rattle.record.specs.declared.header.Content.the-variants as C
 use Rattle.record.proofs.Standing.{takes}
 use Rattle.record.proofs.Covering.{covers}
-use Rattle.record.proofs.Sealed.{size-most}
+use Rattle.record.proofs.ProtectedBytes.{size-most}
 use Rattle.message.specs.Acceptance.{heardOf}
 use Rattle.message.specs.Alert.{alertOf, levelOf, sortedOf}
 use Rattle.message.specs.Change.{isChange}
@@ -44,8 +44,8 @@ use Rattle.connection.specs.Handshake.{withState, withWindow, planted, wasSent}
 use Rattle.connection.specs.State.{ruleOf}
 use Rattle.connection.specs.Answer.{replySize, judged, refusing}
 use Rattle.connection.specs.Clear.{heardTo, greetedBy, isKept, keptSize, greetedAgain, changedBy, byLevel, heardBy, heardAlert}
-use Rattle.connection.specs.Sealed.{finishedIn, verifiedTo, verifiedBy, sealedLevel, alertedTo, alertedBy, contentBy, unsealedBy}
-use Rattle.connection.proofs.Unsealing.{windowedTo, genuineIn, contentIn, unsealed-is}
+use Rattle.connection.specs.Protected.{finishedIn, verifiedTo, verifiedBy, protectedLevel, alertedTo, alertedBy, contentBy, openedRecord}
+use Rattle.connection.proofs.OpeningRecords.{windowedTo, genuineIn, contentIn, opened-record-is}
 use Rattle.connection.specs.Judge.{ruledBy, fragmentOf, kindIn, judgedRecord}
 use Rattle.connection.specs.Receive.{receivedOf, framedTo, firstReply, runOf, wholeOf}
 use Rattle.connection.specs.Send.{dataSent, dataOutcome, dataRefused, andThen, mayData, numberedBy, alertSent, alertSentAs, alertOutcome, alertBody, nextAlert, afterAlert, sentTo, done, nextProtected, afterProtected}
@@ -60,7 +60,7 @@ use Rattle.connection.specs.declared.refusal.Refusal.the-variants.{Forged, Malf
 use Rattle.connection.specs.declared.answer.Answer.the-variants as W
 use Rattle.connection.specs.declared.answer.Judged.{Judged}
 use Rattle.connection.specs.declared.handshake.Handshake.{Handshake}
-use Rattle.connection.specs.declared.calls.Connection.{Connection}
+use Rattle.connection.specs.declared.connection.Connection.{Connection}
 use Rattle.connection.specs.declared.calls.Outcome.{Outcome}
 use Rattle.connection.specs.declared.calls.Outcome.the-variants.{Done, Refused}
 use Rattle.connection.specs.declared.receive.Taken.{Taken}
@@ -113,24 +113,24 @@ module _ where
   small-verified h Fin.Wrong = omega arith
   small-verified h Fin.Malformed = omega arith
 
-  small-sealed : (h : Handshake) (l : Level) (d : Description) → Small (sealedLevel h l d)
+  small-protected : (h : Handshake) (l : Level) (d : Description) → Small (protectedLevel h l d)
   unfolding Small
-  small-sealed h L.Warning d = omega arith
-  small-sealed h L.Critical d = omega arith
-  small-sealed h L.Fatal d = omega arith
+  small-protected h L.Warning d = omega arith
+  small-protected h L.Critical d = omega arith
+  small-protected h L.Fatal d = omega arith
 
   small-alerted : (h : Handshake) (a : AlertReading) → Small (alertedTo h a)
   unfolding Small
   small-alerted h Q.Malformed = omega arith
-  small-alerted h (Q.WellFormed a) = small-sealed h (a .level) (a .description)
+  small-alerted h (Q.WellFormed a) = small-protected h (a .level) (a .description)
 
   small-content : (h : Handshake) (kind : Kind) (number at : ℕ) (content : List ℕ) → Small (contentBy h kind number at content)
   unfolding contentBy alertedBy verifiedBy Small
-  small-content h K.SealedData number at content =
+  small-content h K.ProtectedData number at content =
       small-pick (eqb (length content) 0) (refusing Malformed h) (judged (W.Data number at (length content)) h) (omega arith) (omega arith)
-  small-content h K.SealedAlert number at content = small-alerted h (alertOf content)
-  small-content h K.SealedHandshake number at content = small-verified h (judgedOf content (h .expected))
-  small-content h K.SealedChange number at content = omega arith
+  small-content h K.ProtectedAlert number at content = small-alerted h (alertOf content)
+  small-content h K.ProtectedHandshake number at content = small-verified h (judgedOf content (h .expected))
+  small-content h K.ProtectedChange number at content = omega arith
   small-content h K.ClearHello number at content = omega arith
   small-content h K.ClearChange number at content = omega arith
   small-content h K.ClearAlert number at content = omega arith
@@ -142,9 +142,9 @@ module _ where
   small-windowed h kind number at content A.Repeated = omega arith
   small-windowed h kind number at content (A.New window arrived) = small-content (withWindow h window) kind number at content
 
-  small-unsealed : (h : Handshake) (kind : Kind) (byte number at : ℕ) (fragment : List ℕ) → Small (unsealedBy h kind byte number at fragment)
-  small-unsealed h kind byte number at fragment =
-      subst Small (sym (unsealed-is h kind byte number at fragment))
+  small-opened-record : (h : Handshake) (kind : Kind) (byte number at : ℕ) (fragment : List ℕ) → Small (openedRecord h kind byte number at fragment)
+  small-opened-record h kind byte number at fragment =
+      subst Small (sym (opened-record-is h kind byte number at fragment))
       (small-pick (genuineIn h byte number fragment) (windowedTo h kind number at (contentIn h fragment) (acceptOf (h .protection .window) number)) (refusing Forged h)
       (small-windowed h kind number at (contentIn h fragment) (acceptOf (h .protection .window) number))
       (small-refusing Forged h))
@@ -198,7 +198,7 @@ module _ where
         small-pick (eqb start 0) (greetedAgain h random fragment) (refusing NotAllowed h) (small-again fragment) (omega arith)
     small-ruled U.Change kind byte number start at fragment = small-changed h fragment
     small-ruled U.Hear kind byte number start at fragment = small-heard h (alertOf fragment)
-    small-ruled U.Unseal kind byte number start at fragment = small-unsealed h kind byte number at fragment
+    small-ruled U.OpenRecord kind byte number start at fragment = small-opened-record h kind byte number at fragment
 
     small-record : (d : List ℕ) (r : Record) → Small (judgedRecord h random d r)
     unfolding judgedRecord
@@ -334,7 +334,7 @@ data-most c bytes room =
     size : (h : Handshake) (n room : ℕ) → dataOutcome h n room ≡ Done → n ≤ 1300
     size h n room e = most (h .state) n (h .protection .protected) (sizeOf (h .protection .keys .mac)) room e
 
-alert-most : (c : Connection) (sealed : Bool) (answered : List ℕ) (room : ℕ) (g : Graded) (d : Sorted) → alertSentAs c sealed answered room g d .written ≤ 1323
+alert-most : (c : Connection) (protected : Bool) (answered : List ℕ) (room : ℕ) (g : Graded) (d : Sorted) → alertSentAs c protected answered room g d .written ≤ 1323
 alert-most c true answered room (G.Is level) (D.Assigned description) =
     let h = c .handshake in
     let body = alertBody level description answered in
@@ -345,9 +345,9 @@ alert-most c false answered room (G.Is level) (D.Assigned description) =
     let body = alertBody level description answered in
     sent-most true (alertOutcome false h (length answered) room) c (nextAlert false h body) (afterAlert false h (nextAlert false h body))
     (λ e. omega (arith, clear-size h body))
-alert-most c sealed answered room (G.Is level) D.Unassigned = omega arith
-alert-most c sealed answered room G.Unassigned (D.Assigned description) = omega arith
-alert-most c sealed answered room G.Unassigned D.Unassigned = omega arith
+alert-most c protected answered room (G.Is level) D.Unassigned = omega arith
+alert-most c protected answered room G.Unassigned (D.Assigned description) = omega arith
+alert-most c protected answered room G.Unassigned D.Unassigned = omega arith
 
 pub data-written : (state bytes : List ℕ) (room : ℕ) → isSaved state ≡ true
     → writtenPart (dataResult state bytes room) ≡ dataSent (connectionIn state) bytes room .written
@@ -355,13 +355,13 @@ unfolding dataResult
 data-written state bytes room saved =
     rw saved (written-part (refusalIn (dataSent (connectionIn state) bytes room .outcome)) (dataSent (connectionIn state) bytes room .written) 0 (omega (arith, data-most (connectionIn state) bytes room)))
 
-pub alert-written : (state : List ℕ) (sealed : Bool) (protected level description : ℕ) (answered : List ℕ) (room : ℕ) → isSaved state ≡ true
-    → protected ≤ 1 → sealed ≡ eqb protected 1
-    → writtenPart (alertResult state protected level description answered room) ≡ alertSent (connectionIn state) sealed level description answered room .written
+pub alert-written : (state : List ℕ) (protected : Bool) (protected level description : ℕ) (answered : List ℕ) (room : ℕ) → isSaved state ≡ true
+    → protected ≤ 1 → protected ≡ eqb protected 1
+    → writtenPart (alertResult state protected level description answered room) ≡ alertSent (connectionIn state) protected level description answered room .written
 unfolding alertResult alertSent
-alert-written state sealed protected level description answered room saved h e =
+alert-written state protected protected level description answered room saved h e =
     let sent : Bool → Sent = λ b. alertSent (connectionIn state) b level description answered room in
     rw saved
     (sym (ap writtenPart (sense-in protected (λ b. sentResult (sent b)) notTaken h))
     ∙ ap (λ b. writtenPart (sentResult (sent b))) (sym e)
-    ∙ written-part (refusalIn (sent sealed .outcome)) (sent sealed .written) 0 (omega (arith, alert-most (connectionIn state) sealed answered room (levelOf level) (sortedOf description))))
+    ∙ written-part (refusalIn (sent protected .outcome)) (sent protected .written) 0 (omega (arith, alert-most (connectionIn state) protected answered room (levelOf level) (sortedOf description))))

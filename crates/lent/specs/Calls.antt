@@ -13,7 +13,7 @@ use Rattle.connection.specs.Calls.{freshOf, closedOf, startedOf}
 use Rattle.connection.specs.Receive.{receivedOf, outputOf}
 use Rattle.connection.specs.Send.{dataSent, dataOutput, alertSent, alertOutput}
 use Rattle.connection.specs.Tally.{countedOf}
-use Rattle.connection.specs.declared.calls.Connection.{Connection}
+use Rattle.connection.specs.declared.connection.Connection.{Connection}
 use Rattle.connection.specs.declared.calls.Outcome.{Outcome}
 use Rattle.connection.specs.declared.calls.Outcome.the-variants.{Done, Refused}
 use Rattle.connection.specs.declared.calls.Called.{Called}
@@ -155,7 +155,7 @@ unfoldable pub alertResult : List ℕ → ℕ → ℕ → ℕ → List ℕ → �
 alertResult state protected level description answered room =
     pick (isSaved state)
     (sense protected
-    (λ sealed. sentResult (alertSent (connectionIn state) sealed level description answered room))
+    (λ isProtected. sentResult (alertSent (connectionIn state) protected level description answered room))
     notTaken)
     notTaken
 
@@ -163,7 +163,7 @@ unfoldable pub alertState : List ℕ → ℕ → ℕ → ℕ → List ℕ → �
 alertState state protected level description answered room =
     pick (isSaved state)
     (sense protected
-    (λ sealed. sentState state (alertSent (connectionIn state) sealed level description answered room))
+    (λ isProtected. sentState state (alertSent (connectionIn state) protected level description answered room))
     state)
     state
 
@@ -171,14 +171,14 @@ unfoldable pub alertLoads : List ℕ → ℕ → ℕ → ℕ → List ℕ → �
 alertLoads state protected level description answered room =
     pick (isSaved state)
     (sense protected
-    (λ sealed. sentLoads state (alertSent (connectionIn state) sealed level description answered room))
+    (λ isProtected. sentLoads state (alertSent (connectionIn state) protected level description answered room))
     (loaded state))
     (loaded state)
 
 unfoldable pub alertOut : List ℕ → ℕ → ℕ → ℕ → List ℕ → List ℕ → List ℕ
 alertOut state protected level description answered out =
     pick (isSaved state)
-    (sense protected (λ sealed. alertOutput (connectionIn state) sealed level description answered out) out)
+    (sense protected (λ isProtected. alertOutput (connectionIn state) protected level description answered out) out)
     out
 
 -- receive: a saved connection, a tally of 16 bytes, answers of 192

@@ -43,7 +43,7 @@ use Rattle.connection.specs.declared.handshake.Session.{Session}
 use Rattle.connection.specs.declared.handshake.Kept.{Kept}
 use Rattle.connection.specs.declared.handshake.Handshake.{Handshake}
 use Rattle.connection.specs.declared.sent.SentRecords.{SentRecords}
-use Rattle.connection.specs.declared.calls.Connection.{Connection}
+use Rattle.connection.specs.declared.connection.Connection.{Connection}
 use Rattle.lent.specs.Fields.{joined, bytesIn, twoIn, eightIn}
 
 -- how many bytes hold a connection

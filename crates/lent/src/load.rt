@@ -10,7 +10,7 @@ use crate::bytes::eight_in;
 use crate::bytes::four_in;
 use crate::bytes::two_in;
 use crate::save::SIZE;
-use connection::calls::Connection;
+use connection::connection::Connection;
 use connection::handshake::Handshake;
 use connection::handshake::Kept;
 use connection::sent::SentRecords;

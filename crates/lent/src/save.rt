@@ -10,7 +10,7 @@ ghost use Rattle.lent.specs.Saved.{keptFields, windowFields, sendingFiel
 use crate::bytes::eight;
 use crate::bytes::four;
 use crate::bytes::two;
-use connection::calls::Connection;
+use connection::connection::Connection;
 use connection::handshake::Kept;
 use connection::handshake::Session;
 use connection::state::State;

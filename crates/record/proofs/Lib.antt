@@ -7,7 +7,7 @@ pub mod Answers
 pub mod Histories
 pub mod Blocks
 pub mod Fronts
-pub mod Sealed
+pub mod ProtectedBytes
 pub mod Protecting
 pub mod Covering
 pub mod RoundTrip

@@ -37,7 +37,7 @@ use Rattle.record.specs.declared.protection.Wrote.{Wrote}
 use Rattle.record.specs.declared.protection.Wrote.the-variants as W
 use Rattle.record.proofs.Histories.{meaning, new-means, accepted-here, accepted-still}
 use Rattle.record.proofs.RoundTrip.{readBack, read-protected, fragment-back}
-use Rattle.record.proofs.Sealed.{genuine-made, sealed-genuine, sealed-length}
+use Rattle.record.proofs.ProtectedBytes.{genuine-made, protected-genuine, protected-length}
 use Rattle.record.proofs.Protecting.{forged-as, opened-as}
 
 -- ---- genuine, by bytes
@@ -53,8 +53,8 @@ module _ (p : Protection) (sense : Sense) (s byte : ℕ) (f : List ℕ) where
   coded-opens c e =
       let k : List ℕ = secretFor (p .keys) sense s in
       let right : genuineUnder (p .keys) sense s byte f ≡ true =
-      ap (genuineUnder (p .keys) sense s byte) e ∙ sealed-genuine k (p .keys .mac) s byte c in
-      let size : contentSize (p .keys) f ≡ length c = omega (arith, ap length e, sealed-length k (p .keys .mac) s byte c) in
+      ap (genuineUnder (p .keys) sense s byte) e ∙ protected-genuine k (p .keys .mac) s byte c in
+      let size : contentSize (p .keys) f ≡ length c = omega (arith, ap length e, protected-length k (p .keys .mac) s byte c) in
       sym (opened-as p sense s byte f (genuineUnder (p .keys) sense s byte f) refl right (acceptOf (p .window) s) refl)
       ∙ ap (λ n. openedTo p n (acceptOf (p .window) s)) size
 

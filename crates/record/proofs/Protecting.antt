@@ -26,7 +26,7 @@ use Rattle.record.specs.declared.protection.Opening.{Opening}
 use Rattle.record.specs.declared.protection.Opened.the-variants as O
 use Rattle.record.specs.declared.protection.Wrote.the-variants as W
 use Rattle.record.proofs.Fronts.{record-length}
-use Rattle.record.proofs.Sealed.{genuine-short, protected-key, sealed-length}
+use Rattle.record.proofs.ProtectedBytes.{genuine-short, protected-key, protected-length}
 
 -- ---- opening
 
@@ -62,7 +62,7 @@ pub record-under-length : (k : Keys) (sense : Sense) (content : Content) (s : �
 unfolding recordUnder protectedBy
 record-under-length k sense content s body =
     record-length false true content s (fragmentBy (hmac (secretFor k sense s)) (sizeOf (k .mac)) s (byteFor false true content) body)
-    ∙ ap (λ n. 3 + n) (sealed-length (secretFor k sense s) (k .mac) s (byteFor false true content) body)
+    ∙ ap (λ n. 3 + n) (protected-length (secretFor k sense s) (k .mac) s (byteFor false true content) body)
 
 -- what a count says of the room
 counted : (bytes out : List ℕ) (n : ℕ) → 0 < length bytes → n ≡ countOf out bytes

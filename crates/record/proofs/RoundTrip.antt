@@ -17,7 +17,7 @@ use Rattle.record.specs.Header.{kindOf, soundKind, contentOf, numberOf}
 use Rattle.record.specs.Reader.{readOf, readAs, framedOf, sizeOf, pairAt}
 use Rattle.record.specs.Written.{byteFor, headerOf, headerSize, recordOf}
 use Rattle.record.specs.Code.{fragmentBy, protectedBy}
-use Rattle.record.proofs.Sealed.{sealed-length, size-some}
+use Rattle.record.proofs.ProtectedBytes.{protected-length, size-some}
 use Rattle.record.specs.declared.header.Kind.{Kind}
 use Rattle.record.specs.declared.header.Content.{Content}
 use Rattle.record.specs.declared.header.Content.the-variants.{ChangeCipherSpec, Alert, Handshake, Data}
@@ -114,6 +114,6 @@ pub read-protected : (k : List ℕ) (mac : Mac) (content : Content) (number : �
 unfolding protectedBy
 read-protected k mac content number body h =
     let byte : ℕ = byteFor false true content in
-    let size = sealed-length k mac number byte body in
+    let size = protected-length k mac number byte body in
     read-short true content number (fragmentBy (hmac k) (codeSize mac) number byte body) h (omega (arith, size, size-some mac))
     ∙ ap (λ (n : ℕ). Sound (readBack false true content number n)) size

@@ -12,7 +12,7 @@ use Rattle.gather.specs.declared.gatherer.Gatherer.{Gatherer}
 use Rattle.gather.specs.declared.gatherer.Answer.{Answer}
 use Rattle.gather.specs.declared.gatherer.Answer.the-variants as A
 use Rattle.connection.specs.Receive.{receivedOf, outputOf}
-use Rattle.connection.specs.declared.calls.Connection.{Connection}
+use Rattle.connection.specs.declared.connection.Connection.{Connection}
 use Rattle.short.specs.Message.{isShown, nothingOf, takenOf, heardOf, Leaves, leaves, gatheredOf, received, messageOf}
 use Rattle.short.specs.Meaning.{Alone, Quiet, ByReceive, LentWrong}
 

@@ -12,7 +12,7 @@ use Rattle.gather.specs.declared.gatherer.Gatherer.{Gatherer}
 use Rattle.gather.specs.declared.gatherer.Answer.{Answer}
 use Rattle.gather.specs.declared.gatherer.Step.{Step}
 use Rattle.connection.specs.Receive.{receivedOf, outputOf}
-use Rattle.connection.specs.declared.calls.Connection.{Connection}
+use Rattle.connection.specs.declared.connection.Connection.{Connection}
 use Rattle.connection.specs.declared.receive.Received.{Received}
 use Rattle.short.specs.Message.{isShown, nothingOf, takenOf, heardOf, leaves, gatheredOf, received, refusing, messageOf}
 use Rattle.short.specs.declared.take.Messaged.{Messaged}

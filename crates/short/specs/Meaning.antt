@@ -9,7 +9,7 @@ use Rattle.gather.specs.Gatherer.{Left, datagramOf}
 use Rattle.gather.specs.declared.refusal.Refusal.the-variants.{Argument, Room}
 use Rattle.gather.specs.declared.gatherer.Gatherer.{Gatherer}
 use Rattle.connection.specs.Receive.{receivedOf, outputOf}
-use Rattle.connection.specs.declared.calls.Connection.{Connection}
+use Rattle.connection.specs.declared.connection.Connection.{Connection}
 use Rattle.short.specs.Message.{isShown, nothingOf, leaves, gatheredOf, refusing, messageOf}
 
 module _ (c : Connection) (g : Gatherer) (store message assembly random out : List ℕ) where

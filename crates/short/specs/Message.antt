@@ -12,7 +12,7 @@ use Rattle.gather.specs.declared.gatherer.Gatherer.{Gatherer}
 use Rattle.gather.specs.declared.gatherer.Answer.{Answer}
 use Rattle.gather.specs.declared.gatherer.Answer.the-variants as A
 use Rattle.connection.specs.Receive.{receivedOf, outputOf, wholeOf}
-use Rattle.connection.specs.declared.calls.Connection.{Connection}
+use Rattle.connection.specs.declared.connection.Connection.{Connection}
 use Rattle.connection.specs.declared.receive.Received.{Received}
 use Rattle.connection.specs.declared.receive.Taken.the-variants.{Records}
 use Rattle.short.specs.declared.take.Messaged.{Messaged}

@@ -3,7 +3,7 @@ ghost use mathlib.Core.Path.{_≡_};
 ghost use lib.ListN.{length};
 ghost use Rattle.short.specs.Message.{isShown, takenOf, heardOf, leaves, refusing, messageOf};
 use crate::unshown::nothing;
-use connection::calls::Connection;
+use connection::connection::Connection;
 use connection::receive::Received;
 use connection::receive::receive;
 use gather::Answer;

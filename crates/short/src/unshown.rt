@@ -3,7 +3,7 @@ ghost use mathlib.Core.Path.{_≡_};
 ghost use Rattle.short.specs.Message.{nothingOf};
 use connection::answer::Answer;
 use connection::answer::Slot;
-use connection::calls::Connection;
+use connection::connection::Connection;
 use connection::receive::Received;
 use connection::receive::Taken;
 

@@ -18,7 +18,7 @@ use Rattle.connection.specs.Receive.{receivedOf, runOf, endOf, answersOf, slot,
 use Rattle.connection.proofs.Running.{length-answers}
 use Rattle.connection.specs.declared.answer.Answer.{Answer}
 use Rattle.connection.specs.declared.answer.Answer.the-variants.{Nothing}
-use Rattle.connection.specs.declared.calls.Connection.{Connection}
+use Rattle.connection.specs.declared.connection.Connection.{Connection}
 use Rattle.connection.specs.declared.handshake.Handshake.{Handshake}
 use Rattle.demands.specs.Runs.{receive, stepOf}
 use Rattle.demands.specs.Genuine.{RecordOf}

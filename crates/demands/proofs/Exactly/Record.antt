@@ -24,7 +24,7 @@ use Rattle.record.specs.History.{accepted, highestOf, windowOf, arrivedOf, judg
 use Rattle.record.specs.Window.{acceptOf}
 use Rattle.record.proofs.Covering.{Lies, lies-at, covers}
 use Rattle.record.proofs.Standing.{Stands}
-use Rattle.record.proofs.Sealed.{genuine-made, sealed-genuine}
+use Rattle.record.proofs.ProtectedBytes.{genuine-made, protected-genuine}
 use Rattle.record.proofs.Histories.{meaning, old-when, repeated-when, new-when, old-means, repeated-means, new-means}
 use Rattle.record.specs.declared.header.Content.{Content}
 use Rattle.record.specs.declared.header.Content.the-variants as C
@@ -50,8 +50,8 @@ use Rattle.connection.specs.Answer.{judged, refusing}
 use Rattle.connection.specs.Clear.{heardTo, greetedBy, greetedAgain, isKept, changedBy, byLevel, heardBy, heardAlert}
 use Rattle.connection.specs.Handshake.{withState, withWindow, keptHello, wasSent}
 use Rattle.connection.specs.Judge.{judgedRecord, ruledBy, fragmentOf}
-use Rattle.connection.specs.Sealed.{finishedIn, verifiedTo, verifiedBy, sealedLevel, alertedTo, alertedBy, contentBy, unsealedBy}
-use Rattle.connection.proofs.Unsealing.{windowedTo, genuineIn, contentIn, unsealed-is}
+use Rattle.connection.specs.Protected.{finishedIn, verifiedTo, verifiedBy, protectedLevel, alertedTo, alertedBy, contentBy, openedRecord}
+use Rattle.connection.proofs.OpeningRecords.{windowedTo, genuineIn, contentIn, opened-record-is}
 use Rattle.connection.specs.State.{ruleOf}
 use Rattle.connection.specs.declared.answer.Answer.{Answer}
 use Rattle.connection.specs.declared.answer.Answer.the-variants as W
@@ -69,13 +69,13 @@ use Rattle.demands.specs.Genuine.{unitKey, keysOf, RecordOf}
 use Rattle.demands.specs.Exactly.Numbers.{Over}
 use Rattle.demands.specs.Exactly.Whole.{typeAt, headAt, sizeAt}
 use Rattle.demands.specs.Table.{Hears}
-use Rattle.demands.specs.Exactly.Record.{HoldsNumbers, ExactlyRecord, Seen, seenAt, IsHello, GuardedAs, Allowed, hello, change, alert, guarded, CodedAs, NewAs, IsAlert, IsFinished, WellFormedHello, Acceptable, GreetsAs, WhyMalformed, bad-hello, bad-change, bad-alert, bad-sealed-change, bad-sealed-alert, bad-message, empty-data, WhyRecord, Bytes}
+use Rattle.demands.specs.Exactly.Record.{HoldsNumbers, ExactlyRecord, Seen, seenAt, IsHello, GuardedAs, Allowed, hello, change, alert, guarded, CodedAs, NewAs, IsAlert, IsFinished, WellFormedHello, Acceptable, GreetsAs, WhyMalformed, bad-hello, bad-change, bad-alert, bad-protected-change, bad-protected-alert, bad-message, empty-data, WhyRecord, Bytes}
 use Rattle.demands.proofs.Exactly.Coded.{content-before}
 use Rattle.demands.proofs.Exactly.Reasons.{clash, decide}
 use Rattle.demands.proofs.Exactly.Reading.{byte-is, wrong-type, by-type, head-is, size-is, number-is}
 use Rattle.demands.proofs.Exactly.Content.{change-is, change-not, not-change, AlertHolds, alert-holds, not-alert, is-alert, FinishedHolds, finished-holds, not-finished, wrong-finished}
 use Rattle.demands.proofs.Exactly.Hello.{bytes-take, bytes-drop, HeardHolds, heard-holds, not-hello, not-acceptable}
-use Rattle.demands.proofs.Exactly.Rules.{seenOf, kindBy, kind-by, sealedKind, kind-sealed, number-one, number-two, number-three, number-four, over-rule, open-rule, idle-rule, hears-rule, change-rule, alert-rule, guarded-rule, RuleHolds, rule-holds}
+use Rattle.demands.proofs.Exactly.Rules.{seenOf, kindBy, kind-by, protectedKind, kind-protected, number-one, number-two, number-three, number-four, over-rule, open-rule, idle-rule, hears-rule, change-rule, alert-rule, guarded-rule, RuleHolds, rule-holds}
 
 -- an answer that refuses has its reason
 abbrev pub AnswerHolds : (Refusal → Type 0) → Answer → Type 0
@@ -100,11 +100,11 @@ clear-level Why h L.Warning d = tt
 clear-level Why h L.Critical d = tt
 clear-level Why h L.Fatal d = tt
 
-sealed-level : (Why : Refusal → Type 0) (h : Handshake) (l : Level) (d : Description)
-    → AnswerHolds Why (sealedLevel h l d .answer)
-sealed-level Why h L.Warning d = tt
-sealed-level Why h L.Critical d = tt
-sealed-level Why h L.Fatal d = tt
+protected-level : (Why : Refusal → Type 0) (h : Handshake) (l : Level) (d : Description)
+    → AnswerHolds Why (protectedLevel h l d .answer)
+protected-level Why h L.Warning d = tt
+protected-level Why h L.Critical d = tt
+protected-level Why h L.Fatal d = tt
 
 -- a right Finished, in Spec or in Open
 finished-in : (Why : Refusal → Type 0) (h : Handshake) (s : State) (n : ℕ) → h .state ≡ s
@@ -126,7 +126,7 @@ module _ (h : Handshake) (numbers random : List ℕ) (window : HoldsNumbers h nu
   of-made : (c : List ℕ) → f ≡ fragmentBy (hmac (unitKey (keysOf h) number)) (sizeOf (h .protection .keys .mac)) number byte c
       → genuineIn h byte number f ≡ true
   of-made c e =
-      ap (genuineIn h byte number) e ∙ sealed-genuine (unitKey (keysOf h) number) (h .protection .keys .mac) number byte c
+      ap (genuineIn h byte number) e ∙ protected-genuine (unitKey (keysOf h) number) (h .protection .keys .mac) number byte c
 
   content-of : (c : List ℕ) → f ≡ fragmentBy (hmac (unitKey (keysOf h) number)) (sizeOf (h .protection .keys .mac)) number byte c
       → contentIn h f ≡ c
@@ -184,14 +184,14 @@ module _ (h : Handshake) (numbers random : List ℕ) (window : HoldsNumbers h nu
     -- the content of a genuine new record, in the handshake g with its mark
     content-a : (content : Content) (g : Handshake) (c : List ℕ) → g .state ≡ h .state → g .expected ≡ h .expected
         → NewAs h numbers (seen content) c
-        → AnswerHolds (Why content) (contentBy g (sealedKind content) number place c .answer)
+        → AnswerHolds (Why content) (contentBy g (protectedKind content) number place c .answer)
     unfolding contentBy alertedBy verifiedBy
-    content-a C.ChangeCipherSpec g c at-state same fresh = bad-sealed-change c fresh refl
+    content-a C.ChangeCipherSpec g c at-state same fresh = bad-protected-change c fresh refl
     content-a C.Alert g c at-state same fresh = go (alertOf c) (alert-holds c)
       where
         go : (x : Reading) → AlertHolds c x → AnswerHolds (Why C.Alert) (alertedTo g x .answer)
-        go R.Malformed w = bad-sealed-alert c fresh refl w
-        go (R.WellFormed a) w = sealed-level (Why C.Alert) g (a .level) (a .description)
+        go R.Malformed w = bad-protected-alert c fresh refl w
+        go (R.WellFormed a) w = protected-level (Why C.Alert) g (a .level) (a .description)
     content-a C.Handshake g c at-state same fresh = go (judgedOf c (g .expected))
         (finished-holds c (g .expected))
       where
@@ -205,7 +205,7 @@ module _ (h : Handshake) (numbers random : List ℕ) (window : HoldsNumbers h nu
 
     window-a : (content : Content) (c : List ℕ) → GuardedAs (h .state) (seen content)
         → CodedAs (keysOf h) (seen content) c → (x : Acceptance) → acceptOf (h .protection .window) number ≡ x
-        → AnswerHolds (Why content) (windowedTo h (sealedKind content) number place c x .answer)
+        → AnswerHolds (Why content) (windowedTo h (protectedKind content) number place c x .answer)
     window-a content c g k A.TooOld e = (g, (c, k), old-means (h .protection .window .width) numbers number (sym by-history ∙ e))
     window-a content c g k A.Repeated e =
         let m = repeated-means (h .protection .window .width) numbers number (sym by-history ∙ e) in (g, (c, k), m .0, m .1)
@@ -213,10 +213,10 @@ module _ (h : Handshake) (numbers random : List ℕ) (window : HoldsNumbers h nu
         let m = new-means (h .protection .window .width) numbers number w arrived (sym by-history ∙ e) in
         content-a content (withWindow h w) c refl refl (record { guarded = g; coded = k; recent = m .0; unseen = m .1 })
 
-    unseal-a : (content : Content) → GuardedAs (h .state) (seen content)
-        → AnswerHolds (Why content) (unsealedBy h (sealedKind content) byte number place f .answer)
-    unseal-a content g =
-        subst (λ j. AnswerHolds (Why content) (j .answer)) (sym (unsealed-is h (sealedKind content) byte number place f))
+    open-record-a : (content : Content) → GuardedAs (h .state) (seen content)
+        → AnswerHolds (Why content) (openedRecord h (protectedKind content) byte number place f .answer)
+    open-record-a content g =
+        subst (λ j. AnswerHolds (Why content) (j .answer)) (sym (opened-record-is h (protectedKind content) byte number place f))
         (decide (genuineIn h byte number f)
         (λ e. rw e (window-a content (contentIn h f) g (made-of e) (acceptOf (h .protection .window) number) refl))
         (λ e. rw e (g, λ c k. clash (sym (of-made c k) ∙ e))))
@@ -267,10 +267,10 @@ module _ (h : Handshake) (numbers random : List ℕ) (window : HoldsNumbers h nu
           (λ e. rw e (late content (inr s) i (eqb-false at 0 e)))
       rule-a T.Change (s, c, n) = change-a content s c n
       rule-a T.Hear (s, c, n) = hear-a content s c n
-      rule-a T.Unseal g =
-          subst (λ k. AnswerHolds (Why content) (unsealedBy h k byte number place f .answer))
-          (sym (kind-sealed content p one (g .protection)))
-          (unseal-a content g)
+      rule-a T.OpenRecord g =
+          subst (λ k. AnswerHolds (Why content) (openedRecord h k byte number place f .answer))
+          (sym (kind-protected content p one (g .protection)))
+          (open-record-a content g)
 
       abbrev verdict : Judged
       verdict = ruled (ruleOf (h .state) kind)
@@ -300,7 +300,7 @@ module _ (h : Handshake) (numbers random : List ℕ) (window : HoldsNumbers h nu
               decide (eqb at 0) (λ e. absurd (none (hello (inr s) i (eqb-true at 0 e)))) (λ e. rw e refl)
           go T.Change (s, c, n) = absurd (none (change s c n))
           go T.Hear (s, c, n) = absurd (none (alert s c n))
-          go T.Unseal g = absurd (none (guarded g))
+          go T.OpenRecord g = absurd (none (guarded g))
 
       -- a hello that is to be read
       greeted : GreetsAs h (seen content) → verdict ≡ greetedBy h random f
@@ -315,35 +315,35 @@ module _ (h : Handshake) (numbers random : List ℕ) (window : HoldsNumbers h nu
               ∙ rw (eq-eqb at 0 (g .first), differ-same f (keptHello h) n) refl
 
       -- a protected record of an allowed kind
-      unsealed : GuardedAs (h .state) (seen content) → verdict
+      opened-record : GuardedAs (h .state) (seen content) → verdict
           ≡ pick (genuineIn h byte number f)
-          (windowedTo h (sealedKind content) number place (contentIn h f) (acceptOf (h .protection .window) number)) (refusing X.Forged h)
+          (windowedTo h (protectedKind content) number place (contentIn h f) (acceptOf (h .protection .window) number)) (refusing X.Forged h)
       unfolding ruledBy
-      unsealed g =
-          by-rule T.Unseal (guarded-rule byte number f at (h .state) content p one first g)
-          ∙ ap (λ k. unsealedBy h k byte number place f) (kind-sealed content p one (g .protection))
-          ∙ unsealed-is h (sealedKind content) byte number place f
+      opened-record g =
+          by-rule T.OpenRecord (guarded-rule byte number f at (h .state) content p one first g)
+          ∙ ap (λ k. openedRecord h k byte number place f) (kind-protected content p one (g .protection))
+          ∙ opened-record-is h (protectedKind content) byte number place f
 
       -- .. whose code is not right
       forged-b : GuardedAs (h .state) (seen content) → ((c : List ℕ) → CodedAs (keysOf h) (seen content) c → ⊥)
           → verdict ≡ refusing X.Forged h
       forged-b g n =
-          unsealed g ∙ decide (genuineIn h byte number f) (λ e. absurd (n (contentIn h f) (made-of e))) (λ e. rw e refl)
+          opened-record g ∙ decide (genuineIn h byte number f) (λ e. absurd (n (contentIn h f) (made-of e))) (λ e. rw e refl)
 
       -- .. whose code is right: by the window
       windowed : GuardedAs (h .state) (seen content) → (c : List ℕ) → CodedAs (keysOf h) (seen content) c
-          → verdict ≡ windowedTo h (sealedKind content) number place c (judgedBy (h .protection .window .width) numbers number)
+          → verdict ≡ windowedTo h (protectedKind content) number place c (judgedBy (h .protection .window .width) numbers number)
       windowed g c k =
-          unsealed g
+          opened-record g
           ∙ rw (of-made c k) refl
-          ∙ ap₂ (λ b x. windowedTo h (sealedKind content) number place b x) (content-of c k) by-history
+          ∙ ap₂ (λ b x. windowedTo h (protectedKind content) number place b x) (content-of c k) by-history
 
       -- .. and new: by its content
       fresh-b : (c : List ℕ) → NewAs h numbers (seen content) c
-          → verdict ≡ contentBy (withWindow h (windowOf (h .protection .window .width) (number ∷ numbers))) (sealedKind content) number place c
+          → verdict ≡ contentBy (withWindow h (windowOf (h .protection .window .width) (number ∷ numbers))) (protectedKind content) number place c
       fresh-b c w =
           windowed (w .guarded) c (w .coded)
-          ∙ ap (windowedTo h (sealedKind content) number place c) (new-when (h .protection .window .width) numbers number (w .recent) (w .unseen))
+          ∙ ap (windowedTo h (protectedKind content) number place c) (new-when (h .protection .window .width) numbers number (w .recent) (w .unseen))
 
       -- the handshake with the mark of the number
       abbrev marked : Handshake
@@ -361,20 +361,20 @@ module _ (h : Handshake) (numbers random : List ℕ) (window : HoldsNumbers h nu
       malformed-b (bad-alert s c n w) =
           ap (λ j. j .answer) (by-rule T.Hear (alert-rule byte number f at (h .state) content p one first s c n))
           ∙ ap (λ x. heardBy h x .answer) (not-alert f w)
-      malformed-b (bad-sealed-change c w n) =
+      malformed-b (bad-protected-change c w n) =
           ap (λ j. j .answer) (fresh-b c w)
-          ∙ ap (λ x. contentBy marked (sealedKind x) number place c .answer) (number-one content n)
-      malformed-b (bad-sealed-alert c w n a) =
+          ∙ ap (λ x. contentBy marked (protectedKind x) number place c .answer) (number-one content n)
+      malformed-b (bad-protected-alert c w n a) =
           ap (λ j. j .answer) (fresh-b c w)
-          ∙ ap (λ x. contentBy marked (sealedKind x) number place c .answer) (number-two content n)
+          ∙ ap (λ x. contentBy marked (protectedKind x) number place c .answer) (number-two content n)
           ∙ ap (λ x. alertedTo marked x .answer) (not-alert c a)
       malformed-b (bad-message c w n a) =
           ap (λ j. j .answer) (fresh-b c w)
-          ∙ ap (λ x. contentBy marked (sealedKind x) number place c .answer) (number-three content n)
+          ∙ ap (λ x. contentBy marked (protectedKind x) number place c .answer) (number-three content n)
           ∙ ap (λ x. verifiedTo marked x .answer) (not-finished c (h .expected) a)
       malformed-b (empty-data c w n e) =
           ap (λ j. j .answer) (fresh-b c w)
-          ∙ ap (λ x. contentBy marked (sealedKind x) number place c .answer) (number-four content n)
+          ∙ ap (λ x. contentBy marked (protectedKind x) number place c .answer) (number-four content n)
           ∙ rw (eq-eqb (length c) 0 e) refl
 
       pub because : (x : Refusal) → Why content x → verdict .answer ≡ W.Refused x
@@ -386,10 +386,10 @@ module _ (h : Handshake) (numbers random : List ℕ) (window : HoldsNumbers h nu
       because X.NotAllowed w = not-allowed-b w
       because X.Forged (g, n) = ap (λ j. j .answer) (forged-b g n)
       because X.TooOld (g, (c, k), l) =
-          ap (λ j. j .answer) (windowed g c k) ∙ ap (λ x. windowedTo h (sealedKind content) number place c x .answer)
+          ap (λ j. j .answer) (windowed g c k) ∙ ap (λ x. windowedTo h (protectedKind content) number place c x .answer)
           (old-when (h .protection .window .width) numbers number l)
       because X.Repeated (g, (c, k), l, a) =
-          ap (λ j. j .answer) (windowed g c k) ∙ ap (λ x. windowedTo h (sealedKind content) number place c x .answer)
+          ap (λ j. j .answer) (windowed g c k) ∙ ap (λ x. windowedTo h (protectedKind content) number place c x .answer)
           (repeated-when (h .protection .window .width) numbers number l a)
       because X.Malformed w = malformed-b w
       because X.Unacceptable (g, (w, n)) =
@@ -402,7 +402,7 @@ module _ (h : Handshake) (numbers random : List ℕ) (window : HoldsNumbers h nu
           ∙ rw (ap (wasSent h) m ∙ k) refl
       because X.WrongFinished (c, w, n, i, d) =
           ap (λ j. j .answer) (fresh-b c w)
-          ∙ ap (λ x. contentBy marked (sealedKind x) number place c .answer) (number-three content n)
+          ∙ ap (λ x. contentBy marked (protectedKind x) number place c .answer) (number-three content n)
           ∙ ap (λ x. verifiedTo marked x .answer) (wrong-finished c (h .expected) i d)
       because (X.Framing fault) w = absurd w
       because X.Room w = absurd w

@@ -40,13 +40,13 @@ seenOf byte protected content number fragment at =
 -- the kind, with the test of the first byte as it came out
 abbrev pub kindBy : Content → Bool → Bool → Kind
 kindBy C.ChangeCipherSpec false one = K.ClearChange
-kindBy C.ChangeCipherSpec true one = K.SealedChange
+kindBy C.ChangeCipherSpec true one = K.ProtectedChange
 kindBy C.Alert false one = K.ClearAlert
-kindBy C.Alert true one = K.SealedAlert
+kindBy C.Alert true one = K.ProtectedAlert
 kindBy C.Handshake false one = pick one K.ClearHello K.OtherClear
-kindBy C.Handshake true one = K.SealedHandshake
+kindBy C.Handshake true one = K.ProtectedHandshake
 kindBy C.Data false one = K.OtherClear
-kindBy C.Data true one = K.SealedData
+kindBy C.Data true one = K.ProtectedData
 
 pub kind-by : (content : Content) (protected : Bool) (first : ℕ)
     → kindOf content protected first ≡ kindBy content protected (eqb first 1)
@@ -85,24 +85,24 @@ number-four C.Handshake e = absurd (omega arith)
 number-four C.Data e = refl
 
 -- the kind of a protected record is its content's
-abbrev pub sealedKind : Content → Kind
-sealedKind C.ChangeCipherSpec = K.SealedChange
-sealedKind C.Alert = K.SealedAlert
-sealedKind C.Handshake = K.SealedHandshake
-sealedKind C.Data = K.SealedData
+abbrev pub protectedKind : Content → Kind
+protectedKind C.ChangeCipherSpec = K.ProtectedChange
+protectedKind C.Alert = K.ProtectedAlert
+protectedKind C.Handshake = K.ProtectedHandshake
+protectedKind C.Data = K.ProtectedData
 
-pub kind-sealed : (content : Content) (p one : Bool) → p ≡ true → kindBy content p one ≡ sealedKind content
-kind-sealed C.ChangeCipherSpec p one e = ap (λ b. kindBy C.ChangeCipherSpec b one) e
-kind-sealed C.Alert p one e = ap (λ b. kindBy C.Alert b one) e
-kind-sealed C.Handshake p one e = ap (λ b. kindBy C.Handshake b one) e
-kind-sealed C.Data p one e = ap (λ b. kindBy C.Data b one) e
+pub kind-protected : (content : Content) (p one : Bool) → p ≡ true → kindBy content p one ≡ protectedKind content
+kind-protected C.ChangeCipherSpec p one e = ap (λ b. kindBy C.ChangeCipherSpec b one) e
+kind-protected C.Alert p one e = ap (λ b. kindBy C.Alert b one) e
+kind-protected C.Handshake p one e = ap (λ b. kindBy C.Handshake b one) e
+kind-protected C.Data p one e = ap (λ b. kindBy C.Data b one) e
 
 -- protected, in Open: all four kinds
-open-unseals : (content : Content) (one : Bool) → ruleOf S.Open (kindBy content true one) ≡ T.Unseal
-open-unseals C.ChangeCipherSpec one = refl
-open-unseals C.Alert one = refl
-open-unseals C.Handshake one = refl
-open-unseals C.Data one = refl
+open-opens-record : (content : Content) (one : Bool) → ruleOf S.Open (kindBy content true one) ≡ T.OpenRecord
+open-opens-record C.ChangeCipherSpec one = refl
+open-opens-record C.Alert one = refl
+open-opens-record C.Handshake one = refl
+open-opens-record C.Data one = refl
 
 module _ (byte number : ℕ) (f : List ℕ) (at : ℕ) where
   -- ---- from a reason to its rule
@@ -146,13 +146,13 @@ module _ (byte number : ℕ) (f : List ℕ) (at : ℕ) where
     alert-rule (inl e) c n = λ j. ruleOf (e j) (alert-kind c n j)
     alert-rule (inr e) c n = λ j. ruleOf (e j) (alert-kind c n j)
 
-    pub guarded-rule : GuardedAs state q → rule ≡ T.Unseal
+    pub guarded-rule : GuardedAs state q → rule ≡ T.OpenRecord
     guarded-rule g = go (g .kind)
       where
-        go : ((state ≡ S.Spec) × ((numberOf content ≡ 2) ⊎ (numberOf content ≡ 3))) ⊎ (state ≡ S.Open) → rule ≡ T.Unseal
+        go : ((state ≡ S.Spec) × ((numberOf content ≡ 2) ⊎ (numberOf content ≡ 3))) ⊎ (state ≡ S.Open) → rule ≡ T.OpenRecord
         go (inl (e, inl n)) = λ j. ruleOf (e j) (kindBy (number-two content n j) (g .protection j) one)
         go (inl (e, inr n)) = λ j. ruleOf (e j) (kindBy (number-three content n j) (g .protection j) one)
-        go (inr e) = (λ j. ruleOf (e j) (kindBy content (g .protection j) one)) ∙ open-unseals content one
+        go (inr e) = (λ j. ruleOf (e j) (kindBy content (g .protection j) one)) ∙ open-opens-record content one
 
     -- ---- from a rule to its reason
 
@@ -164,7 +164,7 @@ module _ (byte number : ℕ) (f : List ℕ) (at : ℕ) where
     RuleHolds T.GreetAgain = Hears state × IsHello q
     RuleHolds T.Change = (state ≡ S.Replied) × (p ≡ false) × (numberOf content ≡ 1)
     RuleHolds T.Hear = Hears state × (p ≡ false) × (numberOf content ≡ 2)
-    RuleHolds T.Unseal = GuardedAs state q
+    RuleHolds T.OpenRecord = GuardedAs state q
 
     not-allowed : rule ≡ T.NotAllowed → Allowed state q → ⊥
     not-allowed e (hello (inl s) i z) = let t : T.NotAllowed ≡ T.Greet = sym e
@@ -175,7 +175,7 @@ module _ (byte number : ℕ) (f : List ℕ) (at : ℕ) where
         ∙ change-rule s c n in let z : _≡_ {A = ℕ} 0 1 = cc in omega arith
     not-allowed e (alert s c n) = let t : T.NotAllowed ≡ T.Hear = sym e
         ∙ alert-rule s c n in let z : _≡_ {A = ℕ} 0 1 = cc in omega arith
-    not-allowed e (guarded g) = let t : T.NotAllowed ≡ T.Unseal = sym e
+    not-allowed e (guarded g) = let t : T.NotAllowed ≡ T.OpenRecord = sym e
         ∙ guarded-rule g in let z : _≡_ {A = ℕ} 0 1 = cc in omega arith
 
     none-of : rule ≡ T.NotAllowed → RuleHolds T.NotAllowed

@@ -19,9 +19,9 @@ use Rattle.message.specs.declared.alert.Graded.{Graded}
 use Rattle.message.specs.declared.alert.Graded.the-variants as G
 use Rattle.message.specs.declared.alert.Sorted.{Sorted}
 use Rattle.message.specs.declared.alert.Sorted.the-variants as D
-use Rattle.connection.specs.Send.{andThen, mayData, maySeal, mayClear, numberedBy, dataRefused, alertRefused, sentTo, done, dataOutcome, dataSent, alertBody, alertOutcome, nextAlert, afterAlert, alertSent, alertSentAs, nextProtected, afterProtected}
+use Rattle.connection.specs.Send.{andThen, mayData, mayProtect, mayClear, numberedBy, dataRefused, alertRefused, sentTo, done, dataOutcome, dataSent, alertBody, alertOutcome, nextAlert, afterAlert, alertSent, alertSentAs, nextProtected, afterProtected}
 use Rattle.connection.proofs.Sending.{next-size, clear-size}
-use Rattle.connection.specs.declared.calls.Connection.{Connection}
+use Rattle.connection.specs.declared.connection.Connection.{Connection}
 use Rattle.connection.specs.declared.calls.Outcome.{Outcome}
 use Rattle.connection.specs.declared.calls.Outcome.the-variants.{Done, Refused}
 use Rattle.connection.specs.declared.handshake.Handshake.{Handshake}
@@ -205,65 +205,65 @@ sorted-holds n = among-holds descriptions n
 
 -- what comes back, by level and description
 abbrev alertOutcomeIn : Bool → Handshake → ℕ → ℕ → Graded → Sorted → Outcome
-alertOutcomeIn sealed h lent room (G.Is level) (D.Assigned description) = alertOutcome sealed h lent room
-alertOutcomeIn sealed h lent room (G.Is level) D.Unassigned = Refused X.Argument
-alertOutcomeIn sealed h lent room G.Unassigned (D.Assigned description) = Refused X.Argument
-alertOutcomeIn sealed h lent room G.Unassigned D.Unassigned = Refused X.Argument
+alertOutcomeIn protected h lent room (G.Is level) (D.Assigned description) = alertOutcome protected h lent room
+alertOutcomeIn protected h lent room (G.Is level) D.Unassigned = Refused X.Argument
+alertOutcomeIn protected h lent room G.Unassigned (D.Assigned description) = Refused X.Argument
+alertOutcomeIn protected h lent room G.Unassigned D.Unassigned = Refused X.Argument
 
-alert-refused : (c : Connection) (sealed : Bool) (answered out : List ℕ) (g : Graded) (s : Sorted) (x : Refusal)
-    → (sentAs (alertSentAs c sealed answered (length out) g s) out .result ≡ sent (Refused x) 0)
-    ↔ (alertOutcomeIn sealed (c .handshake) (length answered) (length out) g s ≡ Refused x)
-alert-refused c sealed answered out (G.Is level) (D.Assigned description) x =
-    let next : List ℕ = nextAlert sealed (c .handshake) (alertBody level description answered) in
-    sent-refused c (afterAlert sealed (c .handshake) next) next out
-    (alertOutcome sealed (c .handshake) (length answered) (length out)) x
-alert-refused c sealed answered out (G.Is level) D.Unassigned x = (λ e. cc, λ e. ap (λ z. sent z 0) e)
-alert-refused c sealed answered out G.Unassigned (D.Assigned description) x = (λ e. cc, λ e. ap (λ z. sent z 0) e)
-alert-refused c sealed answered out G.Unassigned D.Unassigned x = (λ e. cc, λ e. ap (λ z. sent z 0) e)
+alert-refused : (c : Connection) (protected : Bool) (answered out : List ℕ) (g : Graded) (s : Sorted) (x : Refusal)
+    → (sentAs (alertSentAs c protected answered (length out) g s) out .result ≡ sent (Refused x) 0)
+    ↔ (alertOutcomeIn protected (c .handshake) (length answered) (length out) g s ≡ Refused x)
+alert-refused c protected answered out (G.Is level) (D.Assigned description) x =
+    let next : List ℕ = nextAlert protected (c .handshake) (alertBody level description answered) in
+    sent-refused c (afterAlert protected (c .handshake) next) next out
+    (alertOutcome protected (c .handshake) (length answered) (length out)) x
+alert-refused c protected answered out (G.Is level) D.Unassigned x = (λ e. cc, λ e. ap (λ z. sent z 0) e)
+alert-refused c protected answered out G.Unassigned (D.Assigned description) x = (λ e. cc, λ e. ap (λ z. sent z 0) e)
+alert-refused c protected answered out G.Unassigned D.Unassigned x = (λ e. cc, λ e. ap (λ z. sent z 0) e)
 
-alert-size : (sealed : Bool) (h : Handshake) (level : Level) (description : Description) (answered : List ℕ)
-    → length (nextAlert sealed h (alertBody level description answered)) ≡ 9 + alertCodeOf sealed h
+alert-size : (protected : Bool) (h : Handshake) (level : Level) (description : Description) (answered : List ℕ)
+    → length (nextAlert protected h (alertBody level description answered)) ≡ 9 + alertCodeOf protected h
 alert-size true h level description answered = next-size h C.Alert (alertBody level description answered)
 alert-size false h level description answered = clear-size h (alertBody level description answered)
 
-alert-done : (c : Connection) (sealed : Bool) (answered out : List ℕ) (g : Graded) (s : Sorted)
-    → (sentAs (alertSentAs c sealed answered (length out) g s) out .result ≡ sent Done
-    (9 + alertCodeOf sealed (c .handshake)))
-    ↔ (alertOutcomeIn sealed (c .handshake) (length answered) (length out) g s ≡ Done)
-alert-done c sealed answered out (G.Is level) (D.Assigned description) =
-    let next : List ℕ = nextAlert sealed (c .handshake) (alertBody level description answered) in
-    sent-done c (afterAlert sealed (c .handshake) next) next out
-    (alertOutcome sealed (c .handshake) (length answered) (length out)) (9 + alertCodeOf sealed (c .handshake))
-    (alert-size sealed (c .handshake) level description answered)
-alert-done c sealed answered out (G.Is level) D.Unassigned =
+alert-done : (c : Connection) (protected : Bool) (answered out : List ℕ) (g : Graded) (s : Sorted)
+    → (sentAs (alertSentAs c protected answered (length out) g s) out .result ≡ sent Done
+    (9 + alertCodeOf protected (c .handshake)))
+    ↔ (alertOutcomeIn protected (c .handshake) (length answered) (length out) g s ≡ Done)
+alert-done c protected answered out (G.Is level) (D.Assigned description) =
+    let next : List ℕ = nextAlert protected (c .handshake) (alertBody level description answered) in
+    sent-done c (afterAlert protected (c .handshake) next) next out
+    (alertOutcome protected (c .handshake) (length answered) (length out)) (9 + alertCodeOf protected (c .handshake))
+    (alert-size protected (c .handshake) level description answered)
+alert-done c protected answered out (G.Is level) D.Unassigned =
     (λ e. cc, λ e. let z : _≡_ {A = ℕ} 0 1 = cc in absurd (omega arith))
-alert-done c sealed answered out G.Unassigned (D.Assigned description) =
+alert-done c protected answered out G.Unassigned (D.Assigned description) =
     (λ e. cc, λ e. let z : _≡_ {A = ℕ} 0 1 = cc in absurd (omega arith))
-alert-done c sealed answered out G.Unassigned D.Unassigned =
+alert-done c protected answered out G.Unassigned D.Unassigned =
     (λ e. cc, λ e. let z : _≡_ {A = ℕ} 0 1 = cc in absurd (omega arith))
 
 -- by the sense, which states may
 abbrev may : Bool → State → Outcome
-may true state = maySeal state
+may true state = mayProtect state
 may false state = mayClear state
 
-outcome-is : (sealed : Bool) (h : Handshake) (lent room : ℕ)
-    → alertOutcome sealed h lent room ≡ alertRefused (may sealed (h .state)) lent (alertNumberOf sealed h)
-    (alertCodeOf sealed h) room
+outcome-is : (protected : Bool) (h : Handshake) (lent room : ℕ)
+    → alertOutcome protected h lent room ≡ alertRefused (may protected (h .state)) lent (alertNumberOf protected h)
+    (alertCodeOf protected h) room
 outcome-is true h lent room = refl
 outcome-is false h lent room = refl
 
-module _ (sealed : Bool) (state : State) (level description lent number code room : ℕ) where
+module _ (protected : Bool) (state : State) (level description lent number code room : ℕ) where
   abbrev WhyA : Refusal → Type 0
-  WhyA = WhyAlert sealed state level description lent number code room
+  WhyA = WhyAlert protected state level description lent number code room
 
   abbrev GoesA : Type 0
-  GoesA = AlertGoes sealed state level description lent number code room
+  GoesA = AlertGoes protected state level description lent number code room
 
   abbrev outcome : Outcome
-  outcome = alertRefused (may sealed state) lent number code room
+  outcome = alertRefused (may protected state) lent number code room
 
-  alert-past : lent ≤ 1400 → outcome ≡ andThen (may sealed state) (numberedBy number (9 + code) room)
+  alert-past : lent ≤ 1400 → outcome ≡ andThen (may protected state) (numberedBy number (9 + code) room)
   unfolding alertRefused
   alert-past l = rw (le-ltb 1400 lent l) refl
 
@@ -271,25 +271,25 @@ module _ (sealed : Bool) (state : State) (level description lent number code roo
   unfolding alertRefused
   alert-much l = rw (lt-ltb 1400 lent l) refl
 
-  alert-in : (s : State) (o : Outcome) → state ≡ s → may sealed s ≡ o → lent ≤ 1400
+  alert-in : (s : State) (o : Outcome) → state ≡ s → may protected s ≡ o → lent ≤ 1400
       → outcome ≡ andThen o (numberedBy number (9 + code) room)
-  alert-in s o e m l = alert-past l ∙ ap (λ x. andThen x (numberedBy number (9 + code) room)) (ap (may sealed) e ∙ m)
+  alert-in s o e m l = alert-past l ∙ ap (λ x. andThen x (numberedBy number (9 + code) room)) (ap (may protected) e ∙ m)
 
   may-done : (b : Bool) → AlertMay b state → may b state ≡ Done
-  may-done true (inl e) = ap maySeal e
-  may-done true (inr (inl e)) = ap maySeal e
-  may-done true (inr (inr e)) = ap maySeal e
+  may-done true (inl e) = ap mayProtect e
+  may-done true (inr (inl e)) = ap mayProtect e
+  may-done true (inr (inr e)) = ap mayProtect e
   may-done false (inl e) = ap mayClear e
   may-done false (inr e) = ap mayClear e
 
   may-not : (b : Bool) → AlertMayNot b state → may b state ≡ Refused X.NotAllowed
-  may-not true e = ap maySeal e
+  may-not true e = ap mayProtect e
   may-not false (inl e) = ap mayClear e
   may-not false (inr e) = ap mayClear e
 
   may-over : (b : Bool) → Over state → may b state ≡ Refused X.Ended
-  may-over true (inl e) = ap maySeal e
-  may-over true (inr e) = ap maySeal e
+  may-over true (inl e) = ap mayProtect e
+  may-over true (inr e) = ap mayProtect e
   may-over false (inl e) = ap mayClear e
   may-over false (inr e) = ap mayClear e
 
@@ -299,11 +299,11 @@ module _ (sealed : Bool) (state : State) (level description lent number code roo
   alert-because X.Argument a b k (inr (inl l)) = absurd (omega arith)
   alert-because X.Argument a b k (inr (inr (inl e))) = let z : _≡_ {A = ℕ} 0 1 = cc in absurd (omega arith)
   alert-because X.Argument a b k (inr (inr (inr l))) = alert-much l
-  alert-because X.Ended a b k (f, o) = alert-in state (Refused X.Ended) refl (may-over sealed o) (f .3)
-  alert-because X.NotAllowed a b k (f, n) = alert-in state (Refused X.NotAllowed) refl (may-not sealed n) (f .3)
-  alert-because X.Spent a b k (f, m, l) = alert-in state Done refl (may-done sealed m) (f .3)
+  alert-because X.Ended a b k (f, o) = alert-in state (Refused X.Ended) refl (may-over protected o) (f .3)
+  alert-because X.NotAllowed a b k (f, n) = alert-in state (Refused X.NotAllowed) refl (may-not protected n) (f .3)
+  alert-because X.Spent a b k (f, m, l) = alert-in state Done refl (may-done protected m) (f .3)
       ∙ spent number (9 + code) room l
-  alert-because X.Room a b k (f, m, n, l) = alert-in state Done refl (may-done sealed m) (f .3)
+  alert-because X.Room a b k (f, m, n, l) = alert-in state Done refl (may-done protected m) (f .3)
       ∙ no-room number (9 + code) room n l
   alert-because (X.Framing fault) a b k w = absurd w
   alert-because X.Forged a b k w = absurd w
@@ -316,7 +316,7 @@ module _ (sealed : Bool) (state : State) (level description lent number code roo
   alert-because X.HelloWhileOpen a b k w = absurd w
 
   alert-goes : GoesA → outcome ≡ Done
-  alert-goes (f, m, n, l) = alert-in state Done refl (may-done sealed m) (f .3) ∙ goes-out number (9 + code) room n l
+  alert-goes (f, m, n, l) = alert-in state Done refl (may-done protected m) (f .3) ∙ goes-out number (9 + code) room n l
 
   -- where they do not: 16, and no other
   alert-unknown : (x : Refusal) → (AlertFits level description lent → ⊥) → WhyA x → Refused X.Argument ≡ Refused x
@@ -335,17 +335,17 @@ module _ (sealed : Bool) (state : State) (level description lent number code roo
   alert-unknown X.WrongFinished bad w = absurd w
   alert-unknown X.HelloWhileOpen bad w = absurd w
 
-  alert-numbered : (f : AlertFits level description lent) → AlertMay sealed state
+  alert-numbered : (f : AlertFits level description lent) → AlertMay protected state
       → Holds WhyA GoesA (numberedBy number (9 + code) room)
   alert-numbered f m =
       by-number (Holds WhyA GoesA) number (9 + code) room (λ l. (f, m, l)) (λ n l. (f, m, n, l)) (λ n l. (f, m, n, l))
 
 -- by sense and state
-alert-state : (sealed : Bool) (s : State) (level description lent number code room : ℕ)
+alert-state : (protected : Bool) (s : State) (level description lent number code room : ℕ)
     → AlertFits level description lent
-    → Holds (WhyAlert sealed s level description lent number code room)
-    (AlertGoes sealed s level description lent number code room)
-    (andThen (may sealed s) (numberedBy number (9 + code) room))
+    → Holds (WhyAlert protected s level description lent number code room)
+    (AlertGoes protected s level description lent number code room)
+    (andThen (may protected s) (numberedBy number (9 + code) room))
 alert-state true S.Idle level description lent number code room f = (f, refl)
 alert-state true S.Replied level description lent number code room f
     = alert-numbered true S.Replied level description lent number code room f (inl refl)
@@ -364,29 +364,29 @@ alert-state false S.Open level description lent number code room f = (f, inr ref
 alert-state false S.Closed level description lent number code room f = (f, inl refl)
 alert-state false S.Barred level description lent number code room f = (f, inr refl)
 
-alert-holds : (sealed : Bool) (state : State) (level description lent number code room : ℕ) → 1 ≤ level → level ≤ 3
+alert-holds : (protected : Bool) (state : State) (level description lent number code room : ℕ) → 1 ≤ level → level ≤ 3
     → isAssigned description ≡ true
-    → Holds (WhyAlert sealed state level description lent number code room)
-    (AlertGoes sealed state level description lent number code room)
-    (alertRefused (may sealed state) lent number code room)
-alert-holds sealed state level description lent number code room a b k =
-    let H : Outcome → Type 0 = Holds (WhyAlert sealed state level description lent number code room)
-    (AlertGoes sealed state level description lent number code room) in
+    → Holds (WhyAlert protected state level description lent number code room)
+    (AlertGoes protected state level description lent number code room)
+    (alertRefused (may protected state) lent number code room)
+alert-holds protected state level description lent number code room a b k =
+    let H : Outcome → Type 0 = Holds (WhyAlert protected state level description lent number code room)
+    (AlertGoes protected state level description lent number code room) in
     decide (ltb 1400 lent)
-    (λ e. subst H (sym (alert-much sealed state level description lent number code room (ltb-true 1400 lent e)))
+    (λ e. subst H (sym (alert-much protected state level description lent number code room (ltb-true 1400 lent e)))
     (inr (inr (inr (ltb-true 1400 lent e)))))
     (λ e.
     let f : AlertFits level description lent = (a, b, k, ltb-false 1400 lent e) in
-    subst H (sym (alert-past sealed state level description lent number code room (f .3)))
-    (alert-state sealed state level description lent number code room f))
+    subst H (sym (alert-past protected state level description lent number code room (f .3)))
+    (alert-state protected state level description lent number code room f))
 
 -- all four: known level and description, or not
-module _ (sealed : Bool) (h : Handshake) (level description lent room : ℕ) where
+module _ (protected : Bool) (h : Handshake) (level description lent room : ℕ) where
   abbrev WhyIn : Refusal → Type 0
-  WhyIn = WhyAlert sealed (h .state) level description lent (alertNumberOf sealed h) (alertCodeOf sealed h) room
+  WhyIn = WhyAlert protected (h .state) level description lent (alertNumberOf protected h) (alertCodeOf protected h) room
 
   abbrev GoesIn : Type 0
-  GoesIn = AlertGoes sealed (h .state) level description lent (alertNumberOf sealed h) (alertCodeOf sealed h) room
+  GoesIn = AlertGoes protected (h .state) level description lent (alertNumberOf protected h) (alertCodeOf protected h) room
 
   unlevelled : (level ≡ 0) ⊎ (3 < level) → AlertFits level description lent → ⊥
   unlevelled (inl e) f = omega (arith, f .0)
@@ -400,35 +400,35 @@ module _ (sealed : Bool) (h : Handshake) (level description lent room : ℕ) whe
   by-level (inr l) = inr (inl l)
 
   in-holds : (g : Graded) (s : Sorted) → LevelHolds level g → SortedHolds (isAssigned description) s
-      → Holds WhyIn GoesIn (alertOutcomeIn sealed h lent room g s)
+      → Holds WhyIn GoesIn (alertOutcomeIn protected h lent room g s)
   in-holds (G.Is l) (D.Assigned d) (a, b) k =
-      subst (Holds WhyIn GoesIn) (sym (outcome-is sealed h lent room))
-      (alert-holds sealed (h .state) level description lent (alertNumberOf sealed h) (alertCodeOf sealed h) room a b k)
+      subst (Holds WhyIn GoesIn) (sym (outcome-is protected h lent room))
+      (alert-holds protected (h .state) level description lent (alertNumberOf protected h) (alertCodeOf protected h) room a b k)
   in-holds (G.Is l) D.Unassigned ab k = inr (inr (inl k))
   in-holds G.Unassigned (D.Assigned d) u k = by-level u
   in-holds G.Unassigned D.Unassigned u k = by-level u
 
   in-because : (g : Graded) (s : Sorted) → LevelHolds level g → SortedHolds (isAssigned description) s
-      → (x : Refusal) → WhyIn x → alertOutcomeIn sealed h lent room g s ≡ Refused x
+      → (x : Refusal) → WhyIn x → alertOutcomeIn protected h lent room g s ≡ Refused x
   in-because (G.Is l) (D.Assigned d) (a, b) k x w =
-      outcome-is sealed h lent room
-      ∙ alert-because sealed (h .state) level description lent (alertNumberOf sealed h)
-      (alertCodeOf sealed h) room x a b k w
+      outcome-is protected h lent room
+      ∙ alert-because protected (h .state) level description lent (alertNumberOf protected h)
+      (alertCodeOf protected h) room x a b k w
   in-because (G.Is l) D.Unassigned ab k x w =
-      alert-unknown sealed (h .state) level description lent (alertNumberOf sealed h) (alertCodeOf sealed h) room x
+      alert-unknown protected (h .state) level description lent (alertNumberOf protected h) (alertCodeOf protected h) room x
       (undescribed k) w
   in-because G.Unassigned (D.Assigned d) u k x w =
-      alert-unknown sealed (h .state) level description lent (alertNumberOf sealed h) (alertCodeOf sealed h) room x
+      alert-unknown protected (h .state) level description lent (alertNumberOf protected h) (alertCodeOf protected h) room x
       (unlevelled u) w
   in-because G.Unassigned D.Unassigned u k x w =
-      alert-unknown sealed (h .state) level description lent (alertNumberOf sealed h) (alertCodeOf sealed h) room x
+      alert-unknown protected (h .state) level description lent (alertNumberOf protected h) (alertCodeOf protected h) room x
       (unlevelled u) w
 
   in-goes : (g : Graded) (s : Sorted) → LevelHolds level g → SortedHolds (isAssigned description) s
-      → GoesIn → alertOutcomeIn sealed h lent room g s ≡ Done
+      → GoesIn → alertOutcomeIn protected h lent room g s ≡ Done
   in-goes (G.Is l) (D.Assigned d) ab k w =
-      outcome-is sealed h lent room
-      ∙ alert-goes sealed (h .state) level description lent (alertNumberOf sealed h) (alertCodeOf sealed h) room w
+      outcome-is protected h lent room
+      ∙ alert-goes protected (h .state) level description lent (alertNumberOf protected h) (alertCodeOf protected h) room w
   in-goes (G.Is l) D.Unassigned ab k w = absurd (undescribed k (w .0))
   in-goes G.Unassigned (D.Assigned d) u k w = absurd (unlevelled u (w .0))
   in-goes G.Unassigned D.Unassigned u k w = absurd (unlevelled u (w .0))
@@ -437,26 +437,26 @@ pub exactly-alert : ExactlyAlert stepOf
 unfolding stepOf alertSent
 exactly-alert =
     record {
-      refused = λ c sealed level description answered out x.
+      refused = λ c protected level description answered out x.
           let h : Handshake = c .handshake in
           let n : ℕ = length answered in
           let room : ℕ = length out in
-          through (alert-refused c sealed answered out (levelOf level) (sortedOf description) x)
-          (refused-when (WhyIn sealed h level description n room) (GoesIn sealed h level description n room)
-          (alertOutcomeIn sealed h n room (levelOf level) (sortedOf description))
-          (in-holds sealed h level description n room (levelOf level) (sortedOf description) (level-holds level)
+          through (alert-refused c protected answered out (levelOf level) (sortedOf description) x)
+          (refused-when (WhyIn protected h level description n room) (GoesIn protected h level description n room)
+          (alertOutcomeIn protected h n room (levelOf level) (sortedOf description))
+          (in-holds protected h level description n room (levelOf level) (sortedOf description) (level-holds level)
           (sorted-holds description))
-          (in-because sealed h level description n room (levelOf level) (sortedOf description) (level-holds level)
+          (in-because protected h level description n room (levelOf level) (sortedOf description) (level-holds level)
           (sorted-holds description)) x);
-      goes = λ c sealed level description answered out.
+      goes = λ c protected level description answered out.
           let h : Handshake = c .handshake in
           let n : ℕ = length answered in
           let room : ℕ = length out in
-          through (alert-done c sealed answered out (levelOf level) (sortedOf description))
-          (done-when (WhyIn sealed h level description n room) (GoesIn sealed h level description n room)
-          (alertOutcomeIn sealed h n room (levelOf level) (sortedOf description))
-          (in-holds sealed h level description n room (levelOf level) (sortedOf description) (level-holds level)
+          through (alert-done c protected answered out (levelOf level) (sortedOf description))
+          (done-when (WhyIn protected h level description n room) (GoesIn protected h level description n room)
+          (alertOutcomeIn protected h n room (levelOf level) (sortedOf description))
+          (in-holds protected h level description n room (levelOf level) (sortedOf description) (level-holds level)
           (sorted-holds description))
-          (in-goes sealed h level description n room (levelOf level) (sortedOf description) (level-holds level)
+          (in-goes protected h level description n room (levelOf level) (sortedOf description) (level-holds level)
           (sorted-holds description)));
     }

@@ -19,7 +19,7 @@ use Rattle.record.specs.declared.reader.Fault.the-variants as F
 use Rattle.record.specs.declared.reader.Reading.the-variants.{Sound, Refused}
 use Rattle.connection.specs.Receive.{receivedOf, framedTo, runOf, wholeOf, slotsOf}
 use Rattle.connection.specs.declared.answer.Slot.{Slot}
-use Rattle.connection.specs.declared.calls.Connection.{Connection}
+use Rattle.connection.specs.declared.connection.Connection.{Connection}
 use Rattle.connection.specs.declared.receive.Taken.{Taken}
 use Rattle.connection.specs.declared.receive.Taken.the-variants as T
 use Rattle.connection.specs.declared.receive.Received.{Received}

@@ -11,7 +11,7 @@ use Rattle.record.specs.declared.reader.Record.{Record}
 use Rattle.connection.specs.Receive.{slot, endOf}
 use Rattle.connection.specs.declared.answer.Answer.{Answer}
 use Rattle.connection.specs.declared.answer.Answer.the-variants.{Nothing, Refused}
-use Rattle.connection.specs.declared.calls.Connection.{Connection}
+use Rattle.connection.specs.declared.connection.Connection.{Connection}
 use Rattle.connection.specs.declared.refusal.Refusal.{Refusal}
 use Rattle.demands.specs.Runs.{receive, Result, received, sent, called, Gateway}
 use Rattle.demands.specs.Exactly.Whole.{CallFits, startOf}

@@ -136,8 +136,8 @@ pub data WhyMalformed (h : Handshake) (numbers : List ℕ) (q : Seen) : Type 0 w
       → WhyMalformed h numbers q
   bad-alert : Hears (h .state) → q .protected ≡ false → q .content ≡ 2 → (IsAlert (q .fragment) → ⊥)
       → WhyMalformed h numbers q
-  bad-sealed-change : (c : List ℕ) → NewAs h numbers q c → q .content ≡ 1 → WhyMalformed h numbers q
-  bad-sealed-alert : (c : List ℕ) → NewAs h numbers q c → q .content ≡ 2 → (IsAlert c → ⊥) → WhyMalformed h numbers q
+  bad-protected-change : (c : List ℕ) → NewAs h numbers q c → q .content ≡ 1 → WhyMalformed h numbers q
+  bad-protected-alert : (c : List ℕ) → NewAs h numbers q c → q .content ≡ 2 → (IsAlert c → ⊥) → WhyMalformed h numbers q
   bad-message : (c : List ℕ) → NewAs h numbers q c → q .content ≡ 3 → (IsFinished c → ⊥) → WhyMalformed h numbers q
   empty-data : (c : List ℕ) → NewAs h numbers q c → q .content ≡ 4 → length c ≡ 0 → WhyMalformed h numbers q
 

@@ -7,7 +7,7 @@ use mathlib.Core.List.{List}
 use Prim.Native.Nat.{ℕ, _+_, _≤_, _<_}
 use lib.ListN.{length}
 use Rattle.digest.specs.Mac.{sizeOf}
-use Rattle.connection.specs.declared.calls.Connection.{Connection}
+use Rattle.connection.specs.declared.connection.Connection.{Connection}
 use Rattle.connection.specs.declared.calls.Outcome.the-variants.{Done, Refused}
 use Rattle.connection.specs.declared.handshake.Handshake.{Handshake}
 use Rattle.connection.specs.declared.refusal.Refusal.{Refusal}
@@ -89,41 +89,41 @@ alertCodeOf false h = 0
 
 abbrev pub WhyAlert : Bool → State → ℕ → ℕ → ℕ → ℕ → ℕ → ℕ → Refusal → Type 0
 -- 16: "level or description unknown, record lent for an alert over 1,400"
-WhyAlert sealed state level description lent number code room X.Argument =
+WhyAlert protected state level description lent number code room X.Argument =
     (level ≡ 0) ⊎ (3 < level) ⊎ (isAssigned description ≡ false) ⊎ (1400 < lent)
 -- 7: "Barred, or Closed"
-WhyAlert sealed state level description lent number code room X.Ended = AlertFits level description lent × Over state
+WhyAlert protected state level description lent number code room X.Ended = AlertFits level description lent × Over state
 -- 8: "call not allowed in this state"
-WhyAlert sealed state level description lent number code room X.NotAllowed
-    = AlertFits level description lent × AlertMayNot sealed state
+WhyAlert protected state level description lent number code room X.NotAllowed
+    = AlertFits level description lent × AlertMayNot protected state
 -- 15: "sending number spent"
-WhyAlert sealed state level description lent number code room X.Spent =
-    AlertFits level description lent × AlertMay sealed state × (65535 < number)
+WhyAlert protected state level description lent number code room X.Spent =
+    AlertFits level description lent × AlertMay protected state × (65535 < number)
 -- 6: "output buffer too short: under the record's size for send"
-WhyAlert sealed state level description lent number code room X.Room =
-    AlertFits level description lent × AlertMay sealed state × (number ≤ 65535) × (room < 9 + code)
+WhyAlert protected state level description lent number code room X.Room =
+    AlertFits level description lent × AlertMay protected state × (number ≤ 65535) × (room < 9 + code)
 -- no other
-WhyAlert sealed state level description lent number code room (X.Framing fault) = ⊥
-WhyAlert sealed state level description lent number code room X.Forged = ⊥
-WhyAlert sealed state level description lent number code room X.TooOld = ⊥
-WhyAlert sealed state level description lent number code room X.Repeated = ⊥
-WhyAlert sealed state level description lent number code room X.Malformed = ⊥
-WhyAlert sealed state level description lent number code room X.Unacceptable = ⊥
-WhyAlert sealed state level description lent number code room X.Checksum = ⊥
-WhyAlert sealed state level description lent number code room X.WrongFinished = ⊥
-WhyAlert sealed state level description lent number code room X.HelloWhileOpen = ⊥
+WhyAlert protected state level description lent number code room (X.Framing fault) = ⊥
+WhyAlert protected state level description lent number code room X.Forged = ⊥
+WhyAlert protected state level description lent number code room X.TooOld = ⊥
+WhyAlert protected state level description lent number code room X.Repeated = ⊥
+WhyAlert protected state level description lent number code room X.Malformed = ⊥
+WhyAlert protected state level description lent number code room X.Unacceptable = ⊥
+WhyAlert protected state level description lent number code room X.Checksum = ⊥
+WhyAlert protected state level description lent number code room X.WrongFinished = ⊥
+WhyAlert protected state level description lent number code room X.HelloWhileOpen = ⊥
 
 abbrev pub AlertGoes : Bool → State → ℕ → ℕ → ℕ → ℕ → ℕ → ℕ → Type 0
-AlertGoes sealed state level description lent number code room =
-    AlertFits level description lent × AlertMay sealed state × (number ≤ 65535) × (9 + code ≤ room)
+AlertGoes protected state level description lent number code room =
+    AlertFits level description lent × AlertMay protected state × (number ≤ 65535) × (9 + code ≤ room)
 
 pub record ExactlyAlert (g : Gateway) : Type 0 where
-  pub refused : (c : Connection) (sealed : Bool) (level description : ℕ) (answered out : List ℕ) (x : Refusal)
-      → (g c (send-alert sealed level description answered out) .result ≡ sent (Refused x) 0)
-      ↔ WhyAlert sealed (c .handshake .state) level description (length answered) (alertNumberOf sealed (c .handshake))
-      (alertCodeOf sealed (c .handshake)) (length out) x
-  pub goes : (c : Connection) (sealed : Bool) (level description : ℕ) (answered out : List ℕ)
-      → (g c (send-alert sealed level description answered out) .result ≡ sent Done
-      (9 + alertCodeOf sealed (c .handshake)))
-      ↔ AlertGoes sealed (c .handshake .state) level description (length answered) (alertNumberOf sealed (c .handshake))
-      (alertCodeOf sealed (c .handshake)) (length out)
+  pub refused : (c : Connection) (protected : Bool) (level description : ℕ) (answered out : List ℕ) (x : Refusal)
+      → (g c (send-alert protected level description answered out) .result ≡ sent (Refused x) 0)
+      ↔ WhyAlert protected (c .handshake .state) level description (length answered) (alertNumberOf protected (c .handshake))
+      (alertCodeOf protected (c .handshake)) (length out) x
+  pub goes : (c : Connection) (protected : Bool) (level description : ℕ) (answered out : List ℕ)
+      → (g c (send-alert protected level description answered out) .result ≡ sent Done
+      (9 + alertCodeOf protected (c .handshake)))
+      ↔ AlertGoes protected (c .handshake .state) level description (length answered) (alertNumberOf protected (c .handshake))
+      (alertCodeOf protected (c .handshake)) (length out)

@@ -64,8 +64,8 @@ hear-alert-requires c κs = search needs
 enum-told-8 : tie.Need-enum-told-8
 enum-told-8 c = search needs
 
-unseal-requires : tie.Need-unseal-requires
-unseal-requires c κs = search needs
+open-record-requires : tie.Need-open-record-requires
+open-record-requires c κs = search needs
 
 returns-3 : tie.Need-returns-3
 unfolding ruledBy
@@ -97,7 +97,7 @@ returns-9 c = rw (c .before .enum-told7 .given .1) (c .hear-alert .ensures)
 
 returns-10 : tie.Need-returns-10
 unfolding ruledBy
-returns-10 c = rw (c .before .enum-told8 .given .1) (c .unseal .ensures)
+returns-10 c = rw (c .before .enum-told8 .given .1) (c .open-record .ensures)
 
 pub ruled-spec : {M : Type 1} → statement M
 ruled-spec =
@@ -122,7 +122,7 @@ ruled-spec =
     enum-told-7
     hear-alert-requires
     enum-told-8
-    unseal-requires
+    open-record-requires
     returns-3
     returns-4
     returns-5

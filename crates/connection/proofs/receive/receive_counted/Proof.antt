@@ -46,11 +46,11 @@ use denote.Triple.Walked.{says, Stays, stay-none, stay-none-slice, stay-ref, gav
 use denote.Exit.{yes}
 use Rattle.connection.specs.Receive.{receivedOf, outputOf}
 use Rattle.connection.specs.Tally.{countedOf}
-use Rattle.connection.specs.declared.calls.Connection.{Connection}
+use Rattle.connection.specs.declared.connection.Connection.{Connection}
 use Rattle.connection.specs.declared.tally.Tally.{Tally}
 use Rattle.connection.specs.declared.receive.Received.{Received}
-use Rattle.connection.proofs.calls.Connection as N
-use Rattle.connection.proofs.calls.Connection.Laws as N′
+use Rattle.connection.proofs.connection.Connection as N
+use Rattle.connection.proofs.connection.Connection.Laws as N′
 use Rattle.connection.proofs.tally.Tally as T
 use Rattle.connection.proofs.tally.Tally.Laws as T′
 use Rattle.connection.proofs.receive.Received as G

@@ -2,7 +2,7 @@
 use Prim.Native.Nat.{_+_}
 use mathlib.Core.Path.{_≡_, sym, _∙_, ap}
 use lib.ListN.{length}
-use Rattle.record.proofs.Sealed.{size-most}
+use Rattle.record.proofs.ProtectedBytes.{size-most}
 use Rattle.connection.proofs.Replying.{answered-by, reply-size}
 use Rattle.connection.specs.Handshake.{planted}
 use borrow.Author.Needs.{needs}

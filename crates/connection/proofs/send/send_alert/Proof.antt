@@ -9,9 +9,9 @@ use Rattle.message.specs.Alert.{alertBytes}
 use Prim.Native.Nat.{_+_}
 use mathlib.Core.Path.{_≡_, refl, sym, _∙_, ap}
 use lib.ListN.{length}
-use Rattle.record.proofs.Sealed.{size-most}
+use Rattle.record.proofs.ProtectedBytes.{size-most}
 use Rattle.record.specs.declared.header.Content.the-variants as C
-use Rattle.connection.specs.Send.{alertSent, alertOutput, alertSentAs, alertOutputAs, alertRefused, alertOutcome, alertBody, nextAlert, nextProtected, nextClear, afterProtected, afterClear, done, maySeal, mayClear}
+use Rattle.connection.specs.Send.{alertSent, alertOutput, alertSentAs, alertOutputAs, alertRefused, alertOutcome, alertBody, nextAlert, nextProtected, nextClear, afterProtected, afterClear, done, mayProtect, mayClear}
 use Rattle.connection.proofs.Sending.{alert-done, next-size, clear-size, refused-send, done-send, no-level, no-level-output}
 use Rattle.connection.proofs.send.send_alert.Statement.{statement}
 use Rattle.connection.proofs.send.send_alert.Tie as tie
@@ -31,7 +31,7 @@ refused-requires c κs = search needs
 returns : tie.Need-returns
 unfolding alertSent alertOutput
 returns c = rw (sym (c .before .before .before .grade .ensures) ∙ c .before .enum-told .given .1)
-    (c .refused .ensures ∙ no-level (c .before .before .before .before .before .before .args .c) (c .before .before .before .before .before .before .args .sealed) (c .before .before .before .before .before .before .args .answered .now) (length (c .before .before .before .before .before .before .args .out .now)) (sortedOf (c .before .before .before .before .before .before .args .description)), no-level-output (c .before .before .before .before .before .before .args .c) (c .before .before .before .before .before .before .args .sealed) (c .before .before .before .before .before .before .args .answered .now) (c .before .before .before .before .before .before .args .out .now) (sortedOf (c .before .before .before .before .before .before .args .description)))
+    (c .refused .ensures ∙ no-level (c .before .before .before .before .before .before .args .c) (c .before .before .before .before .before .before .args .protected) (c .before .before .before .before .before .before .args .answered .now) (length (c .before .before .before .before .before .before .args .out .now)) (sortedOf (c .before .before .before .before .before .before .args .description)), no-level-output (c .before .before .before .before .before .before .args .c) (c .before .before .before .before .before .before .args .protected) (c .before .before .before .before .before .before .args .answered .now) (c .before .before .before .before .before .before .args .out .now) (sortedOf (c .before .before .before .before .before .before .args .description)))
 
 sort-requires : tie.Need-sort-requires
 sort-requires c κs = search needs
@@ -49,8 +49,8 @@ returns-2 : tie.Need-returns-2
 unfolding alertSent alertOutput
 returns-2 c = rw (sym (c .before .before .before .before .before .before .before .grade .ensures) ∙ c .before .before .before .before .before .graded .given .1) (rw (sym (c .before .before .before .sort .ensures) ∙ c .before .enum-told2 .given .1) (c .refused2 .ensures, refl))
 
-may-seal-requires : tie.Need-may-seal-requires
-may-seal-requires c κs = search needs
+may-protect-requires : tie.Need-may-protect-requires
+may-protect-requires c κs = search needs
 
 size-requires : tie.Need-size-requires
 size-requires c κs = search needs
@@ -73,12 +73,12 @@ checksum-requires c κs = search needs
 write-requires : tie.Need-write-requires
 write-requires c κs = search needs
 
-slice-aggregate-protected : tie.Need-slice-aggregate-protected
-slice-aggregate-protected c = search needs
+slice-aggregate-next-protected : tie.Need-slice-aggregate-next-protected
+slice-aggregate-next-protected c = search needs
 
-protected-requires : tie.Need-protected-requires
-protected-requires c κs = let h = c .before .before .before .before .before .before .before .before .before .before .before .before .before .before .before .before .before .before .before .before .before .before .before .args .c .handshake in
-    let room = alert-done (c .before .before .before .before .before .before .before .before .may-seal .result) (length (c .before .before .before .before .before .before .before .before .before .before .before .before .before .before .before .before .before .before .before .before .before .before .before .args .answered .now)) (h .protection .protected) (c .before .before .before .before .before .before .before .size .result) (length (c .before .before .before .before .before .before .before .before .before .before .before .before .before .before .before .before .before .before .before .before .before .before .before .args .out .now)) (sym (c .before .before .before .before .before .before .alert-refusal .ensures) ∙ c .before .before .before .before .enum-told3 .given .1) in
+next-protected-requires : tie.Need-next-protected-requires
+next-protected-requires c κs = let h = c .before .before .before .before .before .before .before .before .before .before .before .before .before .before .before .before .before .before .before .before .before .before .before .args .c .handshake in
+    let room = alert-done (c .before .before .before .before .before .before .before .before .may-protect .result) (length (c .before .before .before .before .before .before .before .before .before .before .before .before .before .before .before .before .before .before .before .before .before .before .before .args .answered .now)) (h .protection .protected) (c .before .before .before .before .before .before .before .size .result) (length (c .before .before .before .before .before .before .before .before .before .before .before .before .before .before .before .before .before .before .before .before .before .before .before .args .out .now)) (sym (c .before .before .before .before .before .before .alert-refusal .ensures) ∙ c .before .before .before .before .enum-told3 .given .1) in
     (room .0, omega (arith, room .1, c .before .before .before .before .before .before .before .size .ensures, next-size h C.Alert (c .before .before .write .result), ap length (c .before .before .write .ensures)))
 
 returns-3 : tie.Need-returns-3
@@ -88,8 +88,8 @@ returns-3 c = let cn = c .before .before .before .before .before .before .before
     let lent = c .before .before .before .before .before .before .before .before .before .before .before .before .before .before .before .before .before .before .before .before .before .args .answered .now in
     let out = c .before .before .before .before .before .before .before .before .before .before .before .before .before .before .before .before .before .before .before .before .before .args .out .now in
     let next = nextProtected h C.Alert (alertBody (c .before .before .before .before .before .before .before .before .before .before .before .before .before .before .before .before .graded .given .0 .0) (c .before .before .before .before .before .before .before .before .before .before .before .before .sorted .given .0 .0) lent) in
-    let told = sym (ap₂ (λ o z. alertRefused o (length lent) (h .protection .protected) z (length out)) (c .before .before .before .before .before .before .may-seal .ensures) (c .before .before .before .before .before .size .ensures)) ∙ sym (c .before .before .before .before .alert-refusal .ensures) ∙ c .before .before .refusal .given .1 in
-    let both = refused-send cn (done next (afterProtected h next)) out next (alertRefused (maySeal (h .state)) (length lent) (h .protection .protected) (sizeOf (h .protection .keys .mac)) (length out)) _ told in
+    let told = sym (ap₂ (λ o z. alertRefused o (length lent) (h .protection .protected) z (length out)) (c .before .before .before .before .before .before .may-protect .ensures) (c .before .before .before .before .before .size .ensures)) ∙ sym (c .before .before .before .before .alert-refusal .ensures) ∙ c .before .before .refusal .given .1 in
+    let both = refused-send cn (done next (afterProtected h next)) out next (alertRefused (mayProtect (h .state)) (length lent) (h .protection .protected) (sizeOf (h .protection .keys .mac)) (length out)) _ told in
     rw (sym (c .before .before .before .before .before .before .before .before .before .before .before .before .before .before .before .before .before .before .grade .ensures) ∙ c .before .before .before .before .before .before .before .before .before .before .before .before .before .before .before .before .graded .given .1) (rw (sym (c .before .before .before .before .before .before .before .before .before .before .before .before .before .before .sort .ensures) ∙ c .before .before .before .before .before .before .before .before .before .before .before .before .sorted .given .1) (rw (c .before .before .before .before .before .before .before .if1 .taken) (c .refused3 .ensures ∙ both .0, both .1)))
 
 same-length : tie.Need-same-length
@@ -103,10 +103,10 @@ returns-4 c = let cn = c .before .before .before .before .before .before .before
     let out = c .before .before .before .before .before .before .before .before .before .before .before .before .before .before .before .before .before .before .before .before .before .before .before .before .before .before .args .out .now in
     let body-is = c .before .before .before .before .before .write .ensures ∙ ap (alertBytes (c .before .before .before .before .before .before .before .before .before .before .before .before .before .before .before .before .before .before .before .before .before .graded .given .0 .0) (c .before .before .before .before .before .before .before .before .before .before .before .before .before .before .before .before .before .sorted .given .0 .0)) (c .before .before .before .before .before .before .checksum .ensures) in
     let next = nextProtected h C.Alert (alertBody (c .before .before .before .before .before .before .before .before .before .before .before .before .before .before .before .before .before .before .before .before .before .graded .given .0 .0) (c .before .before .before .before .before .before .before .before .before .before .before .before .before .before .before .before .before .sorted .given .0 .0) lent) in
-    let told = sym (ap₂ (λ o z. alertRefused o (length lent) (h .protection .protected) z (length out)) (c .before .before .before .before .before .before .before .before .before .before .before .may-seal .ensures) (c .before .before .before .before .before .before .before .before .before .before .size .ensures)) ∙ sym (c .before .before .before .before .before .before .before .before .before .alert-refusal .ensures) ∙ c .before .before .before .before .before .before .before .enum-told3 .given .1 in
-    let both = done-send cn (done next (afterProtected h next)) out next (alertRefused (maySeal (h .state)) (length lent) (h .protection .protected) (sizeOf (h .protection .keys .mac)) (length out)) told in
+    let told = sym (ap₂ (λ o z. alertRefused o (length lent) (h .protection .protected) z (length out)) (c .before .before .before .before .before .before .before .before .before .before .before .may-protect .ensures) (c .before .before .before .before .before .before .before .before .before .before .size .ensures)) ∙ sym (c .before .before .before .before .before .before .before .before .before .alert-refusal .ensures) ∙ c .before .before .before .before .before .before .before .enum-told3 .given .1 in
+    let both = done-send cn (done next (afterProtected h next)) out next (alertRefused (mayProtect (h .state)) (length lent) (h .protection .protected) (sizeOf (h .protection .keys .mac)) (length out)) told in
     rw (sym (c .before .before .before .before .before .before .before .before .before .before .before .before .before .before .before .before .before .before .before .before .before .before .before .grade .ensures) ∙ c .before .before .before .before .before .before .before .before .before .before .before .before .before .before .before .before .before .before .before .before .before .graded .given .1) (rw (sym (c .before .before .before .before .before .before .before .before .before .before .before .before .before .before .before .before .before .before .before .sort .ensures) ∙ c .before .before .before .before .before .before .before .before .before .before .before .before .before .before .before .before .before .sorted .given .1) (rw (c .before .before .before .before .before .before .before .before .before .before .before .before .if1 .taken)
-    (c .before .before .protected .ensures .0 ∙ ap (λ b. done (nextProtected h C.Alert b) (afterProtected h (nextProtected h C.Alert b))) body-is ∙ both .0, c .before .before .protected .ensures .1 ∙ ap (λ b. laidOver out 0 (nextProtected h C.Alert b)) body-is ∙ both .1)))
+    (c .before .before .next-protected .ensures .0 ∙ ap (λ b. done (nextProtected h C.Alert b) (afterProtected h (nextProtected h C.Alert b))) body-is ∙ both .0, c .before .before .next-protected .ensures .1 ∙ ap (λ b. laidOver out 0 (nextProtected h C.Alert b)) body-is ∙ both .1)))
 
 may-clear-requires : tie.Need-may-clear-requires
 may-clear-requires c κs = search needs
@@ -129,11 +129,11 @@ checksum-requires-2 c κs = search needs
 write-requires-2 : tie.Need-write-requires-2
 write-requires-2 c κs = search needs
 
-slice-aggregate-clear : tie.Need-slice-aggregate-clear
-slice-aggregate-clear c = search needs
+slice-aggregate-next-clear : tie.Need-slice-aggregate-next-clear
+slice-aggregate-next-clear c = search needs
 
-clear-requires : tie.Need-clear-requires
-clear-requires c κs = let h = c .before .before .before .before .before .before .before .before .before .before .before .before .before .before .before .before .before .before .before .before .before .before .args .c .handshake in
+next-clear-requires : tie.Need-next-clear-requires
+next-clear-requires c κs = let h = c .before .before .before .before .before .before .before .before .before .before .before .before .before .before .before .before .before .before .before .before .before .before .args .c .handshake in
     let room = alert-done (c .before .before .before .before .before .before .before .may-clear .result) (length (c .before .before .before .before .before .before .before .before .before .before .before .before .before .before .before .before .before .before .before .before .before .before .args .answered .now)) (h .protection .clear) 0 (length (c .before .before .before .before .before .before .before .before .before .before .before .before .before .before .before .before .before .before .before .before .before .before .args .out .now)) (sym (c .before .before .before .before .before .before .alert-refusal2 .ensures) ∙ c .before .before .before .before .enum-told4 .given .1) in
     (room .0, omega (arith, room .1, clear-size h (c .before .before .write2 .result), ap length (c .before .before .write2 .ensures)))
 
@@ -162,7 +162,7 @@ returns-6 c = let cn = c .before .before .before .before .before .before .before
     let told = sym (ap (λ o. alertRefused o (length lent) (h .protection .clear) 0 (length out)) (c .before .before .before .before .before .before .before .before .before .before .may-clear .ensures)) ∙ sym (c .before .before .before .before .before .before .before .before .before .alert-refusal2 .ensures) ∙ c .before .before .before .before .before .before .before .enum-told4 .given .1 in
     let both = done-send cn (done next (afterClear h next)) out next (alertRefused (mayClear (h .state)) (length lent) (h .protection .clear) 0 (length out)) told in
     rw (sym (c .before .before .before .before .before .before .before .before .before .before .before .before .before .before .before .before .before .before .before .before .before .before .grade .ensures) ∙ c .before .before .before .before .before .before .before .before .before .before .before .before .before .before .before .before .before .before .before .before .graded .given .1) (rw (sym (c .before .before .before .before .before .before .before .before .before .before .before .before .before .before .before .before .before .before .sort .ensures) ∙ c .before .before .before .before .before .before .before .before .before .before .before .before .before .before .before .before .sorted .given .1) (rw (c .before .before .before .before .before .before .before .before .before .before .before .if1 .left)
-    (c .before .before .clear .ensures .0 ∙ ap (λ b. done (nextClear h b) (afterClear h (nextClear h b))) body-is ∙ both .0, c .before .before .clear .ensures .1 ∙ ap (λ b. laidOver out 0 (nextClear h b)) body-is ∙ both .1)))
+    (c .before .before .next-clear .ensures .0 ∙ ap (λ b. done (nextClear h b) (afterClear h (nextClear h b))) body-is ∙ both .0, c .before .before .next-clear .ensures .1 ∙ ap (λ b. laidOver out 0 (nextClear h b)) body-is ∙ both .1)))
 
 pub send-alert-spec : {M : Type 1} → statement M
 send-alert-spec =
@@ -178,7 +178,7 @@ send-alert-spec =
     enum-told-2
     refused-requires-2
     returns-2
-    may-seal-requires
+    may-protect-requires
     size-requires
     alert-refusal-requires
     enum-known-refusal
@@ -186,8 +186,8 @@ send-alert-spec =
     enum-told-3
     checksum-requires
     write-requires
-    slice-aggregate-protected
-    protected-requires
+    slice-aggregate-next-protected
+    next-protected-requires
     returns-3
     same-length
     returns-4
@@ -198,8 +198,8 @@ send-alert-spec =
     enum-told-4
     checksum-requires-2
     write-requires-2
-    slice-aggregate-clear
-    clear-requires
+    slice-aggregate-next-clear
+    next-clear-requires
     returns-5
     same-length-2
     returns-6)

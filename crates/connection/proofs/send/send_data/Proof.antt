@@ -2,7 +2,7 @@
 use Prim.Native.Nat.{_+_}
 use mathlib.Core.Path.{_≡_, sym, _∙_, ap}
 use lib.ListN.{length}
-use Rattle.record.proofs.Sealed.{size-most}
+use Rattle.record.proofs.ProtectedBytes.{size-most}
 use Rattle.record.specs.declared.header.Content.the-variants as C
 use Rattle.connection.specs.Send.{dataSent, dataOutput, dataRefused, dataOutcome, nextProtected, afterProtected, done}
 use Rattle.connection.proofs.Sending.{data-done, next-size, refused-send, done-send}
@@ -26,8 +26,8 @@ refused-requires c κs = search needs
 enum-told : tie.Need-enum-told
 enum-told c = search needs
 
-protected-requires : tie.Need-protected-requires
-protected-requires c κs = let h = c .before .before .before .before .before .before .before .before .before .before .args .c .handshake in
+next-protected-requires : tie.Need-next-protected-requires
+next-protected-requires c κs = let h = c .before .before .before .before .before .before .before .before .before .before .args .c .handshake in
     let bytes = c .before .before .before .before .before .before .before .before .before .before .args .«data» .now in
     let room = data-done (h .state) (length bytes) (h .protection .protected) (c .before .before .before .before .size .result) (length (c .before .before .before .before .before .before .before .before .before .before .args .out .now)) (sym (c .before .before .before .data-refusal .ensures) ∙ c .before .enum-told .given .1) in
     (room .0, omega (arith, room .1, c .before .before .before .before .size .ensures, next-size h C.Data bytes))
@@ -55,7 +55,7 @@ returns-2 c = let cn = c .before .before .before .before .before .before .before
     let next = nextProtected h C.Data bytes in
     let told = sym (ap (λ z. dataRefused (h .state) (length bytes) (h .protection .protected) z (length out)) (c .before .before .before .before .before .before .before .size .ensures)) ∙ sym (c .before .before .before .before .before .before .data-refusal .ensures) ∙ c .before .before .before .before .enum-told .given .1 in
     let both = done-send cn (done next (afterProtected h next)) out next (dataOutcome h (length bytes) (length out)) told in
-    (c .before .before .protected .ensures .0 ∙ both .0, c .before .before .protected .ensures .1 ∙ both .1)
+    (c .before .before .next-protected .ensures .0 ∙ both .0, c .before .before .next-protected .ensures .1 ∙ both .1)
 
 pub send-data-spec : {M : Type 1} → statement M
 send-data-spec =
@@ -66,7 +66,7 @@ send-data-spec =
     enum-known-refusal
     refused-requires
     enum-told
-    protected-requires
+    next-protected-requires
     returns
     same-length
     returns-2)

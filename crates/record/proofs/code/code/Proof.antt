@@ -2,7 +2,7 @@
 use denote.Ref.{now}
 use mathlib.Core.Path.{ap, _∙_}
 use Rattle.digest.specs.Hmac.{codeUnder, hmac}
-use Rattle.record.proofs.Sealed.{coded-head}
+use Rattle.record.proofs.ProtectedBytes.{coded-head}
 use borrow.Author.Needs.{needs}
 use Rattle.record.proofs.code.code.Statement.{statement}
 use Rattle.record.proofs.code.code.Tie as tie

@@ -9,7 +9,7 @@ use lib.Seq.{length-take-le}
 use Rattle.digest.specs.Hmac.{codeUnder, hmac}
 use Rattle.digest.specs.Mac.{sizeOf, sameBytes}
 use Rattle.record.specs.Code.{genuineBy}
-use Rattle.record.proofs.Sealed.{genuine-short, genuine-key, judged}
+use Rattle.record.proofs.ProtectedBytes.{genuine-short, genuine-key, judged}
 use Rattle.record.proofs.Walking.{part-on}
 use borrow.Author.Needs.{needs}
 use Rattle.record.proofs.code.genuine.Statement.{statement}

@@ -8,7 +8,7 @@ use Rattle.digest.specs.Hmac.{codeUnder}
 use Rattle.digest.specs.Mac.{sizeOf}
 use Rattle.record.specs.Written.{recordOf}
 use Rattle.record.proofs.Fronts.{retold}
-use Rattle.record.proofs.Sealed.{sealed}
+use Rattle.record.proofs.ProtectedBytes.{protected}
 use borrow.Author.Needs.{needs}
 use Rattle.record.proofs.code.write_protected.Statement.{statement}
 use Rattle.record.proofs.code.write_protected.Tie as tie
@@ -37,7 +37,7 @@ returns c =
     let body : List ℕ = now (a .body) in
     let whole =
     ap (λ (x : List ℕ). recordOf (a .long) true (a .content) (a .number) (body ++ x)) (c .before .before .before .before .cut .ensures)
-    ∙ sealed (codeUnder (a .key)) (sizeOf (a .mac)) (a .long) (a .content) (a .number) _ body _ (c .before .before .before .before .before .before .before .type-byte .ensures) (c .before .before .before .before .before .before .code .ensures .0) in
+    ∙ protected (codeUnder (a .key)) (sizeOf (a .mac)) (a .long) (a .content) (a .number) _ body _ (c .before .before .before .before .before .before .before .type-byte .ensures) (c .before .before .before .before .before .before .code .ensures .0) in
     retold (now (a .out)) _ _ _ _ whole (c .before .before .write .ensures)
 
 pub write-protected-spec : {M : Type 1} → statement M
