@@ -49,7 +49,7 @@ judged-requires : tie.Need-judged-requires
 judged-requires c κs = search needs
 
 returns : tie.Need-returns
-returns c = 
+returns c =
     c .judged .ensures
     ∙ λ i.
     agreedOf
