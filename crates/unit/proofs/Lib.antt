@@ -1,1 +1,7 @@
 -- Laws that belong to no one function.
+pub mod Parts
+pub mod Running
+pub mod Greeting
+pub mod Flights
+pub mod Agreeing
+pub mod Sending

@@ -6,7 +6,7 @@ use crate::state::State;
 use crate::step::Move;
 use crate::step::Step;
 use crate::step::refuse;
-use crate::step::step;
+use crate::step::lead;
 use connection::refusal::Refusal;
 use connection::sent::SentRecords;
 use message::alert;
@@ -22,7 +22,7 @@ pub(crate) fn change(window: Window, fragment: &[u8]) -> Step
     if !is_change(fragment) {
         return refuse(window, Refusal::Malformed);
     }
-    step(Answer::Spec, window.emptied(), Move::Change)
+    lead(Answer::Spec, window.emptied(), Move::Change)
 }
 
 // A clear alert: it must match one of the records that we sent. Its level decides.
@@ -38,9 +38,9 @@ pub(crate) fn hear_alert(sent: SentRecords, window: Window, fragment: &[u8]) -> 
             let level = a.level;
             let description = a.description;
             match level {
-                Level::Warning => step(Answer::Warning(description), window, Move::Stay),
-                Level::Critical => step(Answer::Critical(description), window, Move::Close),
-                Level::Fatal => step(Answer::Fatal(description), window, Move::Close),
+                Level::Warning => lead(Answer::Warning(description), window, Move::Stay),
+                Level::Critical => lead(Answer::Critical(description), window, Move::Close),
+                Level::Fatal => lead(Answer::Fatal(description), window, Move::Close),
             }
         }
     }
@@ -53,7 +53,7 @@ pub(crate) fn request(state: State, window: Window, m: &[u8]) -> Step
     if !is_request(m) {
         return refuse(window, Refusal::Malformed);
     }
-    step(request_in(state), window, Move::Stay)
+    lead(request_in(state), window, Move::Stay)
 }
 
 // The table takes none in Closed and Barred.

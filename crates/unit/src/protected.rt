@@ -10,7 +10,7 @@ use crate::state::State;
 use crate::step::Move;
 use crate::step::Step;
 use crate::step::refuse;
-use crate::step::step;
+use crate::step::lead;
 use connection::refusal::Refusal;
 use digest::Mac;
 use message::alert;
@@ -80,7 +80,7 @@ fn content(
             if content.len() == 0 {
                 return refuse(window, Refusal::Malformed);
             }
-            step(
+            lead(
                 Answer::Data {
                     number,
                     start: at,
@@ -111,9 +111,9 @@ fn alerted(window: Window, content: &[u8]) -> Step
             let level = a.level;
             let description = a.description;
             match level {
-                Level::Warning => step(Answer::Warning(description), window, warned(description)),
-                Level::Critical => step(Answer::Critical(description), window, Move::Close),
-                Level::Fatal => step(Answer::Barred(description), window, Move::Bar),
+                Level::Warning => lead(Answer::Warning(description), window, warned(description)),
+                Level::Critical => lead(Answer::Critical(description), window, Move::Close),
+                Level::Fatal => lead(Answer::Barred(description), window, Move::Bar),
             }
         }
     }
@@ -151,7 +151,7 @@ fn verified(window: Window, mac: Mac, expected: [u8; 12], state: State, content:
 {
     match finished::judge(content, &expected) {
         Verified::Malformed => refuse(window, Refusal::Malformed),
-        Verified::Wrong => step(
+        Verified::Wrong => lead(
             Answer::Refused(Refusal::WrongFinished),
             window,
             Move::Close,
@@ -168,9 +168,9 @@ fn opened(window: Window, mac: Mac, state: State) -> Step
         State::Idle => refuse(window, Refusal::NotAllowed),
         State::Sent => refuse(window, Refusal::NotAllowed),
         State::Replied => refuse(window, Refusal::NotAllowed),
-        State::Spec => step(Answer::Open(24 + mac.size()), window, Move::Finish),
-        State::Opening => step(Answer::Again, window, Move::Stay),
-        State::Open => step(Answer::Again, window, Move::Stay),
+        State::Spec => lead(Answer::Open(24 + mac.size()), window, Move::Finish),
+        State::Opening => lead(Answer::Again, window, Move::Stay),
+        State::Open => lead(Answer::Again, window, Move::Stay),
         State::Closed => refuse(window, Refusal::Ended),
         State::Barred => refuse(window, Refusal::Ended),
     }

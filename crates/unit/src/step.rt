@@ -29,7 +29,7 @@ pub struct Step {
 }
 
 // A step.
-pub(crate) fn step(answer: Answer, window: Window, next: Move) -> Step
+pub(crate) fn lead(answer: Answer, window: Window, next: Move) -> Step
     ensures { λ r. ⌜ r ≡ step answer window next ⌝ }
 {
     Step {
