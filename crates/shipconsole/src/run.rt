@@ -93,13 +93,7 @@ fn run_hello(console: Console, line: &[u8], out: &mut [u8], text: &mut [u8], at:
     let refresh = number(word(line, 3), 999999999) as u32;
     let size = room(word(line, 4), out);
     let unit = console.unit;
-    let sent = hello(
-        unit,
-        &random[..n],
-        &macs[..m],
-        refresh,
-        &mut out[..size],
-    );
+    let sent = hello(unit, &random[..n], &macs[..m], refresh, &mut out[..size]);
     let left = console.with_unit(sent.unit);
     let outcome = sent.outcome;
     outcome::sent(left, b"hello", outcome, sent.written, out, text, at)
@@ -159,23 +153,11 @@ fn run_alert(console: Console, line: &[u8], out: &mut [u8], text: &mut [u8], at:
 fn run_close(console: Console, text: &mut [u8], at: usize) -> Ran {
     let called = calls::close(console.unit);
     let outcome = called.outcome;
-    outcome::done(
-        console.with_unit(called.unit),
-        b"close",
-        outcome,
-        text,
-        at,
-    )
+    outcome::done(console.with_unit(called.unit), b"close", outcome, text, at)
 }
 
 fn run_start(console: Console, text: &mut [u8], at: usize) -> Ran {
     let called = calls::start(console.unit);
     let outcome = called.outcome;
-    outcome::done(
-        console.with_unit(called.unit),
-        b"start",
-        outcome,
-        text,
-        at,
-    )
+    outcome::done(console.with_unit(called.unit), b"start", outcome, text, at)
 }

@@ -5,3 +5,4 @@ pub mod Greeting
 pub mod Flights
 pub mod Agreeing
 pub mod Sending
+pub mod Coincide

@@ -64,12 +64,7 @@ fn agreed(u: Unit, m: &[u8], plan: Plan) -> Unit
     let size = said.size;
     let expected = finished::server_verify(&secret, &bytes[..size], m);
     let theirs = finished::message(expected);
-    let ours = finished::message(finished::client_verify(
-        &secret,
-        &bytes[..size],
-        m,
-        &theirs,
-    ));
+    let ours = finished::message(finished::client_verify(&secret, &bytes[..size], m, &theirs));
     let left = Protection {
         keys: Keys {
             secret,

@@ -120,9 +120,7 @@ fn step_by(
         Rule::Request => request(state, window, fragment),
         Rule::Change => change(window, fragment),
         Rule::Hear => hear_alert(sent, window, fragment),
-        Rule::Unprotect => unprotect(
-            protection, expected, state, is, byte, number, at, fragment,
-        ),
+        Rule::Unprotect => unprotect(protection, expected, state, is, byte, number, at, fragment),
     }
 }
 

@@ -9,8 +9,8 @@ use crate::state::Kind;
 use crate::state::State;
 use crate::step::Move;
 use crate::step::Step;
-use crate::step::refuse;
 use crate::step::lead;
+use crate::step::refuse;
 use connection::refusal::Refusal;
 use digest::Mac;
 use message::alert;
@@ -130,13 +130,7 @@ fn warned(description: Description) -> Move
 }
 
 // A protected handshake record: a HelloRequest, or the shore's Finished.
-fn handshake(
-    window: Window,
-    mac: Mac,
-    expected: [u8; 12],
-    state: State,
-    content: &[u8],
-) -> Step
+fn handshake(window: Window, mac: Mac, expected: [u8; 12], state: State, content: &[u8]) -> Step
     ensures { λ r. ⌜ r ≡ handshakeBy window mac expected state (now (content .entry)) ⌝ }
 {
     if is_request(content) {
@@ -151,11 +145,7 @@ fn verified(window: Window, mac: Mac, expected: [u8; 12], state: State, content:
 {
     match finished::judge(content, &expected) {
         Verified::Malformed => refuse(window, Refusal::Malformed),
-        Verified::Wrong => lead(
-            Answer::Refused(Refusal::WrongFinished),
-            window,
-            Move::Close,
-        ),
+        Verified::Wrong => lead(Answer::Refused(Refusal::WrongFinished), window, Move::Close),
         Verified::Right => opened(window, mac, state),
     }
 }

@@ -53,7 +53,7 @@ flown-requires : tie.Need-flown-requires
 flown-requires c κs = search needs
 
 returns : tie.Need-returns
-returns c = 
+returns c =
     let a = c .before .before .before .before .before .before .before .before .before .before .before .before .before .before .before .before .before .before .before .before .before .before .args in
     let said = front-of 42 _ (c .before .before .before .before .before .before .before .before .before .before .before .before .message-in .result .bytes) (c .before .before .before .before .before .before .before .before .before .before .before .before .message-in .result .size) (ap (λ (x : Message). x .bytes) (c .before .before .before .before .before .before .before .before .before .before .before .before .message-in .ensures .0)) (ap (λ (x : Message). x .size) (c .before .before .before .before .before .before .before .before .before .before .before .before .message-in .ensures .0)) in
     agreed-by (a .u) (a .m .now) (a .plan) _ _ _ _ _ _ _ said

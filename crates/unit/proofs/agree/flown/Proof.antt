@@ -45,7 +45,7 @@ put-requires-2 : tie.Need-put-requires-2
 put-requires-2 c κs = search needs
 
 returns : tie.Need-returns
-returns c = 
+returns c =
     let a = c .before .before .before .before .before .before .before .before .before .before .before .before .before .before .before .before .before .args in
     flown-by (a .protection) (a .t2) (c .before .before .before .before .before .before .before .before .before .before .before .before .before .before .before .before .before .pre .0) (c .before .before .before .before .before .before .before .before .before .before .before .before .before .before .before .before .before .pre .1) _ _ _ (c .before .before .before .before .before .before .before .before .before .before .before .before .before .before .before .before .change .ensures) (c .before .before .before .before .before .before .before .before .before .before .before .before .before .write-clear .ensures .1) (c .before .before .before .before .before .before .before .before .before .write .ensures .1) _ _ (c .before .before .before .before .before .put .ensures) (c .before .put2 .ensures)
 

@@ -19,7 +19,7 @@ write-requires : tie.Need-write-requires
 write-requires c κs = search needs
 
 returns : tie.Need-returns
-returns c = 
+returns c =
     let a = c .before .before .before .before .before .args in
     let m = message-is (a .t2) (a .t1) (a .offer) _ _ (omega arith) (omega arith) (c .before .write .ensures .0) (c .before .write .ensures .1) in
     ((λ i. record { bytes = m .0 i; size = m .1 i }), omega (arith, m .1, hello-most (a .t2) (a .t1) (a .offer) (omega arith) (omega arith)))

@@ -25,7 +25,7 @@ put-requires : tie.Need-put-requires
 put-requires c κs = search needs
 
 returns : tie.Need-returns
-returns c = 
+returns c =
     let m = c .before .before .before .before .before .args .m .now in
     filled-whole 16 (take 16 (drop 4 m)) (c .before .put .last .0) (length-take-le 16 (drop 4 m) (omega (arith, length-drop 4 m))) (c .before .put .ensures)
 

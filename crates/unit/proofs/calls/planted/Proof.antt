@@ -24,7 +24,7 @@ made-requires : tie.Need-made-requires
 made-requires c κs = search needs
 
 returns : tie.Need-returns
-returns c = 
+returns c =
     let a = c .before .before .before .before .before .before .before .before .before .args in
     c .made .ensures ∙ ap₂ (λ x y. newUnit x y (a .width) S.Idle)
     (filled-whole 8 (a .id .now) (c .before .before .before .before .before .put .last .0) (omega arith) (c .before .before .before .before .before .put .ensures))

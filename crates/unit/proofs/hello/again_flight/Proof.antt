@@ -30,7 +30,7 @@ refused-requires c κs = search needs
 
 returns : tie.Need-returns
 unfolding saidAgain
-returns c = 
+returns c =
     let a = c .before .before .before .before .before .before .before .args in
     let l : length (a .u .flight) ≡ 44 = search (needs, c .before .before .before .before .before .before .before .good .0) in
     let size = length-take-le (24 + sizeOf (a .u .protection .keys .mac)) (a .u .flight) (omega (arith, size-most (c .before .before .before .before .before .before .before .args .u .protection .keys .mac))) in
@@ -54,15 +54,16 @@ same-length c = search needs
 
 returns-2 : tie.Need-returns-2
 unfolding saidAgain writtenOf
-returns-2 c = 
+returns-2 c =
     let a = c .before .before .before .before .before .before .before .before .before .before .before .before .args in
     let l : length (a .u .flight) ≡ 44 = search (needs, c .before .before .before .before .before .before .before .before .before .before .before .before .good .0) in
     let n = 24 + c .before .before .before .before .before .before .before .size .result in
     let size = length-take-le n (a .u .flight) (omega (arith, c .before .before .before .before .before .before .before .size .ensures, size-most (c .before .before .before .before .before .before .before .before .before .before .before .before .args .u .protection .keys .mac))) in
     let same = ap (λ k. take (24 + k) (a .u .flight)) (c .before .before .before .before .before .before .before .size .ensures) in
-    let fits = le-leb (length (flightOf (a .u))) (length (a .out .now)) (omega (arith, size, ap length same)) in
-    (pick-yes _ _ _ _ _ fits (c .done .ensures ∙ ap (λ k. doneWith k (a .u)) (sym size ∙ ap length same)),
-    pick-yes _ _ _ _ _ fits (within (a .out .now) 0 (take n (a .u .flight)) (c .before .before .before .put .last .0) (omega (arith, size)) (c .before .before .before .put .ensures) ∙ ap (laidOver (a .out .now) 0) same))
+    let fits = le-leb (length (flightOf (a .u))) (length (a .out .now)) (omega (arith, size, ap length same)) in (
+      pick-yes _ _ _ _ _ fits (c .done .ensures ∙ ap (λ k. doneWith k (a .u)) (sym size ∙ ap length same)),
+      pick-yes _ _ _ _ _ fits (within (a .out .now) 0 (take n (a .u .flight)) (c .before .before .before .put .last .0) (omega (arith, size)) (c .before .before .before .put .ensures) ∙ ap (laidOver (a .out .now) 0) same),
+    )
 
 pub again-flight-spec : {M : Type 1} → statement M
 again-flight-spec =

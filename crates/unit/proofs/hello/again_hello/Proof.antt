@@ -24,7 +24,7 @@ same-length c = search needs
 
 returns : tie.Need-returns
 unfolding saidAgain
-returns c = 
+returns c =
     let a = c .before .before .before .before .before .before .before .before .before .before .before .before .args in
     let none = none-written (a .out .now) (helloDatagram (c .before .before .before .before .before .before .before .before .before .before .before .before .args .u .id) (c .before .before .before .before .before .before .before .before .before .before .before .before .args .u .protection .keys .client) (c .before .before .before .before .before .before .before .before .before .before .before .before .args .u .offer)) _ (datagram-some (a .u .id) (a .u .protection .keys .client) (a .u .offer)) (c .before .before .before .before .say .ensures .0) (omega arith) in
     (pick-no _ _ _ _ _ none (c .refused .ensures), c .before .before .before .before .say .ensures .1)
@@ -37,7 +37,7 @@ same-length-2 c = search needs
 
 returns-2 : tie.Need-returns-2
 unfolding saidAgain
-returns-2 c = 
+returns-2 c =
     let a = c .before .before .before .before .before .before .before .before .before .before .before .before .args in
     let d = (helloDatagram (c .before .before .before .before .before .before .before .before .before .before .before .before .args .u .id) (c .before .before .before .before .before .before .before .before .before .before .before .before .args .u .protection .keys .client) (c .before .before .before .before .before .before .before .before .before .before .before .before .args .u .offer)) in
     let fits = some-written (a .out .now) d _ (c .before .before .before .before .say .ensures .0) (λ z. omega arith) in

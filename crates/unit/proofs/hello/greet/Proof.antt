@@ -29,21 +29,21 @@ same-length c = search needs
 
 returns : tie.Need-returns
 unfolding greetedWith
-returns c = 
+returns c =
     let a = c .before .before .before .before .before .before .before .before .args in
     let d = (helloDatagram (c .before .before .before .before .before .before .before .before .args .u .id) (c .before .before .before .before .before .before .before .before .args .random) (c .before .before .before .before .before .before .before .before .args .offer)) in
     let none = none-written (a .out .now) d _ (datagram-some (a .u .id) (a .random) (a .offer)) (c .before .before .before .before .say .ensures .0) (omega arith) in
     (pick-no _ _ _ _ _ none (c .refused .ensures), c .before .before .before .before .say .ensures .1)
 
 slice-reshare-prefix-checksum : tie.Need-slice-reshare-prefix-checksum
-slice-reshare-prefix-checksum c = 
+slice-reshare-prefix-checksum c =
     let d = (helloDatagram (c .before .before .before .before .before .before .before .args .u .id) (c .before .before .before .before .before .before .before .args .random) (c .before .before .before .before .before .before .before .args .offer)) in
     let fits = some-written (c .before .before .before .before .before .before .before .args .out .now) d _ (c .before .before .before .say .ensures .0) (λ z. omega arith) in
     let w = wrote (c .before .before .before .before .before .before .before .args .out .now) (helloDatagram (c .before .before .before .before .before .before .before .args .u .id) (c .before .before .before .before .before .before .before .args .random) (c .before .before .before .before .before .before .before .args .offer)) (helloDatagram (c .before .before .before .before .before .before .before .args .u .id) (c .before .before .before .before .before .before .before .args .random) (c .before .before .before .before .before .before .before .args .offer)) _ _ refl (some-written (c .before .before .before .before .before .before .before .args .out .now) (helloDatagram (c .before .before .before .before .before .before .before .args .u .id) (c .before .before .before .before .before .before .before .args .random) (c .before .before .before .before .before .before .before .args .offer)) _ (c .before .before .before .say .ensures .0) (λ z. omega arith)) (c .before .before .before .say .ensures .0) (c .before .before .before .say .ensures .1) in
     omega (arith, w .count, ap length (w .bytes-are) ∙ length-laid (c .before .before .before .before .before .before .before .args .out .now) 0 d (omega (arith, fits)), fits)
 
 slice-aggregate-checksum : tie.Need-slice-aggregate-checksum
-slice-aggregate-checksum c = 
+slice-aggregate-checksum c =
     let w = wrote (c .before .before .before .before .before .before .before .before .args .out .now) (helloDatagram (c .before .before .before .before .before .before .before .before .args .u .id) (c .before .before .before .before .before .before .before .before .args .random) (c .before .before .before .before .before .before .before .before .args .offer)) (helloDatagram (c .before .before .before .before .before .before .before .before .args .u .id) (c .before .before .before .before .before .before .before .before .args .random) (c .before .before .before .before .before .before .before .before .args .offer)) _ _ refl (some-written (c .before .before .before .before .before .before .before .before .args .out .now) (helloDatagram (c .before .before .before .before .before .before .before .before .args .u .id) (c .before .before .before .before .before .before .before .before .args .random) (c .before .before .before .before .before .before .before .before .args .offer)) _ (c .before .before .before .before .say .ensures .0) (λ z. omega arith)) (c .before .before .before .before .say .ensures .0) (c .before .before .before .before .say .ensures .1) in
     w .count ∙ sym (ap length (w .front))
 
@@ -61,7 +61,7 @@ same-length-2 c = search needs
 
 returns-2 : tie.Need-returns-2
 unfolding greetedWith
-returns-2 c = 
+returns-2 c =
     let a = c .before .before .before .before .before .before .before .before .before .before .before .args in
     let d = (helloDatagram (c .before .before .before .before .before .before .before .before .before .before .before .args .u .id) (c .before .before .before .before .before .before .before .before .before .before .before .args .random) (c .before .before .before .before .before .before .before .before .before .before .before .args .offer)) in
     let fits = some-written (a .out .now) d _ (c .before .before .before .before .before .before .before .say .ensures .0) (λ z. omega arith) in

@@ -73,13 +73,14 @@ same-length c = search needs
 
 returns-5 : tie.Need-returns-5
 unfolding helloSent helloOutput
-returns-5 c = 
+returns-5 c =
     let a = c .before .before .before .before .before .before .before .before .before .before .before .before .before .before .before .before .before .before .before .args in
     let offer = offerOf (c .before .before .before .before .before .before .before .before .before .before .before .kinds .given .0 .0) (a .refresh) in
     let ours = filled-whole 16 (a .random .now) (c .before .before .before .before .before .put .last .0) (omega arith) (c .before .before .before .before .before .put .ensures) in
-    rw (sym (c .before .before .before .before .before .before .before .before .before .before .before .before .before .kinds-of .ensures), c .before .before .before .before .before .before .before .before .before .before .before .kinds .given .1, sym (c .before .before .before .before .before .before .before .before .before .may-hello .ensures), c .before .before .before .before .before .before .before .enum-told2 .given .1)
-    (if-eq _ (length (c .before .before .before .before .before .before .before .before .before .before .before .before .before .before .before .before .before .before .before .args .random .now)) 16 (omega arith) (if-ge _ 255 (c .before .before .before .before .before .before .before .before .before .before .before .before .before .before .before .before .before .before .before .args .refresh) (omega arith) (c .before .before .greet .ensures .0 ∙ ap (λ x. greetedWith (a .u) x offer (length (a .out .now))) ours)),
-    if-eq _ (length (c .before .before .before .before .before .before .before .before .before .before .before .before .before .before .before .before .before .before .before .args .random .now)) 16 (omega arith) (if-ge _ 255 (c .before .before .before .before .before .before .before .before .before .before .before .before .before .before .before .before .before .before .before .args .refresh) (omega arith) (c .before .before .greet .ensures .1 ∙ ap (λ x. writtenOf (a .out .now) (helloDatagram (a .u .id) x offer)) ours)))
+    rw (sym (c .before .before .before .before .before .before .before .before .before .before .before .before .before .kinds-of .ensures), c .before .before .before .before .before .before .before .before .before .before .before .kinds .given .1, sym (c .before .before .before .before .before .before .before .before .before .may-hello .ensures), c .before .before .before .before .before .before .before .enum-told2 .given .1) (
+      if-eq _ (length (c .before .before .before .before .before .before .before .before .before .before .before .before .before .before .before .before .before .before .before .args .random .now)) 16 (omega arith) (if-ge _ 255 (c .before .before .before .before .before .before .before .before .before .before .before .before .before .before .before .before .before .before .before .args .refresh) (omega arith) (c .before .before .greet .ensures .0 ∙ ap (λ x. greetedWith (a .u) x offer (length (a .out .now))) ours)),
+      if-eq _ (length (c .before .before .before .before .before .before .before .before .before .before .before .before .before .before .before .before .before .before .before .args .random .now)) 16 (omega arith) (if-ge _ 255 (c .before .before .before .before .before .before .before .before .before .before .before .before .before .before .before .before .before .before .before .args .refresh) (omega arith) (c .before .before .greet .ensures .1 ∙ ap (λ x. writtenOf (a .out .now) (helloDatagram (a .u .id) x offer)) ours)),
+    )
 
 pub hello-spec : {M : Type 1} → statement M
 hello-spec =

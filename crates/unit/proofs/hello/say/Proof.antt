@@ -30,7 +30,7 @@ same-length c = search needs
 
 returns : tie.Need-returns
 unfolding helloDatagram
-returns c = 
+returns c =
     let said = ap (recordOf false false C.Handshake 0) (front-of 42 _ (c .before .before .before .before .before .before .message-in .result .bytes) (c .before .before .before .before .before .before .message-in .result .size) (ap (λ (x : Message). x .bytes) (c .before .before .before .before .before .before .message-in .ensures .0)) (ap (λ (x : Message). x .size) (c .before .before .before .before .before .before .message-in .ensures .0))) in
     (c .before .before .write-clear .ensures .0 ∙ ap (countOf (c .before .before .before .before .before .before .before .before .args .out .now)) said, c .before .before .write-clear .ensures .1 ∙ ap (writtenOf (c .before .before .before .before .before .before .before .before .args .out .now)) said)
 

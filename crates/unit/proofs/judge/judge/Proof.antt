@@ -36,7 +36,7 @@ ruled-requires : tie.Need-ruled-requires
 ruled-requires c κs = search needs
 
 returns : tie.Need-returns
-returns c = 
+returns c =
     let args = c .before .before .before .before .before .before .before .before .args in
     let at = args .r .start + args .r .head in
     let back : at + args .r .size - at ≡ args .r .size = omega arith in

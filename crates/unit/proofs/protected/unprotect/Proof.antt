@@ -36,7 +36,7 @@ enum-known-opened : tie.Need-enum-known-opened
 enum-known-opened c = search needs
 
 slice-aggregate-content : tie.Need-slice-aggregate-content
-slice-aggregate-content c = 
+slice-aggregate-content c =
     let a = c .before .before .before .before .before .before .before .before .before .args in
     let inside = new-within (a .protection) FromShore (a .number) (a .byte) (a .fragment .now) _ (sym (ap (λ (o : Opening). o .opened) (c .before .before .before .before .before .«open» .ensures)) ∙ c .before .before .before .opened .given .1) in
     sym (length-take-le _ (a .fragment .now) inside)
@@ -58,7 +58,7 @@ returns-3 c = rw (sym (ap (λ (o : Opening). o .opened) (c .before .before .befo
 
 returns-4 : tie.Need-returns-4
 unfolding unprotectedBy
-returns-4 c = 
+returns-4 c =
     let a = c .before .before .before .before .before .before .before .before .before .before .args in
     rw (sym (ap (λ (o : Opening). o .opened) (c .before .before .before .before .before .before .«open» .ensures)) ∙ c .before .before .before .before .opened .given .1)
     (c .content .ensures ∙ ap (λ (o : Opening). contentBy (o .protection .window) (a .protection .keys .mac) (a .expected) (a .state) (a .kind) (a .number) (a .at) (take (c .before .before .before .before .opened .given .0 .0) (a .fragment .now))) (c .before .before .before .before .before .before .«open» .ensures))

@@ -19,7 +19,7 @@ same-length : tie.Need-same-length
 same-length c = search needs
 
 returns : tie.Need-returns
-returns c = 
+returns c =
     let flight = c .before .before .before .before .before .before .before .args .t1 in
     let all = sym (take-all (c .before .before .before .before .before .before .before .args .size) flight (omega arith)) in
     (sym (sym (ap length all) ∙ omega arith), within (c .before .before .before .before .before .before .before .args .out .now) 0 flight (c .before .before .put .last .0) (omega arith) (c .before .before .put .ensures) ∙ ap (laidOver (c .before .before .before .before .before .before .before .args .out .now) 0) all)
@@ -37,7 +37,7 @@ same-length-2 : tie.Need-same-length-2
 same-length-2 c = search needs
 
 returns-2 : tie.Need-returns-2
-returns-2 c = 
+returns-2 c =
     let flight = c .before .before .before .before .before .before .before .args .t1 in
     let size = length-take-le (c .before .before .before .before .before .before .before .args .size) flight (omega arith) in
     (sym size, within (c .before .before .before .before .before .before .before .args .out .now) 0 (take (c .before .before .before .before .before .before .before .args .size) flight) (c .before .before .put2 .last .0) (omega arith) (c .before .before .put2 .ensures))

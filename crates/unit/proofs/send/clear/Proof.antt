@@ -38,18 +38,18 @@ same-length c = search needs
 
 returns-2 : tie.Need-returns-2
 unfolding clearSent clearOutput
-returns-2 c = 
+returns-2 c =
     let none = none-written (c .before .before .before .before .before .before .before .before .before .before .before .before .args .out .now) (nextClear (c .before .before .before .before .before .before .before .before .before .before .before .before .args .u) (c .before .before .before .before .before .before .before .before .before .before .before .before .args .body .now)) _ (clear-some (c .before .before .before .before .before .before .before .before .before .before .before .before .args .u) (c .before .before .before .before .before .before .before .before .before .before .before .before .args .body .now)) (c .before .before .before .before .write-clear .ensures .0) (omega arith) in
     (if-ge _ 65535 (c .before .before .before .before .before .before .before .before .before .before .before .before .args .u .protection .clear) (omega arith) (pick-no _ _ _ _ _ none (c .refused2 .ensures)), if-ge _ 65535 (c .before .before .before .before .before .before .before .before .before .before .before .before .args .u .protection .clear) (omega arith) (c .before .before .before .before .write-clear .ensures .1))
 
 slice-reshare-prefix-checksum : tie.Need-slice-reshare-prefix-checksum
-slice-reshare-prefix-checksum c = 
+slice-reshare-prefix-checksum c =
     let fits = some-written (c .before .before .before .before .before .before .before .before .before .before .before .args .out .now) (nextClear (c .before .before .before .before .before .before .before .before .before .before .before .args .u) (c .before .before .before .before .before .before .before .before .before .before .before .args .body .now)) _ (c .before .before .before .write-clear .ensures .0) (λ z. omega arith) in
     let w = wrote (c .before .before .before .before .before .before .before .before .before .before .before .args .out .now) (nextClear (c .before .before .before .before .before .before .before .before .before .before .before .args .u) (c .before .before .before .before .before .before .before .before .before .before .before .args .body .now)) (nextClear (c .before .before .before .before .before .before .before .before .before .before .before .args .u) (c .before .before .before .before .before .before .before .before .before .before .before .args .body .now)) _ _ refl (some-written (c .before .before .before .before .before .before .before .before .before .before .before .args .out .now) (nextClear (c .before .before .before .before .before .before .before .before .before .before .before .args .u) (c .before .before .before .before .before .before .before .before .before .before .before .args .body .now)) _ (c .before .before .before .write-clear .ensures .0) (λ z. omega arith)) (c .before .before .before .write-clear .ensures .0) (c .before .before .before .write-clear .ensures .1) in
     omega (arith, w .count, ap length (w .bytes-are) ∙ length-laid (c .before .before .before .before .before .before .before .before .before .before .before .args .out .now) 0 (nextClear (c .before .before .before .before .before .before .before .before .before .before .before .args .u) (c .before .before .before .before .before .before .before .before .before .before .before .args .body .now)) (omega (arith, fits)), fits)
 
 slice-aggregate-checksum : tie.Need-slice-aggregate-checksum
-slice-aggregate-checksum c = 
+slice-aggregate-checksum c =
     let w = wrote (c .before .before .before .before .before .before .before .before .before .before .before .before .args .out .now) (nextClear (c .before .before .before .before .before .before .before .before .before .before .before .before .args .u) (c .before .before .before .before .before .before .before .before .before .before .before .before .args .body .now)) (nextClear (c .before .before .before .before .before .before .before .before .before .before .before .before .args .u) (c .before .before .before .before .before .before .before .before .before .before .before .before .args .body .now)) _ _ refl (some-written (c .before .before .before .before .before .before .before .before .before .before .before .before .args .out .now) (nextClear (c .before .before .before .before .before .before .before .before .before .before .before .before .args .u) (c .before .before .before .before .before .before .before .before .before .before .before .before .args .body .now)) _ (c .before .before .before .before .write-clear .ensures .0) (λ z. omega arith)) (c .before .before .before .before .write-clear .ensures .0) (c .before .before .before .before .write-clear .ensures .1) in
     w .count ∙ sym (ap length (w .front))
 
@@ -70,7 +70,7 @@ same-length-2 c = search needs
 
 returns-3 : tie.Need-returns-3
 unfolding clearSent clearOutput
-returns-3 c = 
+returns-3 c =
     let u = c .before .before .before .before .before .before .before .before .before .before .before .before .before .before .before .before .args .u in
     let fits = some-written (c .before .before .before .before .before .before .before .before .before .before .before .before .before .before .before .before .args .out .now) (nextClear (c .before .before .before .before .before .before .before .before .before .before .before .before .before .before .before .before .args .u) (c .before .before .before .before .before .before .before .before .before .before .before .before .before .before .before .before .args .body .now)) _ (c .before .before .before .before .before .before .before .before .write-clear .ensures .0) (λ z. omega arith) in
     let w = wrote (c .before .before .before .before .before .before .before .before .before .before .before .before .before .before .before .before .args .out .now) (nextClear (c .before .before .before .before .before .before .before .before .before .before .before .before .before .before .before .before .args .u) (c .before .before .before .before .before .before .before .before .before .before .before .before .before .before .before .before .args .body .now)) (nextClear (c .before .before .before .before .before .before .before .before .before .before .before .before .before .before .before .before .args .u) (c .before .before .before .before .before .before .before .before .before .before .before .before .before .before .before .before .args .body .now)) _ _ refl (some-written (c .before .before .before .before .before .before .before .before .before .before .before .before .before .before .before .before .args .out .now) (nextClear (c .before .before .before .before .before .before .before .before .before .before .before .before .before .before .before .before .args .u) (c .before .before .before .before .before .before .before .before .before .before .before .before .before .before .before .before .args .body .now)) _ (c .before .before .before .before .before .before .before .before .write-clear .ensures .0) (λ z. omega arith)) (c .before .before .before .before .before .before .before .before .write-clear .ensures .0) (c .before .before .before .before .before .before .before .before .write-clear .ensures .1) in

@@ -35,13 +35,13 @@ enum-known-wrote : tie.Need-enum-known-wrote
 enum-known-wrote c = search needs
 
 slice-reshare-prefix-checksum : tie.Need-slice-reshare-prefix-checksum
-slice-reshare-prefix-checksum c = 
+slice-reshare-prefix-checksum c =
     let w = protected-done (c .before .before .before .before .before .before .before .before .before .before .args .u .protection) FromUnit (c .before .before .before .before .before .before .before .before .before .before .args .content) (c .before .before .before .before .before .before .before .before .before .before .args .body .now) (c .before .before .before .before .before .before .before .before .before .before .args .out .now) _ _ _ (c .before .before .before .before .before .write .ensures .0) (c .before .wrote .given .1) (c .before .before .before .before .before .write .ensures .1) in
     let fits = done-fits (c .before .before .before .before .before .before .before .before .before .before .args .u .protection) FromUnit (c .before .before .before .before .before .before .before .before .before .before .args .content) (c .before .before .before .before .before .before .before .before .before .before .args .body .now) (c .before .before .before .before .before .before .before .before .before .before .args .out .now) _ _ (c .before .before .before .before .before .write .ensures .0) (c .before .wrote .given .1) in
     omega (arith, w .count, ap length (w .bytes-are) ∙ length-laid (c .before .before .before .before .before .before .before .before .before .before .args .out .now) 0 (nextRecord (c .before .before .before .before .before .before .before .before .before .before .args .u .protection) FromUnit (c .before .before .before .before .before .before .before .before .before .before .args .content) (c .before .before .before .before .before .before .before .before .before .before .args .body .now)) (omega (arith, fits)), fits)
 
 slice-aggregate-checksum : tie.Need-slice-aggregate-checksum
-slice-aggregate-checksum c = 
+slice-aggregate-checksum c =
     let w = protected-done (c .before .before .before .before .before .before .before .before .before .before .before .args .u .protection) FromUnit (c .before .before .before .before .before .before .before .before .before .before .before .args .content) (c .before .before .before .before .before .before .before .before .before .before .before .args .body .now) (c .before .before .before .before .before .before .before .before .before .before .before .args .out .now) _ _ _ (c .before .before .before .before .before .before .write .ensures .0) (c .before .before .wrote .given .1) (c .before .before .before .before .before .before .write .ensures .1) in
     w .count ∙ sym (ap length (w .front))
 
@@ -73,7 +73,7 @@ same-length-3 c = search needs
 
 returns-3 : tie.Need-returns-3
 unfolding protectedSent
-returns-3 c = 
+returns-3 c =
     let w = protected-done (c .before .before .before .before .before .before .before .before .before .before .before .before .before .before .args .u .protection) FromUnit (c .before .before .before .before .before .before .before .before .before .before .before .before .before .before .args .content) (c .before .before .before .before .before .before .before .before .before .before .before .before .before .before .args .body .now) (c .before .before .before .before .before .before .before .before .before .before .before .before .before .before .args .out .now) _ _ _ (c .before .before .before .before .before .before .before .before .before .write .ensures .0) (c .before .before .before .before .before .wrote .given .1) (c .before .before .before .before .before .before .before .before .before .write .ensures .1) in
     let sum = c .before .before .checksum .ensures ∙ ap sumOf (w .front) in
     let left = c .before .with-sent .ensures ∙ ap₂ (withSent (c .before .before .before .before .before .before .before .before .before .before .before .before .before .before .args .u)) (ap (λ (x : Writing). x .protection) (c .before .before .before .before .before .before .before .before .before .write .ensures .0)) sum in

@@ -24,7 +24,7 @@ refused-requires c κs = search needs
 
 returns : tie.Need-returns
 unfolding alertSent alertOutput
-returns c = 
+returns c =
     let a = c .before .before .before .before .before .before .args in
     rw (sym (c .before .before .before .grade .ensures), c .before .enum-told .given .1)
     (c .refused .ensures ∙ no-level (a .u) (a .protected) (a .answered .now) (length (a .out .now)) (sortedOf (a .description)), no-level-output (a .u) (a .protected) (a .answered .now) (a .out .now) (sortedOf (a .description)))
@@ -66,12 +66,13 @@ same-length c = search needs
 
 returns-4 : tie.Need-returns-4
 unfolding alertSent alertOutput
-returns-4 c = 
+returns-4 c =
     let a = c .before .before .before .before .before .before .before .before .before .before .before .before .before .before .before .before .before .args in
     let bytes = c .before .before .before .before .write .ensures ∙ ap (alertBytes (c .before .before .before .before .before .before .before .before .before .before .before .before .graded .given .0 .0) (c .before .before .before .before .before .before .before .before .sorted .given .0 .0)) (c .before .before .before .before .before .checksum .ensures) in
-    rw (sym (c .before .before .before .before .before .before .before .before .before .before .before .before .before .before .grade .ensures), c .before .before .before .before .before .before .before .before .before .before .before .before .graded .given .1, sym (c .before .before .before .before .before .before .before .before .before .before .sort .ensures), c .before .before .before .before .before .before .before .before .sorted .given .1)
-    (if-ge _ 1400 (length (c .before .before .before .before .before .before .before .before .before .before .before .before .before .before .before .before .before .args .answered .now)) (omega arith) (c .before .before .send-body .ensures .0 ∙ ap (λ x. alertSentBy (a .u) (a .protected) x (length (a .out .now))) bytes),
-    if-ge _ 1400 (length (c .before .before .before .before .before .before .before .before .before .before .before .before .before .before .before .before .before .args .answered .now)) (omega arith) (c .before .before .send-body .ensures .1 ∙ ap (λ x. alertOutputBy (a .u) (a .protected) x (a .out .now)) bytes))
+    rw (sym (c .before .before .before .before .before .before .before .before .before .before .before .before .before .before .grade .ensures), c .before .before .before .before .before .before .before .before .before .before .before .before .graded .given .1, sym (c .before .before .before .before .before .before .before .before .before .before .sort .ensures), c .before .before .before .before .before .before .before .before .sorted .given .1) (
+      if-ge _ 1400 (length (c .before .before .before .before .before .before .before .before .before .before .before .before .before .before .before .before .before .args .answered .now)) (omega arith) (c .before .before .send-body .ensures .0 ∙ ap (λ x. alertSentBy (a .u) (a .protected) x (length (a .out .now))) bytes),
+      if-ge _ 1400 (length (c .before .before .before .before .before .before .before .before .before .before .before .before .before .before .before .before .before .args .answered .now)) (omega arith) (c .before .before .send-body .ensures .1 ∙ ap (λ x. alertOutputBy (a .u) (a .protected) x (a .out .now)) bytes),
+    )
 
 pub send-alert-spec : {M : Type 1} → statement M
 send-alert-spec =

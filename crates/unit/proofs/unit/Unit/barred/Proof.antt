@@ -11,7 +11,7 @@ unkeyed-requires : tie.Need-unkeyed-requires
 unkeyed-requires c κs = search needs
 
 returns : tie.Need-returns
-returns c = 
+returns c =
     let u = c .before .before .before .before .args .self in
     λ i. record { state = Barred; id = replicate 8 0; offer = nothingOffered; expected = nothingExpected; flight = u .flight; sent = u .sent; protection = c .unkeyed .ensures i }
 

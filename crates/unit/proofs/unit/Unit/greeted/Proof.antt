@@ -12,7 +12,7 @@ with-record-requires : tie.Need-with-record-requires
 with-record-requires c κs = search needs
 
 returns : tie.Need-returns
-returns c = 
+returns c =
     let a = c .before .before .before .before .before .before .before .before .before .before .args in
     let u = a .self in
     λ i. record {

@@ -51,7 +51,7 @@ with-record-requires-2 c κs = search needs
 
 returns : tie.Need-returns
 unfolding opened
-returns c = 
+returns c =
     let u = c .before .before .before .before .before .before .before .before .before .before .before .before .before .before .before .before .args .self in
     let change = c .before .before .before .before .before .checksum .ensures in
     let finished = c .before .before .checksum2 .ensures ∙ ap sumOf (later-part (u .flight) (c .before .before .before .before .before .before .before .size .result) (sizeOf (u .protection .keys .mac)) (c .before .before .before .before .before .before .before .size .ensures)) in

@@ -17,7 +17,7 @@ with-window-requires : tie.Need-with-window-requires
 with-window-requires c κs = search needs
 
 returns : tie.Need-returns
-returns c = 
+returns c =
     let u = c .before .before .before .before .before .before .before .args .self in
     let left = c .with-window .ensures ∙ ap (P.withWindow (u .protection)) (c .before .emptied .ensures) in
     λ i. record { state = Idle; id = u .id; offer = nothingOffered; expected = u .expected; flight = noFlight; sent = c .before .before .fresh .ensures i; protection = left i }

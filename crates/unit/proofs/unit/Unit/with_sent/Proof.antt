@@ -7,7 +7,7 @@ with-record-requires : tie.Need-with-record-requires
 with-record-requires c κs = search needs
 
 returns : tie.Need-returns
-returns c = 
+returns c =
     let u = c .before .before .args .self in
     λ i. record { state = u .state; id = u .id; offer = u .offer; expected = u .expected; flight = u .flight; sent = c .with-record .ensures i; protection = c .before .before .args .protection }
 

@@ -7,7 +7,7 @@ with-window-requires : tie.Need-with-window-requires
 with-window-requires c κs = search needs
 
 returns : tie.Need-returns
-returns c = 
+returns c =
     let u = c .before .before .args .self in
     λ i. record { state = u .state; id = u .id; offer = u .offer; expected = u .expected; flight = u .flight; sent = u .sent; protection = c .with-window .ensures i }
 
