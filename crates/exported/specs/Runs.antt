@@ -88,7 +88,7 @@ callsIn state tally (receive d random out answers) =
     pick (lentFor state (length tally) (length answers)) (R.receive d random out ∷ []) []
 callsIn state tally (send-data bytes out) = pick (isSaved state) (R.send-data bytes out ∷ []) []
 callsIn state tally (send-alert protected level description answered out) =
-    pick (isSaved state) (sense protected (λ isProtected. R.send-alert protected level description answered out ∷ []) []) []
+    pick (isSaved state) (sense protected (λ isProtected. R.send-alert isProtected level description answered out ∷ []) []) []
 callsIn state tally close = pick (isSaved state) (R.close ∷ []) []
 callsIn state tally start = pick (isSaved state) (R.start ∷ []) []
 

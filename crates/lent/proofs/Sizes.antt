@@ -355,13 +355,13 @@ unfolding dataResult
 data-written state bytes room saved =
     rw saved (written-part (refusalIn (dataSent (connectionIn state) bytes room .outcome)) (dataSent (connectionIn state) bytes room .written) 0 (omega (arith, data-most (connectionIn state) bytes room)))
 
-pub alert-written : (state : List ℕ) (protected : Bool) (protected level description : ℕ) (answered : List ℕ) (room : ℕ) → isSaved state ≡ true
-    → protected ≤ 1 → protected ≡ eqb protected 1
-    → writtenPart (alertResult state protected level description answered room) ≡ alertSent (connectionIn state) protected level description answered room .written
+pub alert-written : (state : List ℕ) (isProtected : Bool) (protected level description : ℕ) (answered : List ℕ) (room : ℕ) → isSaved state ≡ true
+    → protected ≤ 1 → isProtected ≡ eqb protected 1
+    → writtenPart (alertResult state protected level description answered room) ≡ alertSent (connectionIn state) isProtected level description answered room .written
 unfolding alertResult alertSent
-alert-written state protected protected level description answered room saved h e =
+alert-written state isProtected protected level description answered room saved h e =
     let sent : Bool → Sent = λ b. alertSent (connectionIn state) b level description answered room in
     rw saved
     (sym (ap writtenPart (sense-in protected (λ b. sentResult (sent b)) notTaken h))
     ∙ ap (λ b. writtenPart (sentResult (sent b))) (sym e)
-    ∙ written-part (refusalIn (sent protected .outcome)) (sent protected .written) 0 (omega (arith, alert-most (connectionIn state) protected answered room (levelOf level) (sortedOf description))))
+    ∙ written-part (refusalIn (sent isProtected .outcome)) (sent isProtected .written) 0 (omega (arith, alert-most (connectionIn state) isProtected answered room (levelOf level) (sortedOf description))))

@@ -155,7 +155,7 @@ unfoldable pub alertResult : List ℕ → ℕ → ℕ → ℕ → List ℕ → �
 alertResult state protected level description answered room =
     pick (isSaved state)
     (sense protected
-    (λ isProtected. sentResult (alertSent (connectionIn state) protected level description answered room))
+    (λ isProtected. sentResult (alertSent (connectionIn state) isProtected level description answered room))
     notTaken)
     notTaken
 
@@ -163,7 +163,7 @@ unfoldable pub alertState : List ℕ → ℕ → ℕ → ℕ → List ℕ → �
 alertState state protected level description answered room =
     pick (isSaved state)
     (sense protected
-    (λ isProtected. sentState state (alertSent (connectionIn state) protected level description answered room))
+    (λ isProtected. sentState state (alertSent (connectionIn state) isProtected level description answered room))
     state)
     state
 
@@ -171,14 +171,14 @@ unfoldable pub alertLoads : List ℕ → ℕ → ℕ → ℕ → List ℕ → �
 alertLoads state protected level description answered room =
     pick (isSaved state)
     (sense protected
-    (λ isProtected. sentLoads state (alertSent (connectionIn state) protected level description answered room))
+    (λ isProtected. sentLoads state (alertSent (connectionIn state) isProtected level description answered room))
     (loaded state))
     (loaded state)
 
 unfoldable pub alertOut : List ℕ → ℕ → ℕ → ℕ → List ℕ → List ℕ → List ℕ
 alertOut state protected level description answered out =
     pick (isSaved state)
-    (sense protected (λ isProtected. alertOutput (connectionIn state) protected level description answered out) out)
+    (sense protected (λ isProtected. alertOutput (connectionIn state) isProtected level description answered out) out)
     out
 
 -- receive: a saved connection, a tally of 16 bytes, answers of 192
