@@ -28,6 +28,13 @@ use Rattle.message.proofs.finished.server_verify as finished-server-ver
 use Rattle.message.proofs.finished.client_verify as finished-client-verify
 use Rattle.message.proofs.finished.message as finished-message
 use Rattle.message.proofs.finished.judge as finished-judge
+use Rattle.message.proofs.request.is_request as request-is-request
+use Rattle.message.proofs.offer.kinds_of as offer-kinds-of
+use Rattle.message.proofs.offer.is_offered as offer-is-offered
+use Rattle.message.proofs.offer.write as offer-write
+use Rattle.message.proofs.server_hello.read as server-hello-read
+use Rattle.message.proofs.agreement.agree as agreement-agree
+use Rattle.message.proofs.agreement.judged as agreement-judged
 
 pub field-long-end-one : OneOutcome field-long-end.ended field-long-end.Reads.Learnt
 field-long-end-one κs a x y s u e f = (e .0 ∙ sym (f .0), refl)
@@ -98,3 +105,24 @@ finished-message-one κs a x y s u e f = (e ∙ sym f, refl)
 
 pub finished-judge-one : OneOutcome finished-judge.ended finished-judge.Reads.Learnt
 finished-judge-one κs a x y s u e f = (e ∙ sym f, refl)
+
+pub request-is-request-one : OneOutcome request-is-request.ended request-is-request.Reads.Learnt
+request-is-request-one κs a x y s u e f = (e ∙ sym f, refl)
+
+pub offer-kinds-of-one : OneOutcome offer-kinds-of.ended offer-kinds-of.Reads.Learnt
+offer-kinds-of-one κs a x y s u e f = (e ∙ sym f, refl)
+
+pub offer-is-offered-one : OneOutcome offer-is-offered.ended offer-is-offered.Reads.Learnt
+offer-is-offered-one κs a x y s u e f = (e ∙ sym f, refl)
+
+pub offer-write-one : OneOutcome offer-write.ended offer-write.Reads.Learnt
+offer-write-one κs a x y s u e f = (e .0 ∙ sym (f .0), ap (λ w. (tt, (tt, (tt, (w, tt))))) (e .1 ∙ sym (f .1)))
+
+pub server-hello-read-one : OneOutcome server-hello-read.ended server-hello-read.Reads.Learnt
+server-hello-read-one κs a x y s u e f = (e ∙ sym f, refl)
+
+pub agreement-agree-one : OneOutcome agreement-agree.ended agreement-agree.Reads.Learnt
+agreement-agree-one κs a x y s u e f = (e ∙ sym f, refl)
+
+pub agreement-judged-one : OneOutcome agreement-judged.ended agreement-judged.Reads.Learnt
+agreement-judged-one κs a x y s u e f = (e ∙ sym f, refl)

@@ -23,4 +23,6 @@ pub mod Cases
 pub mod Hearing
 pub mod AlertLaws
 pub mod FinishedLaws
+pub mod ServerHellos
+pub mod Offers
 pub mod Coincide

@@ -15,3 +15,7 @@ pub mod Said
 pub mod Blank
 pub mod Server
 pub mod Finished
+pub mod Request
+pub mod Offer
+pub mod ServerHello
+pub mod Agreement

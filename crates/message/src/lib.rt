@@ -1,5 +1,6 @@
 // Layer 3: messages (002 section 10). Hellos, alerts, change cipher spec and Finished, read and written exactly.
 pub mod acceptance;
+pub mod agreement;
 pub mod alert;
 pub mod change;
 pub mod field;
@@ -7,8 +8,11 @@ pub mod finished;
 pub mod handshake;
 pub mod hello;
 pub mod keys;
+pub mod offer;
 mod put;
+pub mod request;
 pub mod server;
+pub mod server_hello;
 pub mod set;
 pub mod set_writer;
 pub mod writer;
