@@ -236,12 +236,7 @@ pub fn held(gatherer: &[u8], slot: u32) -> Result {
     Result::of(unsafe { exported::gateway_held(gatherer.as_ptr(), gatherer.len(), slot) })
 }
 
-pub fn gather(
-    gatherer: &mut [u8],
-    message: &[u8],
-    assembly: &mut [u8],
-    said: &mut [u8],
-) -> Result {
+pub fn gather(gatherer: &mut [u8], message: &[u8], assembly: &mut [u8], said: &mut [u8]) -> Result {
     // Safety: each pointer is that of a slice, beside its length.
     Result::of(unsafe {
         exported::gateway_gather(

@@ -68,7 +68,9 @@ impl Inbox {
             match self.batches.try_recv() {
                 Ok(batch) => run.extend(batch?),
                 Err(TryRecvError::Empty) => break,
-                Err(TryRecvError::Disconnected) => return Err(io::Error::other("the receiver ended")),
+                Err(TryRecvError::Disconnected) => {
+                    return Err(io::Error::other("the receiver ended"))
+                }
             }
         }
         Ok(run)

@@ -215,7 +215,10 @@ mod tests {
         let later = later + Duration::from_millis(1);
         assert_eq!(took(&mut relays, from(1), &part(9, 2, 1, b"a"), later), (vec![], 4));
         let still = later + LIMIT;
-        assert_eq!(took(&mut relays, from(1), &part(9, 2, 2, b"b"), still), (vec![b"ab".to_vec()], 0));
+        assert_eq!(
+            took(&mut relays, from(1), &part(9, 2, 2, b"b"), still),
+            (vec![b"ab".to_vec()], 0)
+        );
         // The same reference again: it waits from now on.
         assert_eq!(took(&mut relays, from(1), &part(9, 2, 2, b"b"), still), (vec![], 0));
         assert_eq!(

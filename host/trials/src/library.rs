@@ -3,7 +3,8 @@
 //! nothing, that only the counted bytes of the output were written, and that the connection loads from what was saved.
 
 use gateway::{
-    Answer, Connection, Gathered, Gatherer, Messaged, Ports, Received, Refusal, Refused, Sense, Tally,
+    Answer, Connection, Gathered, Gatherer, Messaged, Ports, Received, Refusal, Refused, Sense,
+    Tally,
 };
 
 /// What lies in the output before a call.
@@ -285,7 +286,11 @@ fn parts(gatherer: &Gatherer) -> String {
         .iter()
         .map(|held| format!("{}:{}/{}", held.reference, held.have, held.total))
         .collect();
-    if words.is_empty() { "-".to_string() } else { words.join(",") }
+    if words.is_empty() {
+        "-".to_string()
+    } else {
+        words.join(",")
+    }
 }
 
 fn refused(call: &str, refusal: Refusal) -> String {

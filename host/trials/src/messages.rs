@@ -142,7 +142,9 @@ fn slots() -> Result<u64, String> {
         let refused = raw::held(&bytes, 0) == REFUSED && raw::drop(&mut bytes, 0) == REFUSED;
         let made = raw::gatherer(&mut bytes);
         let right = match room == GATHERER_SIZE {
-            true => made.refusal == 0 && held(&bytes).is_empty() && bytes[100..] == vec![0x5a; 5600],
+            true => {
+                made.refusal == 0 && held(&bytes).is_empty() && bytes[100..] == vec![0x5a; 5600]
+            }
             false => made == REFUSED && bytes == vec![0x5a; room],
         };
         if !refused || !right {
