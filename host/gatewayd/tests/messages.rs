@@ -163,7 +163,7 @@ fn leftovers_do_not_stay() {
     let mut bearer = Bearer { ship: Ship::new(0, listen), rng: Rng::new(1), reference: 0 };
     let hello = bearer.ship.hello(1);
     bearer.ship.send(&alone(0, &hello));
-    assert!(bearer.hear(Duration::from_secs(5)), "no reply");
+    assert!(bearer.hear(Duration::from_secs(1)), "no reply");
     let report = bearer.ship.data_behind_finished(3);
     for reference in 1..=4 {
         bearer.ship.send(&messages(0, reference, &report)[0]);
@@ -180,7 +180,7 @@ fn leftovers_do_not_stay() {
     wait_for("the report", || place.listed(0) == [(3, text(0, 3))]);
     gatewayd.end();
     let log = std::fs::read_to_string(place.path.join("log")).unwrap();
-    assert!(log.contains("refused 21") && log.contains("1 of 4 parts had waited"), "{log}");
+    assert!(log.contains("refused 21") && log.contains("1 of 5 parts had waited"), "{log}");
 }
 
 struct SetAtEnd<'a>(&'a AtomicBool);
