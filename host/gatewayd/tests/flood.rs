@@ -145,7 +145,7 @@ impl Work {
 /// How many reports are listed when what waits is worked off, on a slow machine, too.
 fn worked_off(place: &Place) -> usize {
     for _ in 0..50 {
-        if place.listed(0).len() == REPORTS.into() {
+        if place.listed(0).len() == usize::from(REPORTS) {
             break;
         }
         thread::sleep(Duration::from_millis(100));
