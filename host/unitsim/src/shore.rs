@@ -25,7 +25,7 @@ pub struct Gateway {
     pub messages: Option<Messages>,
 }
 
-const REPLY_WITHIN: Duration = Duration::from_secs(5);
+const REPLY_WITHIN: Duration = Duration::from_secs(30);
 const STRANGER_WAITS: Duration = Duration::from_millis(100);
 const ROOM: usize = 128;
 /// In a reply: record header 5, message header 3, version 1.
