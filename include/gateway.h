@@ -91,12 +91,12 @@ enum gateway_kind {
     GATEWAY_REPLY = 1,     /* a new reply; `size` bytes of it stand in `out` */
     GATEWAY_RESENT = 2,    /* the kept reply again; `size` bytes of it stand in `out` */
     GATEWAY_CHANGED = 3,   /* change cipher spec */
-    GATEWAY_OPENED = 4,    /* Finished verified: the connection is open */
+    GATEWAY_OPENED = 4,    /* Finished verified: the connection is open; in Open, the handshake started beside it has replaced it */
     GATEWAY_AGAIN = 5,     /* Finished verified once more */
     GATEWAY_DATA = 6,      /* data handed out: `size` bytes of the datagram from `start` on, under `number` */
     GATEWAY_WARNING = 7,   /* alerts, by level, with their `description` */
-    GATEWAY_CRITICAL = 8,
-    GATEWAY_FATAL = 9,     /* a clear fatal alert: closed */
+    GATEWAY_CRITICAL = 8,  /* closed; a clear one in Open ends only the handshake started beside it: gateway_state tells */
+    GATEWAY_FATAL = 9,     /* a clear fatal alert: closed; in Open it ends only the handshake started beside it */
     GATEWAY_BAR = 10,      /* a protected fatal alert: the session is barred */
     GATEWAY_REFUSED = 11   /* the record was refused with the number `refusal` */
 };
@@ -142,13 +142,14 @@ uint64_t gateway_receive(uint8_t *state, size_t state_size, uint8_t *tally, size
 uint64_t gateway_send_data(uint8_t *state, size_t state_size, const uint8_t *data, size_t data_size,
                            uint8_t *out, size_t room);
 
-/* Writes an alert, clear (0; in Replied and Spec) or protected (1; in Replied, Spec and Open), with a level of 1 to 3, a
-   description of 002 10.2, and the checksum of the record that it answers (0 to 1,400 bytes as they were on the wire).
+/* Writes an alert, clear (0; in Replied and Spec, and in Open on a handshake that is started beside it) or protected (1; in Replied,
+   Spec and Open), with a level of 1 to 3, a description of 002 10.2, and the checksum of the record that it answers (0 to 1,400 bytes
+   as they were on the wire).
    Done: as for data. Nothing closes: that is a call of its own. Refused, in this order: 16, 7, 8, 15, 6. */
 uint64_t gateway_send_alert(uint8_t *state, size_t state_size, uint32_t is_protected, uint32_t level, uint32_t description,
                             const uint8_t *answered, size_t answered_size, uint8_t *out, size_t room);
 
-/* Leads anywhere but Barred to Closed. Refused: 16, 7. */
+/* Leads anywhere but Barred to Closed; a handshake started beside an open one is dropped. Refused: 16, 7. */
 uint64_t gateway_close(uint8_t *state, size_t state_size);
 
 /* Start again: leads from Closed to Idle, and forgets the window, the kept hello and the records

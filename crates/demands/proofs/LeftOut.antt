@@ -1,6 +1,6 @@
--- Demand 3, the first half. The idea: in Open, under the keys of the start, or ended, a datagram without a genuine record is answered by
--- 18, 8, 9 or 7 alone: the connection stays as it is, nothing is handed out, and the tally counts forged only. So the run goes on from the
--- same connection whether the datagram was there or not. Every other call keeps to Open under these keys, or to an ended state.
+-- Demand 3, the first half. The idea: in Open, under the keys of the start, or ended, a record that is not genuine, and not right under
+-- the started keys, leaves the open handshake as it is and hands out nothing, whatever it does to the started one. So the run goes on
+-- with the same open handshake whether it was there or not. Every other call keeps to Open under these keys, or to an ended state.
 use mathlib.Core.Path.{_≡_, refl, sym, _∙_, ap, ap₂, subst}
 use mathlib.Core.Logic.{_⊎_, inl, inr, _≢_}
 use mathlib.Core.Bool.{Bool, true, false}

@@ -78,7 +78,6 @@ refusal-ranged t X.Checksum r = r
 refusal-ranged t X.Spent r = r
 refusal-ranged t X.Argument r = r
 refusal-ranged t X.WrongFinished r = r
-refusal-ranged t X.HelloWhileOpen r = r
 
 answer-ranged : (t : Tally) (a : Answer) → TallyRanged t → TallyRanged (countedAnswer t a)
 answer-ranged t W.Nothing r = r

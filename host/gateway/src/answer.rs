@@ -11,7 +11,7 @@ pub enum Answer<'d> {
     Resent(usize),
     /// Change cipher spec.
     Spec,
-    /// Finished verified: the connection is open.
+    /// Finished verified: the connection is open; in Open, the handshake started beside it has replaced it.
     Open,
     /// Finished verified once more.
     Again,
@@ -21,7 +21,8 @@ pub enum Answer<'d> {
         start: usize,
         bytes: &'d [u8],
     },
-    /// Alerts, by level, with their description's number. A fatal alert that was clear, and one that was protected.
+    /// Alerts, by level, with their description's number. A fatal alert that was clear, and one that was protected. In Open a clear
+    /// critical or fatal one ends only the handshake that was started beside it: `Connection::state` tells.
     Warning(u8),
     Critical(u8),
     Fatal(u8),

@@ -13,7 +13,7 @@ pub record GivenExactlyWhen (g : Gateway) : Type 0 where
   pub fresh-connection : ExactlyFresh
   -- receive: 16, 6, 1, then framing 5, 3, 2, 4 with the offset
   pub receive-whole : ExactlyReceive g
-  -- then for each record 7, 18, 8, 9, 10, 11, 12, then 13, 14 or 17
+  -- then for each record 7, 8, 9, 10, 11, 12, then 13, 14 or 17
   pub receive-each : ExactlyAnswers g
   pub each-record : ExactlyRecord
   -- sends: 16, 7, 8, 15, 6
