@@ -3,6 +3,7 @@ use Rattle.message.proofs.Written.{lists-as-written, hellos-as-written}
 use Rattle.message.proofs.Saying.{heard-as-said}
 use Rattle.demands.specs.Demands.{First, Second, Third, Demands}
 use Rattle.demands.proofs.Table.{table-holds}
+use Rattle.demands.proofs.RefusedRecords.{refused-record-in}
 use Rattle.demands.proofs.Changes.{record-changes-only, refused-record, close-changes-only, start-changes-only}
 use Rattle.demands.proofs.Calls.{calls-hold, fresh-holds}
 use Rattle.demands.proofs.Exactly.Answers.{given-exactly-when}
@@ -39,6 +40,7 @@ first =
       from-the-list = refused-by-the-list;
       refused-call = refused-call;
       refused-record = refused-record;
+      refused-in-connection = refused-record-in;
       unwritten = nothing-written;
     }
 

@@ -3,6 +3,7 @@ pub mod Genuine
 pub mod Table
 pub mod Asked
 pub mod Changes
+pub mod RefusedRecords
 pub mod First
 pub mod Calls
 pub mod Refusals

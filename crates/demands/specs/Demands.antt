@@ -4,7 +4,7 @@ use Rattle.demands.specs.Runs.{stepOf}
 use Rattle.demands.specs.Table.{TableHolds}
 use Rattle.demands.specs.Calls.{CallsHold, FreshHolds}
 use Rattle.demands.specs.Exactly.All.{GivenExactlyWhen}
-use Rattle.demands.specs.Refusals.{RefusedByTheList, RefusedCallChangesNothing, RefusedRecordChangesNothing, NothingWrittenWithoutReply}
+use Rattle.demands.specs.Refusals.{RefusedByTheList, RefusedCallChangesNothing, RefusedRecordChangesNothing, RefusedRecordInConnection, NothingWrittenWithoutReply}
 use Rattle.demands.specs.Changes.{RecordChangesOnly, DataChangesOnly, AlertChangesOnly, CloseChangesOnly, StartChangesOnly}
 use Rattle.demands.specs.Kept.{KeptIsWhatHappened}
 use Rattle.demands.specs.Finished.{OnlyAfterFinished}
@@ -38,6 +38,7 @@ pub record First : Type 0 where
   pub from-the-list : RefusedByTheList
   pub refused-call : RefusedCallChangesNothing stepOf
   pub refused-record : RefusedRecordChangesNothing
+  pub refused-in-connection : RefusedRecordInConnection
   pub unwritten : NothingWrittenWithoutReply
 
 -- "Records, alerts, hellos, key changes and Finished are read and written exactly as WAP-261 WTLS of 6 April 2001

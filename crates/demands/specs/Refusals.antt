@@ -12,13 +12,19 @@ use Rattle.record.specs.declared.window.Acceptance.{Acceptance}
 use Rattle.record.specs.declared.window.Acceptance.the-variants as A
 use Rattle.connection.specs.Answer.{replySize}
 use Rattle.connection.specs.Refusal.{refusalNumber}
-use Rattle.connection.specs.Handshake.{withState, withWindow}
+use lib.Dec.{eqb}
+use Rattle.digest.specs.Pick.{pick}
+use Rattle.connection.specs.Handshake.{withState, withWindow, noneStarted}
+use Rattle.connection.specs.Connection.{connectionOf}
+use Rattle.connection.specs.Asked.{whomOf}
 use Rattle.connection.specs.Judge.{judgedRecord}
 use Rattle.connection.specs.Told.{toldRecord}
 use Rattle.connection.specs.declared.state.State.the-variants.{Closed}
 use Rattle.connection.specs.declared.refusal.Refusal.{Refusal}
 use Rattle.connection.specs.declared.refusal.Refusal.the-variants as X
 use Rattle.connection.specs.declared.answer.Answer.the-variants as W
+use Rattle.connection.specs.declared.asked.Whom.{Whom}
+use Rattle.connection.specs.declared.asked.Whom.the-variants as K
 use Rattle.connection.specs.declared.connection.Connection.{Connection}
 use Rattle.connection.specs.declared.calls.Outcome.{Outcome}
 use Rattle.connection.specs.declared.calls.Outcome.the-variants as O
@@ -95,6 +101,22 @@ RefusedRecordChangesNothing =
     (h : Handshake) (records : SentRecords) (random d : List ℕ) (r : Record) (x : Refusal)
     → judgedRecord h records random d r .answer ≡ W.Refused x
     → judgedRecord h records random d r .handshake ≡ refusedLeaves h (r .protected) (r .number) x
+
+-- 02, P6, of a connection: the handshake that was asked is left so, the other one and the records sent as they were. 17 under the open
+-- keys drops the started one too, "17 under the started keys, drops just that"; a newcomer that is refused leaves nothing.
+abbrev pub unless17 : Refusal → Handshake → Handshake
+unless17 x started = pick (eqb (refusalNumber x) 17) noneStarted started
+
+abbrev pub refusedIn : Connection → Whom → Bool → ℕ → Refusal → Connection
+refusedIn c K.Only protected s x = connectionOf (refusedLeaves (c .handshake) protected s x) (c .started) (c .sent)
+refusedIn c K.Open protected s x = connectionOf (refusedLeaves (c .handshake) protected s x) (unless17 x (c .started)) (c .sent)
+refusedIn c K.Started protected s x = connectionOf (c .handshake) (unless17 x (refusedLeaves (c .started) protected s x)) (c .sent)
+refusedIn c K.Newcomer protected s x = c
+
+unfoldable pub RefusedRecordInConnection : Type 0
+RefusedRecordInConnection =
+    (c : Connection) (random d : List ℕ) (r : Record) (x : Refusal) → toldRecord c random d r .answer ≡ W.Refused x
+    → toldRecord c random d r .connection ≡ refusedIn c (whomOf c d r) (r .protected) (r .number) x
 
 -- a datagram whose first record gets no reply writes nothing: "a success writes the counted bytes at the front and no
 -- others"
