@@ -1,5 +1,7 @@
 -- The proofs of the demands.
 pub mod Genuine
+pub mod States
+pub mod Rules
 pub mod Table
 pub mod Asked
 pub mod Changes

@@ -1,9 +1,9 @@
 -- Lives. The idea: each act leaves of both handshakes what one event more of one life leaves; a newcomer is a fresh handshake, since
 -- an open one has the planted session and the width that was given to fresh (`Kept`).
 use mathlib.Core.Path.{_≡_, refl, sym, _∙_, ap, ap₂, subst}
-use mathlib.Core.Logic.{_↔_, _⊎_, inl, inr, _≢_}
+use mathlib.Core.Logic.{inl, inr, _≢_}
 use mathlib.Core.Bool.{Bool, true, false}
-use mathlib.Core.List.{List, [], _∷_, _++_}
+use mathlib.Core.List.{List, [], _∷_}
 use Prim.Native.Nat.{ℕ}
 use native.Mathlib.Omega.{arith}
 use lib.ListN.{length}
@@ -17,9 +17,9 @@ use Rattle.message.specs.declared.alert.Graded.{Graded}
 use Rattle.message.specs.declared.alert.Graded.the-variants as G
 use Rattle.message.specs.declared.alert.Sorted.{Sorted}
 use Rattle.message.specs.declared.alert.Sorted.the-variants as D
-use Rattle.connection.specs.Calls.{sessionOf, closedOf, closedIn, startedOf, startedIn}
+use Rattle.connection.specs.Calls.{sessionOf, closedIn, startedIn}
 use Rattle.connection.specs.Connection.{connectionOf, alone}
-use Rattle.connection.specs.Handshake.{noneStarted, newcomerTo, newHandshake, planted}
+use Rattle.connection.specs.Handshake.{noneStarted, newcomerTo, newHandshake}
 use Rattle.connection.specs.Asked.{underWay, whomOf, askedOf}
 use Rattle.connection.specs.Judge.{judgedRecord}
 use Rattle.connection.specs.Told.{besideOpen, startedTo, leftBy, toldRecord, judgedIn}
@@ -34,19 +34,18 @@ use Rattle.connection.specs.declared.calls.Outcome.{Outcome}
 use Rattle.connection.specs.declared.calls.Outcome.the-variants as O
 use Rattle.connection.specs.declared.refusal.Refusal.the-variants as X
 use Rattle.connection.specs.declared.send.Sent.{Sent}
-use Rattle.connection.specs.declared.sent.SentRecords.{SentRecords}
 use Rattle.connection.specs.declared.handshake.Handshake.{Handshake}
 use Rattle.connection.specs.declared.connection.Connection.{Connection}
 use Rattle.demands.specs.Runs.{freshWith, freshOne}
-use Rattle.demands.specs.Table.{Hears, ended}
+use Rattle.demands.specs.Table.{Hears}
 use Rattle.demands.specs.Asked.{Asks, asks-only, asks-its-hello, asks-open-hello, asks-new-hello, asks-clear, asks-clear-alone, asks-right, asks-protected, sentWith}
-use Rattle.demands.specs.Events.{Event, took, sending, alerting, closing, starting, Sound, AllSound, Happened, next, after, history}
+use Rattle.demands.specs.Events.{Event, took, sending, alerting, closing, starting, Sound, AllSound, next, after, history}
 use Rattle.demands.specs.Acts.{Act, comes, sends, alerts, closes, starts, SoundAct, SoundActs, eventOf, leaves, behind}
-use Rattle.demands.specs.Past.{isData, barredIn}
+use Rattle.demands.specs.Past.{isData}
 use Rattle.demands.specs.Kept.{KeptAs}
 use Rattle.demands.specs.Lives.{Lives, noLives, more, openLives, startedLives, newLives, toldLives, moreBeside, clearLives, livesAt, livesOf, besideOf, Lived, LivesHold, LivesSound, lifeOf, AnswersByLives, OnlyAfterFinishedOfOpen}
-use Rattle.demands.proofs.Genuine.{true-false}
-use Rattle.demands.proofs.Asked.{way-hears, idle-never, asks-of, asks-is, told-by}
+use Rattle.demands.proofs.States.{ended}
+use Rattle.demands.proofs.Asked.{way-hears, idle-never, asks-of, told-by}
 use Rattle.demands.proofs.First.{started-hears}
 use Rattle.demands.proofs.Table.{row-of}
 use Rattle.demands.proofs.Kept.{live, kept-all, kept-fresh}

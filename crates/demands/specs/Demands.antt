@@ -4,6 +4,7 @@ use Rattle.demands.specs.Runs.{stepOf}
 use Rattle.demands.specs.Table.{TableHolds}
 use Rattle.demands.specs.Calls.{CallsHold, FreshHolds}
 use Rattle.demands.specs.Exactly.All.{GivenExactlyWhen}
+use Rattle.demands.specs.Exactly.Record.{SeenInPlace}
 use Rattle.demands.specs.Refusals.{RefusedByTheList, RefusedCallChangesNothing, RefusedRecordChangesNothing, RefusedRecordInConnection, NothingWrittenWithoutReply}
 use Rattle.demands.specs.Changes.{RecordChangesOnly, DataChangesOnly, AlertChangesOnly, CloseChangesOnly, StartChangesOnly}
 use Rattle.demands.specs.Kept.{KeptIsWhatHappened}
@@ -45,6 +46,8 @@ pub record First : Type 0 where
 -- defines them, within the stated profile."
 pub record Second : Type 0 where
   pub table : TableHolds
+  -- .. over records that were read as their bytes say
+  pub seen : SeenInPlace
   -- 02, P6, "A unit that rebooted": for whom a record is, and what is left of both handshakes
   pub asked : AskedHolds
   pub left : LeftHolds
