@@ -36,3 +36,5 @@ pub mod Replaced
 pub mod Fatal
 pub mod Demands
 pub mod Messages
+pub mod Facts
+pub mod Why

@@ -28,6 +28,7 @@ use Rattle.demands.specs.Places.{RunsAreActs, AnswersInPlace}
 use Rattle.demands.specs.Gateways.{Demand2, Demand3, Demand2IsTable, Demand2Settles, FiveFail}
 use Rattle.demands.specs.Instances.{Instances}
 use Rattle.demands.specs.Cases.{Cases}
+use Rattle.demands.specs.Why.{WhyAnswers}
 
 -- "The gateway takes every datagram, of any content, and every order of calls, and always comes back. Bad input is
 -- refused with a number from the list. A refused call writes nothing into the output we lend, and the connection is as
@@ -114,6 +115,8 @@ pub record Demands : Type 0 where
   pub cases : Cases
   pub runs-are-acts : RunsAreActs
   pub answers-in-place : AnswersInPlace
+  -- 02, P5: the tool that names the reason of a refusal
+  pub why : WhyAnswers stepOf
   -- demands 2 and 3 of any gateway; 01: "These must not pass"
   pub meets-2 : Demand2 stepOf
   pub meets-3 : Demand3 stepOf

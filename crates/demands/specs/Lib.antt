@@ -34,4 +34,6 @@ pub mod Instances
 pub mod Cases
 pub mod Exactly
 pub mod Messages
+pub mod Facts
+pub mod Why
 pub mod Demands

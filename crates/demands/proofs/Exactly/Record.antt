@@ -18,6 +18,7 @@ use Rattle.record.specs.declared.header.Content.{Content}
 use Rattle.record.specs.declared.header.Content.the-variants as C
 use Rattle.record.specs.declared.reader.Record.{Record}
 use Rattle.record.specs.declared.window.Window.{Window}
+use Rattle.message.specs.declared.acceptance.Heard.the-variants as H
 use Rattle.message.specs.declared.alert.Alert.{Alert}
 use Rattle.message.specs.declared.alert.Reading.the-variants as R
 use Rattle.message.specs.declared.finished.Verified.the-variants as F
@@ -37,7 +38,7 @@ use Rattle.demands.specs.Exactly.Record.{HoldsNumbers, ExactlyRecord, Se
 use Rattle.demands.proofs.Table.{row-of, row-is}
 use Rattle.demands.proofs.Exactly.Reading.{byte-is, head-is, size-is, number-is}
 use Rattle.demands.proofs.Exactly.Content.{change-not, not-change, AlertHolds, alert-holds, not-alert, is-alert, FinishedHolds, finished-holds, not-finished, wrong-finished}
-use Rattle.demands.proofs.Exactly.Hello.{bytes-take, bytes-drop, HeardHolds, heard-holds, not-hello, not-acceptable}
+use Rattle.demands.proofs.Exactly.Hello.{bytes-take, bytes-drop, HeardHolds, heard-holds, not-hello, not-acceptable, unmet-not}
 use Rattle.connection.specs.declared.sent.SentRecords.{SentRecords}
 use Rattle.connection.specs.Sent.{matchesOf}
 
@@ -99,7 +100,9 @@ module _ (h : Handshake) (sent : SentRecords) (numbers random : List ℕ) (windo
   row-why (row-not-allowed live none unreturned) = (live, none, unreturned)
   row-why (row-reply plan g e) = tt
   row-why (row-hello-malformed fault g e) = bad-hello g (subst (HeardHolds f (h .id)) e (heard-holds f (h .id) bytes))
-  row-why (row-unacceptable condition g e) = (g, subst (HeardHolds f (h .id)) e (heard-holds f (h .id) bytes))
+  row-why (row-unacceptable condition g e) =
+      let (w, u) : HeardHolds f (h .id) (H.Unacceptable condition) = subst (HeardHolds f (h .id)) e (heard-holds f (h .id) bytes) in
+      (g, (w, unmet-not (w .values) (h .id) condition u))
   row-why (row-resent s i z e) = tt
   row-why (row-returned x) = tt
   row-why (row-change s p c e) = tt
@@ -167,7 +170,7 @@ module _ (h : Handshake) (sent : SentRecords) (numbers random : List ℕ) (windo
 
 -- ---- a record of a soundly framed datagram
 
-lies-in : (d : List ℕ) (r : Record) → RecordOf d r → Lies d r
+pub lies-in : (d : List ℕ) (r : Record) → RecordOf d r → Lies d r
 lies-in d r o =
     let rs : List Record = o .before ++ (r ∷ o .behind) in
     let size : length rs ≡ length (o .before) + length (r ∷ o .behind) = length-append (o .before) (r ∷ o .behind) in
