@@ -1,6 +1,6 @@
 -- For whom a record is, and what is left: the definitions are the relations of specs/Asked.antt, case by case.
 use mathlib.Core.Path.{_≡_, refl, sym, _∙_, ap, ap₂, subst}
-use mathlib.Core.Logic.{_↔_, _⊎_, inl, inr, _≢_}
+use mathlib.Core.Logic.{inl, inr, _≢_}
 use mathlib.Core.Bool.{Bool, true, false}
 use mathlib.Core.List.{List}
 use Prim.Native.Nat.{ℕ}
@@ -14,11 +14,11 @@ use Rattle.digest.proofs.Same.{same-equal, equal-same, differ-same}
 use Rattle.record.specs.declared.header.Content.{Content}
 use Rattle.record.specs.declared.header.Content.the-variants as C
 use Rattle.record.specs.declared.reader.Record.{Record}
-use Rattle.connection.specs.Handshake.{keptHello, noneStarted, newcomerTo}
+use Rattle.connection.specs.Handshake.{keptHello, noneStarted}
 use Rattle.connection.specs.Connection.{connectionOf}
 use Rattle.connection.specs.Judge.{fragmentOf, kindIn, judgedRecord}
 use Rattle.connection.specs.Asked.{underWay, isSpec, rightUnder, besideTo, helloTo, greetingTo, finishedTo, openTo, whomIn, whomOf, askedOf}
-use Rattle.connection.specs.Told.{sentAfter, besideOpen, startedTo, leftWith, leftBy, isBeside, toldBy, judgedIn, toldRecord}
+use Rattle.connection.specs.Told.{besideOpen, startedTo, leftBy, isBeside, toldBy, judgedIn, toldRecord}
 use Rattle.connection.specs.declared.state.State.{State}
 use Rattle.connection.specs.declared.state.State.the-variants as S
 use Rattle.connection.specs.declared.asked.Whom.{Whom}
@@ -26,16 +26,18 @@ use Rattle.connection.specs.declared.asked.Whom.the-variants as A
 use Rattle.connection.specs.declared.answer.Judged.{Judged}
 use Rattle.connection.specs.declared.answer.Answer.the-variants as W
 use Rattle.connection.specs.declared.refusal.Refusal.the-variants as X
-use Rattle.connection.specs.declared.sent.SentRecords.{SentRecords}
 use Rattle.connection.specs.declared.handshake.Handshake.{Handshake}
 use Rattle.connection.specs.declared.connection.Connection.{Connection}
 use Rattle.connection.specs.declared.told.Told.{Told}
 use Rattle.connection.proofs.OpeningRecords.{contentIn}
-use Rattle.demands.specs.Genuine.{Protected, keysOf}
-use Rattle.demands.specs.Table.{Row, row-ended, Hears, ended, isHello, helloFor, beginsHello}
+use Rattle.demands.specs.Seen.{seenIn}
+use Rattle.demands.specs.Genuine.{keysOf}
+use Rattle.demands.specs.Table.{row-ended, Hears, IsHello}
 use Rattle.demands.specs.Asked.{RightBeside, NotGreeting, NotItsHello, Asks, asks-only, asks-its-hello, asks-open-hello, asks-new-hello, asks-clear, asks-clear-alone, asks-right, asks-protected, AskedHolds, sentWith, Left, left-only, left-open, left-ended, left-started, left-replaced, left-dropped, left-greeted, left-unchanged, LeftHolds, Tells, tells, ConnectionTable}
+use Rattle.demands.proofs.States.{ended, live-over, over-live, over-ended, ended-over}
 use Rattle.demands.proofs.Genuine.{true-false, protected-right, right-protected}
-use Rattle.demands.proofs.Table.{kindBy, kind-by, hello-parts, row-of, row-is}
+use Rattle.demands.proofs.Rules.{kindBy, kind-by}
+use Rattle.demands.proofs.Table.{row-of, row-is}
 
 -- ---- states
 
@@ -76,13 +78,13 @@ module _ (c : Connection) (d : List ℕ) (r : Record) (o : c .handshake .state �
   beside-of p n true e = asks-clear o p n (way-hears (c .started .state) e)
   beside-of p n false e = asks-clear-alone o p n (λ s. true-false (underWay (c .started .state)) (hears-way (c .started .state) s) e)
 
-  hello-of : isHello d r ≡ true → r .start ≡ 0 → NotItsHello c d r → (b : Bool) → sameBytes m (keptHello (c .handshake)) ≡ b
+  hello-of : IsHello (seenIn d r) → r .start ≡ 0 → NotItsHello c d r → (b : Bool) → sameBytes m (keptHello (c .handshake)) ≡ b
       → Asks c d r (pick b A.Open A.Newcomer)
   hello-of i z n true e = asks-open-hello o i z n (same-equal m (keptHello (c .handshake)) e)
   hello-of i z n false e =
       asks-new-hello o i z n (λ q. true-false (sameBytes m (keptHello (c .handshake))) (equal-same m (keptHello (c .handshake)) q) e)
 
-  greeting-of : isHello d r ≡ true → r .start ≡ 0 → (a b : Bool) → underWay (c .started .state) ≡ a → sameBytes m (keptHello (c .started)) ≡ b
+  greeting-of : IsHello (seenIn d r) → r .start ≡ 0 → (a b : Bool) → underWay (c .started .state) ≡ a → sameBytes m (keptHello (c .started)) ≡ b
       → Asks c d r (pick a (pick b A.Started (helloTo c m)) (helloTo c m))
   greeting-of i z true true ea eb =
       asks-its-hello o i z (way-hears (c .started .state) ea) (same-equal m (keptHello (c .started)) eb)
@@ -93,7 +95,10 @@ module _ (c : Connection) (d : List ℕ) (r : Record) (o : c .handshake .state �
       hello-of i z (λ s q. true-false (underWay (c .started .state)) (hears-way (c .started .state) s) ea)
       (sameBytes m (keptHello (c .handshake))) refl
 
-  first-of : isHello d r ≡ true → r .protected ≡ false → (b : Bool) → eqb (r .start) 0 ≡ b
+  hello-in : r .content ≡ C.Handshake → r .protected ≡ false → eqb (getD m 0 0) 1 ≡ true → IsHello (seenIn d r)
+  hello-in e p o = record { clear = p; handshake = e; begins = eqb-true (getD m 0 0) 1 o }
+
+  first-of : IsHello (seenIn d r) → r .protected ≡ false → (b : Bool) → eqb (r .start) 0 ≡ b
       → Asks c d r (pick b (greetingTo c m) (besideTo c))
   first-of i p true e =
       greeting-of i (eqb-true (r .start) 0 e) (underWay (c .started .state)) (sameBytes m (keptHello (c .started))) refl refl
@@ -116,39 +121,36 @@ module _ (c : Connection) (d : List ℕ) (r : Record) (o : c .handshake .state �
   other-of : r .protected ≡ true → (r .content ≡ C.Handshake → ⊥) → Asks c d r A.Open
   other-of p n = asks-protected o p (λ q. n (q .handshake))
 
-  clear-of : r .protected ≡ false → isHello d r ≡ false → Asks c d r (besideTo c)
-  clear-of p n = beside-of p (λ i. true-false (isHello d r) i n) (underWay (c .started .state)) refl
+  other-clear : (x : Content) → r .protected ≡ false → r .content ≡ x → (x ≡ C.Handshake → ⊥) → Asks c d r (besideTo c)
+  other-clear x p e n = beside-of p (λ i. absurd (n (sym e ∙ i .handshake))) (underWay (c .started .state)) refl
 
-  hello-is : (x : Content) (p one : Bool) → r .content ≡ x → r .protected ≡ p → beginsHello d r ≡ one → isHello d r ≡ helloFor x p one
-  hello-is x p one ec ep eo = λ i. helloFor (ec i) (ep i) (eo i)
-
-  open-of : (x : Content) (p one : Bool) → r .content ≡ x → r .protected ≡ p → beginsHello d r ≡ one → Asks c d r (openTo c r m (kindBy x p one))
-  open-of C.ChangeCipherSpec false one ec ep eo = clear-of ep (hello-is C.ChangeCipherSpec false one ec ep eo)
+  open-of : (x : Content) (p one : Bool) → r .content ≡ x → r .protected ≡ p → eqb (getD m 0 0) 1 ≡ one → Asks c d r (openTo c r m (kindBy x p one))
+  open-of C.ChangeCipherSpec false one ec ep eo = other-clear C.ChangeCipherSpec ep ec (λ z. let w : _≡_ {A = ℕ} 0 1 = cc in omega arith)
   open-of C.ChangeCipherSpec true one ec ep eo = other-of ep (λ q. let z : C.ChangeCipherSpec ≡ C.Handshake = sym ec ∙ q in let w : _≡_ {A = ℕ} 0 1 = cc in omega arith)
-  open-of C.Alert false one ec ep eo = clear-of ep (hello-is C.Alert false one ec ep eo)
+  open-of C.Alert false one ec ep eo = other-clear C.Alert ep ec (λ z. let w : _≡_ {A = ℕ} 0 1 = cc in omega arith)
   open-of C.Alert true one ec ep eo = other-of ep (λ q. let z : C.Alert ≡ C.Handshake = sym ec ∙ q in let w : _≡_ {A = ℕ} 0 1 = cc in omega arith)
-  open-of C.Handshake false true ec ep eo = first-of (hello-is C.Handshake false true ec ep eo) ep (eqb (r .start) 0) refl
-  open-of C.Handshake false false ec ep eo = clear-of ep (hello-is C.Handshake false false ec ep eo)
+  open-of C.Handshake false true ec ep eo = first-of (hello-in ec ep eo) ep (eqb (r .start) 0) refl
+  open-of C.Handshake false false ec ep eo =
+      beside-of ep (λ i. true-false (eqb (getD m 0 0) 1) (eq-eqb (getD m 0 0) 1 (i .begins)) eo) (underWay (c .started .state)) refl
   open-of C.Handshake true one ec ep eo = right-of ep ec (isSpec (c .started .state)) (rightUnder (c .started) r m) refl refl
-  open-of C.Data false one ec ep eo = clear-of ep (hello-is C.Data false one ec ep eo)
+  open-of C.Data false one ec ep eo = other-clear C.Data ep ec (λ z. let w : _≡_ {A = ℕ} 0 1 = cc in omega arith)
   open-of C.Data true one ec ep eo = other-of ep (λ q. let z : C.Data ≡ C.Handshake = sym ec ∙ q in let w : _≡_ {A = ℕ} 0 1 = cc in omega arith)
 
   open-row : Asks c d r (openTo c r m (kindIn d r))
   open-row =
-      subst (λ k. Asks c d r (openTo c r m k)) (kind-by (r .content) (r .protected) (getD m 0 0))
-      (open-of (r .content) (r .protected) (beginsHello d r) refl refl refl)
+      subst (λ k. Asks c d r (openTo c r m k)) (sym (kind-by (r .content) (r .protected) (getD m 0 0)))
+      (open-of (r .content) (r .protected) (eqb (getD m 0 0) 1) refl refl refl)
 
   -- ---- the other way round, in Open
 
-  at-kind : (x : Content) (p one : Bool) → r .content ≡ x → r .protected ≡ p → beginsHello d r ≡ one → whomOf c d r ≡ openTo c r m (kindBy x p one)
+  at-kind : (x : Content) (p one : Bool) → r .content ≡ x → r .protected ≡ p → eqb (getD m 0 0) 1 ≡ one → whomOf c d r ≡ openTo c r m (kindBy x p one)
   unfolding whomOf
   at-kind x p one ec ep eo =
-      ap (whomIn c d r) o ∙ ap (openTo c r m) (sym (kind-by (r .content) (r .protected) (getD m 0 0)) ∙ λ i. kindBy (ec i) (ep i) (eo i))
+      ap (whomIn c d r) o ∙ ap (openTo c r m) (kind-by (r .content) (r .protected) (getD m 0 0) ∙ λ i. kindBy (ec i) (ep i) (eo i))
 
-  at-hello : isHello d r ≡ true → r .start ≡ 0 → whomOf c d r ≡ greetingTo c m
+  at-hello : IsHello (seenIn d r) → r .start ≡ 0 → whomOf c d r ≡ greetingTo c m
   at-hello i z =
-      let q = hello-parts (r .content) (r .protected) (beginsHello d r) i in
-      at-kind C.Handshake false true (q .0) (q .1) (q .2) ∙ ap (λ b. pick b (greetingTo c m) (besideTo c)) (eq-eqb (r .start) 0 z)
+      at-kind C.Handshake false true (i .handshake) (i .clear) (eq-eqb (getD m 0 0) 1 (i .begins)) ∙ ap (λ b. pick b (greetingTo c m) (besideTo c)) (eq-eqb (r .start) 0 z)
 
   not-its : NotItsHello c d r → (a : Bool) → underWay (c .started .state) ≡ a → greetingTo c m ≡ helloTo c m
   not-its n true e =
@@ -156,12 +158,12 @@ module _ (c : Connection) (d : List ℕ) (r : Record) (o : c .handshake .state �
       ∙ ap (λ b. pick b A.Started (helloTo c m)) (differ-same m (keptHello (c .started)) (n (way-hears (c .started .state) e)))
   not-its n false e = ap (λ a. pick a (pick (sameBytes m (keptHello (c .started))) A.Started (helloTo c m)) (helloTo c m)) e
 
-  at-clear : r .protected ≡ false → NotGreeting d r → (x : Content) (one : Bool) → r .content ≡ x → beginsHello d r ≡ one → whomOf c d r ≡ besideTo c
+  at-clear : r .protected ≡ false → NotGreeting d r → (x : Content) (one : Bool) → r .content ≡ x → eqb (getD m 0 0) 1 ≡ one → whomOf c d r ≡ besideTo c
   at-clear p n C.ChangeCipherSpec one ec eo = at-kind C.ChangeCipherSpec false one ec p eo
   at-clear p n C.Alert one ec eo = at-kind C.Alert false one ec p eo
   at-clear p n C.Handshake true ec eo =
       at-kind C.Handshake false true ec p eo
-      ∙ ap (λ b. pick b (greetingTo c m) (besideTo c)) (ne-eqb (r .start) 0 (n (hello-is C.Handshake false true ec p eo)))
+      ∙ ap (λ b. pick b (greetingTo c m) (besideTo c)) (ne-eqb (r .start) 0 (n (hello-in ec p eo)))
   at-clear p n C.Handshake false ec eo = at-kind C.Handshake false false ec p eo
   at-clear p n C.Data one ec eo = at-kind C.Data false one ec p eo
 
@@ -179,12 +181,12 @@ module _ (c : Connection) (d : List ℕ) (r : Record) (o : c .handshake .state �
   unright n p h false b ea eb = ap (λ x. pick x (pick (rightUnder (c .started) r m) A.Started A.Open) A.Open) ea
 
   at-protected : r .protected ≡ true → (RightBeside c d r → ⊥) → (x : Content) → r .content ≡ x → whomOf c d r ≡ A.Open
-  at-protected p n C.ChangeCipherSpec ec = at-kind C.ChangeCipherSpec true (beginsHello d r) ec p refl
-  at-protected p n C.Alert ec = at-kind C.Alert true (beginsHello d r) ec p refl
+  at-protected p n C.ChangeCipherSpec ec = at-kind C.ChangeCipherSpec true (eqb (getD m 0 0) 1) ec p refl
+  at-protected p n C.Alert ec = at-kind C.Alert true (eqb (getD m 0 0) 1) ec p refl
   at-protected p n C.Handshake ec =
-      at-kind C.Handshake true (beginsHello d r) ec p refl
+      at-kind C.Handshake true (eqb (getD m 0 0) 1) ec p refl
       ∙ unright n p ec (isSpec (c .started .state)) (rightUnder (c .started) r m) refl refl
-  at-protected p n C.Data ec = at-kind C.Data true (beginsHello d r) ec p refl
+  at-protected p n C.Data ec = at-kind C.Data true (eqb (getD m 0 0) 1) ec p refl
 
 module _ (c : Connection) (d : List ℕ) (r : Record) where
   by-state : (s : State) → c .handshake .state ≡ s → Asks c d r (whomIn c d r s)
@@ -221,12 +223,12 @@ module _ (c : Connection) (d : List ℕ) (r : Record) where
       at-hello c d r o i z ∙ not-its c d r o n (underWay (c .started .state)) refl
       ∙ ap (λ b. pick b A.Open A.Newcomer) (differ-same (fragmentOf d r) (keptHello (c .handshake)) e)
   asks-is (asks-clear o p n s) =
-      at-clear c d r o p n (r .content) (beginsHello d r) refl refl ∙ ap (λ b. pick b A.Started A.Newcomer) (hears-way (c .started .state) s)
+      at-clear c d r o p n (r .content) (eqb (getD (fragmentOf d r) 0 0) 1) refl refl ∙ ap (λ b. pick b A.Started A.Newcomer) (hears-way (c .started .state) s)
   asks-is (asks-clear-alone o p n s) =
-      at-clear c d r o p n (r .content) (beginsHello d r) refl refl
+      at-clear c d r o p n (r .content) (eqb (getD (fragmentOf d r) 0 0) 1) refl refl
       ∙ ap (λ b. pick b A.Started A.Newcomer) (not-way (c .started .state) s (underWay (c .started .state)) refl)
   asks-is (asks-right q) =
-      at-kind c d r (q .is-open) C.Handshake true (beginsHello d r) (q .handshake) (q .coded .is-protected) refl
+      at-kind c d r (q .is-open) C.Handshake true (eqb (getD (fragmentOf d r) 0 0) 1) (q .handshake) (q .coded .is-protected) refl
       ∙ ap₂ (λ a b. pick a (pick b A.Started A.Open) A.Open) (ap isSpec (q .in-spec))
       (protected-right (keysOf (c .started)) d r (q .content) (q .coded))
   asks-is (asks-protected o p n) = at-protected c d r o p n (r .content) refl
@@ -247,12 +249,12 @@ module _ (c : Connection) (j : Judged) where
   open-left S.Barred e = left-ended (λ z. let y : S.Barred ≡ S.Open = sym e ∙ z in let w : _≡_ {A = ℕ} 0 1 = cc in omega arith)
 
   started-left : (s : State) → j .handshake .state ≡ s → Left c j A.Started (startedTo c (j .handshake) (sentWith c j) s)
-  started-left S.Idle e = left-started (λ z. let y : S.Idle ≡ S.Open = sym e ∙ z in let w : _≡_ {A = ℕ} 0 1 = cc in omega arith) (ap ended e)
-  started-left S.Replied e = left-started (λ z. let y : S.Replied ≡ S.Open = sym e ∙ z in let w : _≡_ {A = ℕ} 0 1 = cc in omega arith) (ap ended e)
-  started-left S.Spec e = left-started (λ z. let y : S.Spec ≡ S.Open = sym e ∙ z in let w : _≡_ {A = ℕ} 0 1 = cc in omega arith) (ap ended e)
+  started-left S.Idle e = left-started (λ z. let y : S.Idle ≡ S.Open = sym e ∙ z in let w : _≡_ {A = ℕ} 0 1 = cc in omega arith) (live-over (j .handshake .state) (ap ended e))
+  started-left S.Replied e = left-started (λ z. let y : S.Replied ≡ S.Open = sym e ∙ z in let w : _≡_ {A = ℕ} 0 1 = cc in omega arith) (live-over (j .handshake .state) (ap ended e))
+  started-left S.Spec e = left-started (λ z. let y : S.Spec ≡ S.Open = sym e ∙ z in let w : _≡_ {A = ℕ} 0 1 = cc in omega arith) (live-over (j .handshake .state) (ap ended e))
   started-left S.Open e = left-replaced e
-  started-left S.Closed e = left-dropped (ap ended e)
-  started-left S.Barred e = left-dropped (ap ended e)
+  started-left S.Closed e = left-dropped (inl e)
+  started-left S.Barred e = left-dropped (inr e)
 
   newcomer-left : (b : Bool) → underWay (j .handshake .state) ≡ b
       → Left c j A.Newcomer (connectionOf (c .handshake) (pick b (j .handshake) (c .started)) (sentWith c j))
@@ -294,9 +296,9 @@ module _ (c : Connection) (j : Judged) where
   left-is left-only = refl
   left-is (left-open e) = ap (λ s. connectionOf (j .handshake) (besideOpen (c .started) s) (sentWith c j)) e
   left-is (left-ended n) = ap (λ x. connectionOf (j .handshake) x (sentWith c j)) (closed-beside (j .handshake .state) n)
-  left-is (left-started n e) = goes-on (j .handshake .state) n e
+  left-is (left-started n e) = goes-on (j .handshake .state) n (over-live (j .handshake .state) e)
   left-is (left-replaced e) = ap (startedTo c (j .handshake) (sentWith c j)) e
-  left-is (left-dropped e) = drops (j .handshake .state) e
+  left-is (left-dropped e) = drops (j .handshake .state) (over-ended (j .handshake .state) e)
   left-is (left-greeted s) = ap (λ b. connectionOf (c .handshake) (pick b (j .handshake) (c .started)) (sentWith c j)) (hears-way (j .handshake .state) s)
   left-is (left-unchanged n) =
       ap (λ b. connectionOf (c .handshake) (pick b (j .handshake) (c .started)) (sentWith c j)) (not-way (j .handshake .state) n (underWay (j .handshake .state)) refl)
@@ -336,4 +338,4 @@ ended-not-open s e z = true-false (ended s) e (ap ended z)
 
 pub tells-seven : (c : Connection) (random d : List ℕ) (r : Record) → ended (c .handshake .state) ≡ true
     → Tells c random d r (record { answer = W.Refused X.Ended; connection = c; beside = false })
-tells-seven c random d r e = tells (asks-only (ended-not-open (c .handshake .state) e)) (row-ended e) left-only
+tells-seven c random d r e = tells (asks-only (ended-not-open (c .handshake .state) e)) (row-ended (ended-over (c .handshake .state) e)) left-only

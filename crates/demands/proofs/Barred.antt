@@ -1,9 +1,9 @@
 -- Barred is reached by one row alone; and an ended connection answers every record and call with 7 and stays as it is.
-use mathlib.Core.Path.{_≡_, refl, sym, _∙_, ap, ap₂, subst}
-use mathlib.Core.Logic.{_⊎_, inl, inr, _≢_}
+use mathlib.Core.Path.{_≡_, refl, sym, _∙_, ap}
+use mathlib.Core.Logic.{inr, _≢_}
 use mathlib.Core.Bool.{Bool, true, false}
-use mathlib.Core.List.{List, [], _∷_, _++_, map}
-use Prim.Native.Nat.{ℕ, zero, suc, _+_, _≤_, _<_}
+use mathlib.Core.List.{List, [], _∷_}
+use Prim.Native.Nat.{ℕ, _≤_}
 use native.Mathlib.Omega.{arith}
 use lib.ListN.{length}
 use Rattle.digest.specs.Bytes.{laidOver}
@@ -17,27 +17,25 @@ use Rattle.message.specs.declared.alert.Alert.{Alert}
 use Rattle.message.specs.declared.alert.Level.the-variants as L
 use Rattle.message.specs.declared.alert.Reading.the-variants as R
 use Rattle.connection.specs.Answer.{replySize}
-use Rattle.connection.specs.Judge.{judgedRecord, fragmentOf}
+use Rattle.connection.specs.Judge.{fragmentOf}
 use Rattle.connection.specs.Receive.{firstReply, slotsOf}
 use Rattle.connection.specs.Reply.{answeredWith}
 use Rattle.connection.specs.Send.{afterAlert, nextAlert, alertBody}
 use Rattle.connection.specs.declared.state.State.{State}
 use Rattle.connection.specs.declared.state.State.the-variants as S
-use Rattle.connection.specs.declared.refusal.Refusal.the-variants as X
-use Rattle.connection.specs.declared.answer.Answer.{Answer}
-use Rattle.connection.specs.declared.answer.Answer.the-variants as W
 use Rattle.connection.specs.declared.answer.Judged.{Judged}
 use Rattle.connection.specs.declared.connection.Connection.{Connection}
 use Rattle.connection.specs.declared.receive.Taken.the-variants as T
 use Rattle.connection.specs.declared.handshake.Handshake.{Handshake}
 use Rattle.demands.specs.Runs.{Call, receive, send-data, send-alert, close, start, received, Step, stepOf, finalOf}
-use Rattle.demands.specs.Genuine.{RecordOf, keysOf}
-use Rattle.demands.specs.Table.{Row, ended, New}
-use Rattle.demands.specs.Table.{row-ended, row-returned, row-not-allowed, row-not-first, row-reply, row-hello-malformed, row-unacceptable, row-resent, row-change, row-change-malformed, row-clear-malformed, row-checksum, row-clear-warning, row-clear-critical, row-clear-fatal, row-forged, row-old, row-repeated, row-malformed, row-data, row-warning, row-critical, row-barred, row-open, row-again, row-wrong-finished}
+use Rattle.demands.specs.Genuine.{RecordOf}
+use Rattle.demands.specs.Table.{Row, New}
+use Rattle.demands.specs.Table.{row-ended, row-returned, row-not-allowed, row-reply, row-hello-malformed, row-unacceptable, row-resent, row-change, row-change-malformed, row-clear-malformed, row-checksum, row-clear-warning, row-clear-critical, row-clear-fatal, row-forged, row-old, row-repeated, row-malformed, row-data, row-warning, row-critical, row-barred, row-open, row-again, row-wrong-finished}
 use Rattle.demands.specs.Calls.{Chain, chain-end, chain-more, taken, CallRow, receive-16, receive-6, receive-framing, receive-records, data-16, data-7, data-8, data-15, data-6, data-sent, alert-16, alert-7, alert-8, alert-15, alert-6, alert-sent, close-7, close-done, start-7, start-8, start-done, mayAlert}
 use Rattle.demands.specs.Refusals.{lentBy}
-use Rattle.demands.specs.Events.{Event, took, sending, alerting, closing, starting, Sound, next}
+use Rattle.demands.specs.Events.{took, sending, alerting, closing, starting}
 use Rattle.demands.specs.Barred.{FatalUnderCode, BarredOnlyByFatal, refusedAll, AnswersSeven, BarredForGood}
+use Rattle.demands.proofs.States.{ended}
 use Rattle.demands.proofs.Genuine.{true-false}
 use Rattle.demands.proofs.Table.{row-of}
 use Rattle.demands.proofs.Asked.{tells-is, tells-seven}
@@ -69,7 +67,6 @@ module _ (h : Handshake) (sent : SentRecords) (random d : List ℕ) (r : Record)
   by-fatal (row-ended e) z = absurd (nb z)
   by-fatal (row-returned q) z = absurd (nb z)
   by-fatal (row-not-allowed e b n) z = absurd (nb z)
-  by-fatal (row-not-first b i y) z = absurd (nb z)
   by-fatal (row-reply plan g e) z = replied-not plan z
   by-fatal (row-hello-malformed fault g e) z = absurd (nb z)
   by-fatal (row-unacceptable condition g e) z = absurd (nb z)
@@ -220,9 +217,9 @@ module _ (c : Connection) (b : c .handshake .state ≡ S.Barred) where
   unfolding AnswersSeven
   answers-seven = (
     received-seven,
-    λ bytes out some most. ap (λ s. s .result) (call-is c (data-7 {out = out} (record { some = some; most = most }) is-over)),
+    λ bytes out some most. ap (λ s. s .result) (call-is c (data-7 {out = out} (record { some = some; most = most }) (inr b))),
     λ protected level description l k answered out el ek m.
-        ap (λ s. s .result) (call-is c (alert-7 {protected = protected} {out = out} (record { level-is = el; description-is = ek; lent-most = m }) (ap (λ x. ended (x .state)) (sender-is protected) ∙ is-over))),
+        ap (λ s. s .result) (call-is c (alert-7 {protected = protected} {out = out} (record { level-is = el; description-is = ek; lent-most = m }) (inr (ap (λ x. x .state) (sender-is protected) ∙ b)))),
     ap (λ s. s .result) (call-is c (close-7 b)),
     ap (λ s. s .result) (call-is c (start-7 b)),
   )

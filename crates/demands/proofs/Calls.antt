@@ -1,10 +1,10 @@
 -- Each call has its row, and a row is what the call gives. The idea: the definition of a call makes its tests in the order of the
 -- paper; each is decided both ways, and the other way round the premises of a row decide it.
 use mathlib.Core.Path.{_≡_, refl, sym, _∙_, ap, ap₂, subst}
-use mathlib.Core.Logic.{_↔_, _⊎_, inl, inr, _≢_}
+use mathlib.Core.Logic.{inl, inr, _≢_}
 use mathlib.Core.Bool.{Bool, true, false}
-use mathlib.Core.List.{List, [], _∷_, _++_}
-use Prim.Native.Nat.{ℕ, zero, suc, _+_, _≤_, _<_}
+use mathlib.Core.List.{List, [], _∷_}
+use Prim.Native.Nat.{ℕ, _+_, _≤_, _<_}
 use native.Mathlib.Omega.{arith}
 use lib.ListN.{length}
 use lib.Dec.{eqb, ltb}
@@ -29,10 +29,9 @@ use Rattle.connection.specs.Receive.{slotsOf, firstReply, endOf, answersOf, rec
 use Rattle.connection.specs.Sent.{withRecord, sumOf}
 use Rattle.connection.specs.declared.sent.SentRecords.{SentRecords}
 use Rattle.connection.specs.Send.{nextProtected, nextAlert, senderOf, clearSender, clearBack, afterAlert, afterSend, alertBody, mayData, mayProtect, mayClear, andThen, numberedBy, dataRefused, alertRefused, alertOutcome, sentTo, outputTo, done, dataSent, dataOutput, dataOutcome, alertSent, alertOutput, alertSentAs, alertOutputAs}
-use Rattle.connection.specs.Calls.{closedOf, closedIn, startedOf, startedIn, freshOf, outOfRange, leaving}
+use Rattle.connection.specs.Calls.{closedIn, startedIn, freshOf, outOfRange, leaving}
 use Rattle.connection.specs.declared.state.State.{State}
 use Rattle.connection.specs.declared.state.State.the-variants as S
-use Rattle.connection.specs.declared.refusal.Refusal.{Refusal}
 use Rattle.connection.specs.declared.refusal.Refusal.the-variants as X
 use Rattle.connection.specs.declared.answer.Answer.{Answer}
 use Rattle.connection.specs.declared.connection.Connection.{Connection}
@@ -41,10 +40,10 @@ use Rattle.connection.specs.declared.calls.Outcome.{Outcome}
 use Rattle.connection.specs.declared.calls.Outcome.the-variants as O
 use Rattle.connection.specs.declared.receive.Taken.the-variants as T
 use Rattle.connection.specs.declared.handshake.Handshake.{Handshake}
-use Rattle.demands.specs.Runs.{Call, receive, send-data, send-alert, close, start, received, sent, called, receivedAs, sentAs, calledAs, Step, stepOf, freshOne}
-use Rattle.demands.specs.Table.{ended}
-use Rattle.demands.specs.Calls.{Chain, chain-end, chain-more, notTaken, notSent, notCalled, taken, wasSent, wasCalled, mayAlert, numberFor, codeFor, BadData, BadAlert, GoodData, GoodAlert, CallRow, CallsHold, FreshRow, fresh-16, fresh-done, FreshHolds}
+use Rattle.demands.specs.Runs.{Call, receive, send-data, send-alert, close, start, received, sent, receivedAs, sentAs, calledAs, Step, stepOf, freshOne}
+use Rattle.demands.specs.Calls.{Chain, chain-end, chain-more, notTaken, notSent, notCalled, taken, wasCalled, mayAlert, numberFor, codeFor, BadData, BadAlert, GoodData, GoodAlert, CallRow, CallsHold, FreshRow, fresh-16, fresh-done, FreshHolds}
 use Rattle.demands.specs.Calls.{receive-16, receive-6, receive-framing, receive-records, data-16, data-7, data-8, data-15, data-6, data-sent, alert-16, alert-7, alert-8, alert-15, alert-6, alert-sent, close-7, close-done, start-7, start-8, start-done}
+use Rattle.demands.proofs.States.{ended, live-over, over-live, over-ended, ended-over}
 use Rattle.demands.proofs.Genuine.{true-false}
 use Rattle.demands.proofs.Asked.{tells-of, tells-is}
 use Rattle.demands.proofs.First.{first-sends, first-is}
@@ -155,12 +154,12 @@ module _ (c : Connection) (bytes out : List ℕ) where
   data-by-state : GoodData bytes → (s : State) → h .state ≡ s
       → CallRow c (send-data bytes out) (dataStep (andThen (mayData s) (numberedBy (h .protection .protected) (3 + length bytes + sizeOf (h .protection .keys .mac)) (length out))))
   unfolding numberedBy
-  data-by-state g S.Idle e = data-8 g (ap ended e) (not-open S.Idle e (λ z. let w : _≡_ {A = ℕ} 0 1 = cc in omega arith))
-  data-by-state g S.Replied e = data-8 g (ap ended e) (not-open S.Replied e (λ z. let w : _≡_ {A = ℕ} 0 1 = cc in omega arith))
-  data-by-state g S.Spec e = data-8 g (ap ended e) (not-open S.Spec e (λ z. let w : _≡_ {A = ℕ} 0 1 = cc in omega arith))
+  data-by-state g S.Idle e = data-8 g (live-over (h .state) (ap ended e)) (not-open S.Idle e (λ z. let w : _≡_ {A = ℕ} 0 1 = cc in omega arith))
+  data-by-state g S.Replied e = data-8 g (live-over (h .state) (ap ended e)) (not-open S.Replied e (λ z. let w : _≡_ {A = ℕ} 0 1 = cc in omega arith))
+  data-by-state g S.Spec e = data-8 g (live-over (h .state) (ap ended e)) (not-open S.Spec e (λ z. let w : _≡_ {A = ℕ} 0 1 = cc in omega arith))
   data-by-state g S.Open e = data-by-number g e (ltb 65535 (h .protection .protected)) refl
-  data-by-state g S.Closed e = data-7 g (ap ended e)
-  data-by-state g S.Barred e = data-7 g (ap ended e)
+  data-by-state g S.Closed e = data-7 g (inl e)
+  data-by-state g S.Barred e = data-7 g (inr e)
 
   abbrev dataRest : Outcome
   dataRest = andThen (mayData (h .state)) (numberedBy (h .protection .protected) (3 + length bytes + sizeOf (h .protection .keys .mac)) (length out))
@@ -308,9 +307,9 @@ module _ (c : Connection) (protected : Bool) (level description : ℕ) (answered
         → CallRow c (send-alert protected level description answered out) (alertStep (andThen (mayOf protected (senderOf protected c .state)) alertNumbered))
     unfolding numberedBy
     alert-by-state g true m e f =
-        subst (λ o. CallRow c (send-alert protected level description answered out) (alertStep (andThen o alertNumbered))) (sym (ended-alert protected (senderOf protected c .state) e)) (alert-7 g e)
+        subst (λ o. CallRow c (send-alert protected level description answered out) (alertStep (andThen o alertNumbered))) (sym (ended-alert protected (senderOf protected c .state) e)) (alert-7 g (ended-over (senderOf protected c .state) e))
     alert-by-state g false false e f =
-        subst (λ o. CallRow c (send-alert protected level description answered out) (alertStep (andThen o alertNumbered))) (sym (other-alert protected (senderOf protected c .state) e f)) (alert-8 g e f)
+        subst (λ o. CallRow c (send-alert protected level description answered out) (alertStep (andThen o alertNumbered))) (sym (other-alert protected (senderOf protected c .state) e f)) (alert-8 g (live-over (senderOf protected c .state) e) f)
     alert-by-state g false true e f =
         subst (λ o. CallRow c (send-alert protected level description answered out) (alertStep (andThen o alertNumbered))) (sym (may-alert protected (senderOf protected c .state) f))
         (alert-by-number g f (ltb 65535 (numberFor protected (senderOf protected c))) refl)
@@ -470,9 +469,9 @@ call-is c (receive-records {d = d} {random = random} {out = out} {rs = rs} reply
     ∙ (λ i. taken out rs (q .0 i) (first-is random d more reply sends i) (q .1 i))
 call-is c (data-16 {bytes = bytes} {out = out} b) = data-bad c bytes out b
 call-is c (data-7 {bytes = bytes} {out = out} g e) =
-    data-good c bytes out g (O.Refused X.Ended) (ap (λ o. andThen o (numberedBy (c .handshake .protection .protected) (3 + length bytes + sizeOf (c .handshake .protection .keys .mac)) (length out))) (ended-data (c .handshake .state) e))
+    data-good c bytes out g (O.Refused X.Ended) (ap (λ o. andThen o (numberedBy (c .handshake .protection .protected) (3 + length bytes + sizeOf (c .handshake .protection .keys .mac)) (length out))) (ended-data (c .handshake .state) (over-ended (c .handshake .state) e)))
 call-is c (data-8 {bytes = bytes} {out = out} g e n) =
-    data-good c bytes out g (O.Refused X.NotAllowed) (ap (λ o. andThen o (numberedBy (c .handshake .protection .protected) (3 + length bytes + sizeOf (c .handshake .protection .keys .mac)) (length out))) (other-data (c .handshake .state) e n))
+    data-good c bytes out g (O.Refused X.NotAllowed) (ap (λ o. andThen o (numberedBy (c .handshake .protection .protected) (3 + length bytes + sizeOf (c .handshake .protection .keys .mac)) (length out))) (other-data (c .handshake .state) (over-live (c .handshake .state) e) n))
 call-is c (data-15 {bytes = bytes} {out = out} g e n) =
     data-good c bytes out g (O.Refused X.Spent)
     (ap (λ s. andThen (mayData s) (numberedBy (c .handshake .protection .protected) (3 + length bytes + sizeOf (c .handshake .protection .keys .mac)) (length out))) e
@@ -491,10 +490,10 @@ call-is c (alert-16 {protected = protected} {level = level} {description = descr
     alert-bad c protected level description answered out b
 call-is c (alert-7 {protected = protected} {level = level} {description = description} {answered = answered} {out = out} {l = l} {k = k} g e) =
     alert-good c protected level description answered out l k g (O.Refused X.Ended)
-    (ap (λ o. andThen o (numberedBy (numberFor protected (senderOf protected c)) (9 + codeFor protected (senderOf protected c)) (length out))) (ended-alert protected (senderOf protected c .state) e))
+    (ap (λ o. andThen o (numberedBy (numberFor protected (senderOf protected c)) (9 + codeFor protected (senderOf protected c)) (length out))) (ended-alert protected (senderOf protected c .state) (over-ended (senderOf protected c .state) e)))
 call-is c (alert-8 {protected = protected} {level = level} {description = description} {answered = answered} {out = out} {l = l} {k = k} g e f) =
     alert-good c protected level description answered out l k g (O.Refused X.NotAllowed)
-    (ap (λ o. andThen o (numberedBy (numberFor protected (senderOf protected c)) (9 + codeFor protected (senderOf protected c)) (length out))) (other-alert protected (senderOf protected c .state) e f))
+    (ap (λ o. andThen o (numberedBy (numberFor protected (senderOf protected c)) (9 + codeFor protected (senderOf protected c)) (length out))) (other-alert protected (senderOf protected c .state) (over-live (senderOf protected c .state) e) f))
 call-is c (alert-15 {protected = protected} {level = level} {description = description} {answered = answered} {out = out} {l = l} {k = k} g e n) =
     alert-good c protected level description answered out l k g (O.Refused X.Spent)
     (ap (λ o. andThen o (numberedBy (numberFor protected (senderOf protected c)) (9 + codeFor protected (senderOf protected c)) (length out))) (may-alert protected (senderOf protected c .state) e)

@@ -1,9 +1,10 @@
 -- The cases are met by the worked handshake, with SHA_80 and with SHA: its run, one record more, and then the record in question. The
 -- window computes; a forged code is the right one with each byte changed.
+use mathlib.Core.Logic.{inr}
 use mathlib.Core.Path.{_≡_, refl, sym, _∙_, ap, ap₂, subst}
 use mathlib.Core.Bool.{Bool, true, false}
 use mathlib.Core.List.{List, [], _∷_, _++_, map, append-nil}
-use Prim.Native.Nat.{ℕ, zero, suc, _+_, _-_, _≤_, _<_}
+use Prim.Native.Nat.{ℕ, _+_, _-_, _≤_, _<_}
 use native.Mathlib.Omega.{arith}
 use lib.Count.{ones}
 use lib.Dec.{eqb, lit≤}
@@ -35,18 +36,18 @@ use Rattle.connection.specs.Answer.{judged, refusing}
 use Rattle.connection.specs.Handshake.{withWindow}
 use Rattle.connection.specs.Judge.{judgedRecord, fragmentOf}
 use Rattle.connection.specs.Send.{alertSent, senderOf, clearSender}
-use Rattle.connection.specs.declared.answer.Answer.{Answer}
 use Rattle.connection.specs.declared.answer.Answer.the-variants as W
 use Rattle.connection.specs.declared.answer.Judged.{Judged}
 use Rattle.connection.specs.declared.calls.Outcome.the-variants as O
 use Rattle.connection.specs.declared.handshake.Handshake.{Handshake}
 use Rattle.connection.specs.declared.refusal.Refusal.the-variants as X
 use Rattle.connection.specs.declared.state.State.the-variants as S
-use Rattle.demands.specs.Runs.{send-alert, stepOf}
-use Rattle.demands.specs.Genuine.{Protected, RecordOf, keysOf, unitKey}
-use Rattle.demands.specs.Table.{Row, New, Guarded, protectedAllowed, row-forged, row-old, row-repeated, row-data}
+use Rattle.demands.specs.Seen.{seenIn}
+use Rattle.demands.specs.Runs.{stepOf}
+use Rattle.demands.specs.Genuine.{Protected, keysOf, unitKey}
+use Rattle.demands.specs.Table.{Row, New, Guarded, row-forged, row-old, row-repeated, row-data}
 use Rattle.demands.specs.Calls.{mayAlert, alert-sent}
-use Rattle.demands.specs.Events.{Event, took, Sound, AllSound, after}
+use Rattle.demands.specs.Events.{Event, took, AllSound, after}
 use Rattle.demands.specs.Past.{isData}
 use Rattle.demands.specs.Traps.{lastProtected}
 use Rattle.demands.specs.Example.{exampleId, exampleSecret, exampleWidth, exampleRandom, exampleOut, exampleData}
@@ -143,9 +144,9 @@ module _ (s : ℕ) (inside : s ≤ 65535) where
 
   -- in the window x
   module _ (x : Window) where
-    guarded : Guarded (withWindow h x) data-record
+    guarded : Guarded (h .state) (seenIn data-with data-record)
     unfolding single
-    guarded = record { protection = refl; kind = ap (λ t. protectedAllowed t C.Data) (w .open-is) }
+    guarded = record { protection = refl; kind = inr (w .open-is) }
 
     handed-row : (y : Window) (n : ℕ) → acceptOf x s ≡ A.New y n
         → Row (withWindow h x) noRecords exampleRandom data-with data-record (judged (W.Data s 3 6) (withWindow (withWindow h x) y))
@@ -333,7 +334,7 @@ forged : Answered (W.Refused X.Forged)
 unfolding forged-record
 forged =
     at-open run h run-sound run-leaves (w .open-is) refl forged-datagram forged-record (refusing X.Forged h) forged-framed refl (omega (arith, fragment-length))
-    (row-forged (record { protection = refl; kind = ap (λ t. protectedAllowed t C.Data) (w .open-is) }) not-protected)
+    (row-forged (record { protection = refl; kind = inr (w .open-is) }) not-protected)
 
 -- ---- an alert that is sent clear
 

@@ -1,23 +1,18 @@
 -- What a record changes, read off its row.
 use mathlib.Core.Path.{_≡_, refl, sym, _∙_, ap, subst}
-use mathlib.Core.Logic.{_⊎_, inl, inr}
 use mathlib.Core.Bool.{Bool, true, false}
 use mathlib.Core.List.{List}
-use Prim.Native.Nat.{ℕ, _+_}
-use lib.ListN.{length}
-use Rattle.record.specs.Window.{acceptOf}
-use Rattle.record.specs.declared.header.Content.{Content}
-use Rattle.record.specs.declared.header.Content.the-variants as C
+use Prim.Native.Nat.{ℕ}
 use Rattle.record.specs.declared.reader.Record.{Record}
 use Rattle.record.specs.declared.window.Window.{Window}
 use native.Mathlib.Omega.{arith}
 use Rattle.connection.specs.Reply.{answeredWith}
 use Rattle.message.specs.declared.acceptance.Plan.{Plan}
-use Rattle.connection.specs.Handshake.{withState, withWindow, barred, reopened, planted}
+use Rattle.connection.specs.Handshake.{withState, withWindow, barred, planted}
 use Rattle.connection.specs.Connection.{ended, restarted}
 use Rattle.connection.specs.declared.connection.Connection.{Connection}
 use Rattle.connection.specs.Judge.{judgedRecord, fragmentOf}
-use Rattle.connection.specs.Calls.{closedOf, startedOf, closedIn, startedIn}
+use Rattle.connection.specs.Calls.{closedIn, startedIn}
 use Rattle.connection.specs.declared.state.State.{State}
 use Rattle.connection.specs.declared.state.State.the-variants as S
 use Rattle.connection.specs.declared.refusal.Refusal.{Refusal}
@@ -25,15 +20,13 @@ use Rattle.connection.specs.declared.refusal.Refusal.the-variants as X
 use Rattle.connection.specs.declared.answer.Answer.{Answer}
 use Rattle.connection.specs.declared.answer.Answer.the-variants as W
 use Rattle.connection.specs.declared.answer.Judged.{Judged}
-use Rattle.connection.specs.declared.calls.Outcome.{Outcome}
 use Rattle.connection.specs.declared.calls.Outcome.the-variants as O
 use Rattle.connection.specs.declared.handshake.Handshake.{Handshake}
-use Rattle.demands.specs.Table.{Row, isHello, helloFor, beginsHello, New, Guarded, Greets}
-use Rattle.demands.specs.Table.{row-ended, row-returned, row-not-allowed, row-not-first, row-reply, row-hello-malformed, row-unacceptable, row-resent, row-change, row-change-malformed, row-clear-malformed, row-checksum, row-clear-warning, row-clear-critical, row-clear-fatal, row-forged, row-old, row-repeated, row-malformed, row-data, row-warning, row-critical, row-barred, row-open, row-again, row-wrong-finished}
+use Rattle.demands.specs.Table.{Row, New}
+use Rattle.demands.specs.Table.{row-ended, row-returned, row-not-allowed, row-reply, row-hello-malformed, row-unacceptable, row-resent, row-change, row-change-malformed, row-clear-malformed, row-checksum, row-clear-warning, row-clear-critical, row-clear-fatal, row-forged, row-old, row-repeated, row-malformed, row-data, row-warning, row-critical, row-barred, row-open, row-again, row-wrong-finished}
 use Rattle.demands.specs.Refusals.{marked, markedAs, refusedLeaves, RefusedRecordChangesNothing}
 use Rattle.demands.specs.Changes.{Leaves, RecordChangesOnly, CloseChangesOnly, StartChangesOnly}
-use Rattle.demands.proofs.Genuine.{true-false}
-use Rattle.demands.proofs.Table.{row-of, hello-parts}
+use Rattle.demands.proofs.Table.{row-of}
 use Rattle.connection.specs.declared.sent.SentRecords.{SentRecords}
 
 module _ (h : Handshake) (sent : SentRecords) (random d : List ℕ) (r : Record) where
@@ -47,9 +40,6 @@ module _ (h : Handshake) (sent : SentRecords) (random d : List ℕ) (r : Record)
   malformed-protected : (c : List ℕ) (w : Window) → New h d r c w → withWindow h w ≡ refusedLeaves h (r .protected) (r .number) X.Malformed
   malformed-protected c w n =
       marked-is c w n ∙ sym (ap (λ b. refusedLeaves h b (r .number) X.Malformed) (n .guarded .protection))
-
-  pub hello-clear : isHello d r ≡ true → r .protected ≡ false
-  hello-clear i = hello-parts (r .content) (r .protected) (beginsHello d r) i .1
 
   by-protection : (then : Handshake) (a : Answer) (p : Bool) → r .protected ≡ p → Leaves h random (fragmentOf d r) p (r .number) then a
       → Leaves h random (fragmentOf d r) (r .protected) (r .number) then a
@@ -72,9 +62,8 @@ module _ (h : Handshake) (sent : SentRecords) (random d : List ℕ) (r : Record)
   leaves (row-ended e) = refl
   leaves (row-returned q) = refl
   leaves (row-not-allowed e a n) = refl
-  leaves (row-not-first a i z) = refl
   leaves (row-reply plan g e) = (plan, e, refl, replied plan, unmoved plan, same-session plan)
-  leaves (row-hello-malformed fault g e) = malformed-clear (hello-clear (g .hello))
+  leaves (row-hello-malformed fault g e) = malformed-clear (g .hello .clear)
   leaves (row-unacceptable condition g e) = refl
   leaves (row-resent s i z e) = refl
   leaves (row-change s p c e) = refl

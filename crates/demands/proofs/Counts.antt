@@ -1,8 +1,8 @@
 -- The tally counts right. The idea: a tally of counts up to the stop, brought up to date by one answer, is the tally of the counts with
 -- that answer; eight places are eight answers, the empty ones among them count nothing.
-use mathlib.Core.Path.{_≡_, refl, sym, _∙_, ap, ap₂, subst}
+use mathlib.Core.Path.{_≡_, refl, sym, _∙_, ap, ap₂}
 use mathlib.Core.Logic.{by-cases}
-use mathlib.Core.Bool.{Bool, true, false}
+use mathlib.Core.Bool.{Bool}
 use mathlib.Core.List.{List, [], _∷_, _++_, map}
 use Prim.Native.Nat.{ℕ, zero, suc, _+_, _-_, _≤_, _<_, min}
 use native.Mathlib.Omega.{arith}
@@ -10,21 +10,18 @@ use native.Mathlib.Nat.{add-zero, zero-add, add-assoc}
 use native.Mathlib.Decide.{decLe}
 use lib.ListN.{length, take, getD, replicate, length-append, length-map, length-replicate}
 use lib.Seq.{take-suc, take-all}
-use lib.Dec.{eqb}
 use borrow.Author.Tests.{eq-eqb, ne-eqb}
 use Rattle.digest.specs.Pick.{pick}
-use Rattle.record.specs.Datagram.{framed, framingOf}
 use Rattle.record.specs.declared.reader.Record.{Record}
 use Rattle.record.proofs.Covering.{covers}
 use Rattle.connection.specs.Receive.{slot, slotsOf}
-use Rattle.connection.specs.Tally.{bumped, freshTally, countedAnswer, countedRefusal, countedFirst, countedOf}
+use Rattle.connection.specs.Tally.{bumped, countedAnswer, countedRefusal, countedFirst, countedOf}
 use Rattle.connection.specs.declared.refusal.Refusal.{Refusal}
 use Rattle.connection.specs.declared.refusal.Refusal.the-variants as X
 use Rattle.connection.specs.declared.answer.Answer.{Answer}
 use Rattle.connection.specs.declared.answer.Answer.the-variants as W
 use Rattle.connection.specs.declared.answer.Slot.{Slot}
 use Rattle.connection.specs.declared.connection.Connection.{Connection}
-use Rattle.connection.specs.declared.handshake.Handshake.{Handshake}
 use Rattle.connection.specs.declared.tally.Tally.{Tally}
 use Rattle.demands.specs.Runs.{Call, Result, received, sent, called, Step, stepOf}
 use Rattle.demands.specs.Calls.{Chain, chain-end, chain-more, CallRow, receive-16, receive-6, receive-framing, receive-records, data-16, data-7, data-8, data-15, data-6, data-sent, alert-16, alert-7, alert-8, alert-15, alert-6, alert-sent, close-7, close-done, start-7, start-8, start-done}

@@ -2,6 +2,7 @@
 use Rattle.message.proofs.Written.{lists-as-written, hellos-as-written}
 use Rattle.message.proofs.Saying.{heard-as-said}
 use Rattle.demands.specs.Demands.{First, Second, Third, Demands}
+use Rattle.demands.proofs.Exactly.Record.{seen-in-place}
 use Rattle.demands.proofs.Table.{table-holds}
 use Rattle.demands.proofs.RefusedRecords.{refused-record-in}
 use Rattle.demands.proofs.Changes.{record-changes-only, refused-record, close-changes-only, start-changes-only}
@@ -48,6 +49,7 @@ pub second : Second
 second =
     record {
       table = table-holds;
+      seen = seen-in-place;
       asked = asked-holds;
       left = left-holds;
       connection-table = connection-table;

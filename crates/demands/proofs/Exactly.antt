@@ -1,12 +1,10 @@
 -- The refusals, exactly when.
 pub mod Reasons
-pub mod Coded
 pub mod Sends
 pub mod Calls
 pub mod Reading
 pub mod Whole
 pub mod Content
 pub mod Hello
-pub mod Rules
 pub mod Record
 pub mod Answers

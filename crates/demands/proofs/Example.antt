@@ -1,8 +1,7 @@
 -- The worked handshake meets the premises of the statements: its hello is accepted, and the run of its first three datagrams from fresh is
 -- Open.
-use mathlib.Core.Path.{_≡_, refl, sym, _∙_, ap, subst}
-use mathlib.Core.Bool.{true}
-use mathlib.Core.List.{List, [], _∷_, _++_}
+use mathlib.Core.Path.{_≡_, refl, sym, _∙_, ap}
+use mathlib.Core.List.{List, [], _∷_}
 use Prim.Native.Nat.{_≤_, ℕ}
 use native.Mathlib.Omega.{arith}
 use lib.ListN.{length}
@@ -19,7 +18,6 @@ use Rattle.message.specs.Acceptance.{fitsPair, firstFit, hasNull, acceptedOf, h
 use Rattle.message.specs.declared.acceptance.Heard.the-variants.{Accepted}
 use Rattle.connection.specs.Judge.{judgedRecord}
 use Rattle.connection.specs.declared.state.State.the-variants.{Idle, Replied, Spec, Open}
-use Rattle.connection.specs.declared.handshake.Handshake.{Handshake}
 use Rattle.demands.specs.Genuine.{RecordOf}
 use Rattle.demands.specs.Events.{Event, took, AllSound, after}
 use Rattle.record.specs.Window.{Held}

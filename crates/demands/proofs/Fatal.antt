@@ -1,8 +1,8 @@
 -- A fatal alert over runs: the keys and the window of the connection are those of the history, so the row of the table that bars is the
 -- one of a fatal alert that is genuine and new by the history, and the other way round.
-use mathlib.Core.Path.{_≡_, refl, sym, _∙_, ap, subst}
+use mathlib.Core.Path.{_≡_, sym, _∙_, ap, subst}
 use mathlib.Core.Logic.{_⊎_, inl, inr, _≢_}
-use mathlib.Core.Bool.{Bool, true, false}
+use mathlib.Core.Bool.{false}
 use mathlib.Core.List.{List, [], _∷_}
 use Prim.Native.Nat.{ℕ}
 use Rattle.record.specs.History.{windowOf, arrivedOf}
@@ -20,13 +20,13 @@ use Rattle.connection.specs.declared.state.State.{State}
 use Rattle.connection.specs.declared.state.State.the-variants as S
 use Rattle.connection.specs.declared.handshake.Handshake.{Handshake}
 use Rattle.connection.specs.declared.handshake.Session.{Session}
+use Rattle.demands.specs.Seen.{seenIn}
 use Rattle.demands.specs.Runs.{freshWith}
-use Rattle.demands.specs.Genuine.{Genuine, Protected, RecordOf, keysOf}
-use Rattle.demands.specs.Table.{ended, protectedAllowed, Guarded, New, row-barred}
-use Rattle.demands.specs.Events.{Event, took, Happened, next, after, history}
-use Rattle.demands.specs.Past.{keysIn, acceptedIn, barredIn}
+use Rattle.demands.specs.Genuine.{Protected, RecordOf, keysOf}
+use Rattle.demands.specs.Table.{Guarded, New, row-barred}
+use Rattle.demands.specs.Events.{took, Happened, next, after, history}
+use Rattle.demands.specs.Past.{acceptedIn, barredIn}
 use Rattle.demands.specs.Fatal.{Alerted, FatalAt, FatalExactly, FatalInRuns}
-use Rattle.demands.proofs.Genuine.{true-false}
 use Rattle.demands.proofs.Table.{row-of, row-is}
 use Rattle.demands.proofs.Kept.{live, protected-live}
 use Rattle.demands.proofs.Finished.{Progress, progress-all, progress-fresh, keys-are}
@@ -34,27 +34,24 @@ use Rattle.demands.proofs.HandedOut.{by-history, due-new}
 use Rattle.demands.proofs.Barred.{FatalRow, by-fatal}
 use Rattle.connection.specs.declared.sent.SentRecords.{SentRecords}
 
-allowed-alert : (s : State) → Alerted s → protectedAllowed s C.Alert ≡ true
-allowed-alert s (inl e) = ap (λ x. protectedAllowed x C.Alert) e
-allowed-alert s (inr e) = ap (λ x. protectedAllowed x C.Alert) e
+-- the kinds that are allowed: an alert is, in Spec and in Open
+alert-allowed : (s : State) (c : Content) → ((s ≡ S.Spec) × ((c ≡ C.Alert) ⊎ (c ≡ C.Handshake))) ⊎ (s ≡ S.Open) → Alerted s
+alert-allowed s c (inl (e, k)) = inl e
+alert-allowed s c (inr e) = inr e
 
-alert-allowed : (s : State) → protectedAllowed s C.Alert ≡ true → Alerted s
-alert-allowed S.Idle e = true-false false e refl
-alert-allowed S.Replied e = true-false false e refl
-alert-allowed S.Spec e = inl refl
-alert-allowed S.Open e = inr refl
-alert-allowed S.Closed e = true-false false e refl
-alert-allowed S.Barred e = true-false false e refl
+allowed-alert : (s : State) (c : Content) → c ≡ C.Alert → Alerted s → ((s ≡ S.Spec) × ((c ≡ C.Alert) ⊎ (c ≡ C.Handshake))) ⊎ (s ≡ S.Open)
+allowed-alert s c k (inl e) = inl (e, inl k)
+allowed-alert s c k (inr e) = inr e
 
 module _ (session : Session) {width : ℕ} (past : List Happened) (h : Handshake) (p : Progress session width past h) (sent : SentRecords) (random d : List ℕ) (r : Record) (at : RecordOf d r) where
-  past-live : Guarded h r → barredIn past ≡ false
+  past-live : Guarded (h .state) (seenIn d r) → barredIn past ≡ false
   past-live g = live session past h (p .kept) (protected-live (h .state) (r .content) (g .kind))
 
-  guard : Alerted (h .state) → (c : List ℕ) (a : Alert) → FatalAt width session past d r c a → Guarded h r
+  guard : Alerted (h .state) → (c : List ℕ) (a : Alert) → FatalAt width session past d r c a → Guarded (h .state) (seenIn d r)
   guard s c a f =
       record {
         protection = f .genuine .protected-as .is-protected;
-        kind = ap (protectedAllowed (h .state)) (f .alert) ∙ allowed-alert (h .state) s;
+        kind = allowed-alert (h .state) (r .content) (f .alert) s;
       }
 
   new-by-past : (c : List ℕ) (a : Alert) → FatalAt width session past d r c a
@@ -66,7 +63,7 @@ module _ (session : Session) {width : ℕ} (past : List Happened) (h : Handshake
   bars-so : Alerted (h .state) → (c : List ℕ) (a : Alert) → FatalAt width session past d r c a
       → (judgedRecord h sent random d r .answer ≡ W.Barred (a .description)) × (next h (took sent random d r) .state ≡ S.Barred)
   bars-so s c a f =
-      let g : Guarded h r = guard s c a f in
+      let g : Guarded (h .state) (seenIn d r) = guard s c a f in
       let coded : Protected (keysOf h) d r c = subst (λ k. Protected k d r c) (sym (keys-are session past h p (past-live g))) (f .genuine .protected-as) in
       let n : New h d r c (windowOf width (r .number ∷ acceptedIn past))
       = record { guarded = g; coded = coded; arrived = arrivedOf width (r .number ∷ acceptedIn past); accepted = new-by-past c a f } in
@@ -77,10 +74,10 @@ module _ (session : Session) {width : ℕ} (past : List Happened) (h : Handshake
       → Alerted (h .state) × ((c : List ℕ) × (a : Alert) × FatalAt width session past d r c a)
   only-so nb z =
       let f : FatalRow h d r = by-fatal h sent random d r nb (row-of h sent random d r) z in
-      let g : Guarded h r = f .new .guarded in
+      let g : Guarded (h .state) (seenIn d r) = f .new .guarded in
       let e = sym (ap (λ w. acceptOf w (r .number)) (p .kept .window-is)) ∙ f .new .accepted in
       let q = new-means width (acceptedIn past) (r .number) (f .w) (f .new .arrived) (sym (by-history width (p .kept .held) (acceptedIn past) (r .number)) ∙ e) in (
-        alert-allowed (h .state) (sym (ap (protectedAllowed (h .state)) (f .alert)) ∙ g .kind),
+        alert-allowed (h .state) (r .content) (g .kind),
         (
           f .c,
           f .a,

@@ -2,12 +2,12 @@
 -- answer's record was protected under the keys that the connection held, and these are the keys of the last new reply
 -- (`Kept.kept-more`); its content was judged right, so it is the Finished of the contents that the connection expected.
 use mathlib.Core.Path.{_≡_, refl, sym, _∙_, ap, ap₂, subst}
-use mathlib.Core.Logic.{_⊎_, inl, inr, _≢_}
+use mathlib.Core.Logic.{_⊎_, inl, inr}
 use mathlib.Core.Bool.{Bool, true, false}
 use mathlib.Core.List.{List, [], _∷_, _++_}
-use Prim.Native.Nat.{ℕ, zero, suc, _+_, _-_, _*_, _≤_, _<_}
+use Prim.Native.Nat.{ℕ, _+_, _-_, _*_}
 use native.Mathlib.Omega.{arith}
-use lib.ListN.{length, take, drop, getD, length-drop, length-take}
+use lib.ListN.{length, take, drop, getD, length-drop}
 use lib.Seq.{take-all}
 use lib.Dec.{eqb}
 use borrow.Author.Tests.{eqb-true}
@@ -16,43 +16,40 @@ use Rattle.digest.specs.Bytes.{bytes2}
 use Rattle.digest.specs.Mac.{sameBytes}
 use Rattle.digest.proofs.Same.{same-equal}
 use Rattle.record.specs.Window.{emptied}
-use Rattle.record.specs.declared.header.Content.{Content}
 use Rattle.record.specs.declared.header.Content.the-variants as C
 use Rattle.record.specs.declared.reader.Record.{Record}
 use Rattle.record.specs.declared.window.Window.{Window}
-use Rattle.message.specs.Field.{partOf, twoAt}
+use Rattle.message.specs.Field.{partOf}
 use Rattle.message.specs.Handshake.{fills, finished}
 use Rattle.message.specs.Acceptance.{heardOf}
 use Rattle.message.specs.Finished.{finishedOf, judgedOf}
 use Rattle.message.specs.declared.acceptance.Plan.{Plan}
 use Rattle.message.specs.declared.acceptance.Heard.the-variants as H
-use Rattle.message.specs.declared.finished.Verified.{Verified as Verdict}
 use Rattle.message.specs.declared.finished.Verified.the-variants as F
 use Rattle.message.proofs.Written.{Filled, filled}
 use Rattle.message.proofs.Rests.{byte-piece}
 use Rattle.connection.specs.Calls.{sessionOf}
 use Rattle.connection.specs.Handshake.{withState, withWindow, barred, reopened, keptReply, planted}
-use Rattle.connection.specs.Judge.{judgedRecord, fragmentOf}
+use Rattle.connection.specs.Judge.{fragmentOf}
 use Rattle.connection.specs.Reply.{answeredWith, replyTo, expectedOf}
 use Rattle.connection.specs.Send.{nextAlert, senderOf, alertBody, afterAlert}
 use Rattle.connection.specs.declared.state.State.{State}
 use Rattle.connection.specs.declared.state.State.the-variants as S
-use Rattle.connection.specs.declared.refusal.Refusal.{Refusal}
 use Rattle.connection.specs.declared.refusal.Refusal.the-variants as X
 use Rattle.connection.specs.declared.answer.Answer.{Answer}
 use Rattle.connection.specs.declared.answer.Answer.the-variants as W
 use Rattle.connection.specs.declared.answer.Judged.{Judged}
 use Rattle.connection.specs.declared.handshake.Handshake.{Handshake}
 use Rattle.connection.specs.declared.handshake.Session.{Session}
-use Rattle.demands.specs.Runs.{Call, send-data, send-alert, close, start, Step, stepOf}
-use Rattle.record.specs.declared.keys.Keys.{Keys}
-use Rattle.demands.specs.Genuine.{Genuine, Protected, RecordOf, keysOf}
-use Rattle.demands.specs.Table.{Row, protectedAllowed, Hears, New, Greets}
-use Rattle.demands.specs.Table.{row-ended, row-returned, row-not-allowed, row-not-first, row-reply, row-hello-malformed, row-unacceptable, row-resent, row-change, row-change-malformed, row-clear-malformed, row-checksum, row-clear-warning, row-clear-critical, row-clear-fatal, row-forged, row-old, row-repeated, row-malformed, row-data, row-warning, row-critical, row-barred, row-open, row-again, row-wrong-finished}
+use Rattle.demands.specs.Seen.{seenIn}
+use Rattle.demands.specs.Runs.{send-data, send-alert, close, start, Step, stepOf}
+use Rattle.demands.specs.Genuine.{Protected, RecordOf, keysOf}
+use Rattle.demands.specs.Table.{Row, New, Greets}
+use Rattle.demands.specs.Table.{row-ended, row-returned, row-not-allowed, row-reply, row-hello-malformed, row-unacceptable, row-resent, row-change, row-change-malformed, row-clear-malformed, row-checksum, row-clear-warning, row-clear-critical, row-clear-fatal, row-forged, row-old, row-repeated, row-malformed, row-data, row-warning, row-critical, row-barred, row-open, row-again, row-wrong-finished}
 use Rattle.demands.specs.Calls.{CallRow, data-16, data-7, data-8, data-15, data-6, data-sent, alert-16, alert-7, alert-8, alert-15, alert-6, alert-sent, close-7, close-done, start-7, start-8, start-done}
 use Rattle.demands.specs.Refusals.{writtenBy}
 use Rattle.demands.specs.Events.{Event, took, sending, alerting, closing, starting, Sound, AllSound, Happened, answered, wrote, closed, started, refused, ifDone, next, happening, after, history}
-use Rattle.demands.specs.Past.{Greeting, none, greeting, isReply, isData, shuts, lastReply, agreedFor, agreedAs, keysWith, keysIn, expectedIn, barredIn}
+use Rattle.demands.specs.Past.{greeting, isReply, isData, shuts, lastReply, agreedFor, agreedAs, keysWith, keysIn, expectedIn, barredIn}
 use Rattle.record.specs.Window.{Held}
 use Rattle.demands.specs.Runs.{freshWith}
 use Rattle.demands.specs.Kept.{KeptAs}
@@ -208,7 +205,7 @@ module _ (session : Session) {width : ℕ} (past : List Happened) (h : Handshake
           genuine = record { in-place = at; protected-as = subst (λ x. Protected x d r (finishedOf (expectedOf session (g .ours) (g .hello) (g .plan)))) (keys-are l) (subst (Protected (keysOf h) d r) content-is (n .coded)) };
         }
 
-    new-reply : (plan : Plan) → Greets h d r → heardOf (fragmentOf d r) (h .id) ≡ H.Accepted plan
+    new-reply : (plan : Plan) → Greets h (seenIn d r) → heardOf (fragmentOf d r) (h .id) ≡ H.Accepted plan
         → KeptAs session width (answered random d r (W.Reply (length (replyTo (planted h) random (fragmentOf d r) plan))) ∷ past) (answeredWith h random (fragmentOf d r) plan)
         → Progress session width (answered random d r (W.Reply (length (replyTo (planted h) random (fragmentOf d r) plan))) ∷ past) (answeredWith h random (fragmentOf d r) plan)
     unfolding answeredWith lastReply
@@ -240,7 +237,6 @@ module _ (session : Session) {width : ℕ} (past : List Happened) (h : Handshake
     by-row (row-ended e) k = same-state (W.Refused X.Ended) h k refl refl refl
     by-row (row-returned q) k = same-state (W.Resent (length (keptReply h))) h k refl refl refl
     by-row (row-not-allowed e a n) k = same-state (W.Refused X.NotAllowed) h k refl refl refl
-    by-row (row-not-first a i z) k = same-state (W.Refused X.NotAllowed) h k refl refl refl
     by-row (row-reply plan g e) k = new-reply plan g e k
     by-row (row-hello-malformed fault g e) k = same-state (W.Refused X.Malformed) h k refl refl refl
     by-row (row-unacceptable condition g e) k = same-state (W.Refused X.Unacceptable) h k refl refl refl
@@ -380,7 +376,6 @@ pub data-open : (h : Handshake) (sent : SentRecords) (random d : List ℕ) (r : 
 data-open h sent random d r (row-ended e) z = true-false false z refl
 data-open h sent random d r (row-returned q) z = true-false false z refl
 data-open h sent random d r (row-not-allowed e a n) z = true-false false z refl
-data-open h sent random d r (row-not-first a i y) z = true-false false z refl
 data-open h sent random d r (row-reply plan g e) z = true-false false z refl
 data-open h sent random d r (row-hello-malformed fault g e) z = true-false false z refl
 data-open h sent random d r (row-unacceptable condition g e) z = true-false false z refl
@@ -397,15 +392,12 @@ data-open h sent random d r (row-old c g s e) z = true-false false z refl
 data-open h sent random d r (row-repeated c g s e) z = true-false false z refl
 data-open h sent random d r (row-malformed c w n m) z = true-false false z refl
 data-open h sent random d r (row-data c w n e m) z =
-    allowed-data (h .state) refl (sym (ap (protectedAllowed (h .state)) e) ∙ n .guarded .kind)
+    in-open (n .guarded .kind)
   where
-    allowed-data : (s : State) → h .state ≡ s → protectedAllowed s C.Data ≡ true → h .state ≡ S.Open
-    allowed-data S.Idle es a = true-false false a refl
-    allowed-data S.Replied es a = true-false false a refl
-    allowed-data S.Spec es a = true-false false a refl
-    allowed-data S.Open es a = es
-    allowed-data S.Closed es a = true-false false a refl
-    allowed-data S.Barred es a = true-false false a refl
+    in-open : ((h .state ≡ S.Spec) × ((r .content ≡ C.Alert) ⊎ (r .content ≡ C.Handshake))) ⊎ (h .state ≡ S.Open) → h .state ≡ S.Open
+    in-open (inl (s, inl k)) = let y : C.Data ≡ C.Alert = sym e ∙ k in let v : _≡_ {A = ℕ} 0 1 = cc in absurd (omega arith)
+    in-open (inl (s, inr k)) = let y : C.Data ≡ C.Handshake = sym e ∙ k in let v : _≡_ {A = ℕ} 0 1 = cc in absurd (omega arith)
+    in-open (inr s) = s
 data-open h sent random d r (row-warning c w a n e m l) z = true-false false z refl
 data-open h sent random d r (row-critical c w a n e m l) z = true-false false z refl
 data-open h sent random d r (row-barred c w a n e m l) z = true-false false z refl

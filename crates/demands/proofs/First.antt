@@ -1,8 +1,7 @@
 -- What the first record of a datagram sends, read off its row: the bytes that the judge keeps for it are those that its answer names.
 use mathlib.Core.Path.{_≡_, refl, sym, _∙_, ap, subst}
 use mathlib.Core.Logic.{_⊎_, inl, inr}
-use mathlib.Core.Bool.{Bool, true, false}
-use mathlib.Core.List.{List, [], _∷_, _++_}
+use mathlib.Core.List.{List, [], _∷_}
 use Prim.Native.Nat.{ℕ, zero, suc, _-_}
 use native.Mathlib.Omega.{arith}
 use Rattle.digest.specs.Pick.{pick}
@@ -30,7 +29,7 @@ use Rattle.connection.specs.declared.asked.Whom.the-variants as A
 use Rattle.connection.specs.declared.connection.Connection.{Connection}
 use Rattle.demands.specs.Table.{Row, Hears}
 use Rattle.demands.specs.Asked.{Asks, asks-only, asks-its-hello, asks-open-hello, asks-new-hello, asks-clear, asks-clear-alone, asks-right, asks-protected, sentWith, tells}
-use Rattle.demands.specs.Table.{row-ended, row-returned, row-not-allowed, row-not-first, row-reply, row-hello-malformed, row-unacceptable, row-resent, row-change, row-change-malformed, row-clear-malformed, row-checksum, row-clear-warning, row-clear-critical, row-clear-fatal, row-forged, row-old, row-repeated, row-malformed, row-data, row-warning, row-critical, row-barred, row-open, row-again, row-wrong-finished}
+use Rattle.demands.specs.Table.{row-ended, row-returned, row-not-allowed, row-reply, row-hello-malformed, row-unacceptable, row-resent, row-change, row-change-malformed, row-clear-malformed, row-checksum, row-clear-warning, row-clear-critical, row-clear-fatal, row-forged, row-old, row-repeated, row-malformed, row-data, row-warning, row-critical, row-barred, row-open, row-again, row-wrong-finished}
 use Rattle.demands.specs.Calls.{Chain, chain-end, chain-more, SendsBy, FirstSends}
 use Rattle.demands.proofs.Table.{row-of, row-is}
 use Rattle.demands.proofs.Asked.{idle-never, asks-is, told-by}
@@ -69,7 +68,6 @@ module _ (h : Handshake) (sent : SentRecords) (random d : List ℕ) (r : Record)
   row-sends (row-ended e) = refl
   row-sends (row-returned q) = take-taken (h .kept .size) (h .kept .reply)
   row-sends (row-not-allowed e b n) = refl
-  row-sends (row-not-first b i y) = refl
   row-sends (row-reply plan g e) = (plan, e, replied plan)
   row-sends (row-hello-malformed fault g e) = refl
   row-sends (row-unacceptable condition g e) = refl
@@ -97,7 +95,6 @@ module _ (h : Handshake) (sent : SentRecords) (random d : List ℕ) (r : Record)
   sends-row (row-ended e) bytes z = sym z
   sends-row (row-returned q) bytes z = take-taken (h .kept .size) (h .kept .reply) ∙ sym z
   sends-row (row-not-allowed e b n) bytes z = sym z
-  sends-row (row-not-first b i y) bytes z = sym z
   sends-row (row-reply plan g e) bytes z = replied plan ∙ replied-so plan e bytes z
   sends-row (row-hello-malformed fault g e) bytes z = sym z
   sends-row (row-unacceptable condition g e) bytes z = sym z
@@ -172,7 +169,6 @@ module _ (c : Connection) (random d : List ℕ) (r : Record) where
   kept-where w k {j} (row-ended e) = nothing-kept w j refl
   kept-where w k {j} (row-returned q) = resent-kept w k (length (keptReply (askedOf c w))) (inr (q .is-open))
   kept-where w k {j} (row-not-allowed e b n) = nothing-kept w j refl
-  kept-where w k {j} (row-not-first b i y) = nothing-kept w j refl
   kept-where w k {j} (row-reply plan g e) = replied-kept w j (replied-state w plan)
   kept-where w k {j} (row-hello-malformed fault g e) = nothing-kept w j refl
   kept-where w k {j} (row-unacceptable condition g e) = nothing-kept w j refl

@@ -1,26 +1,24 @@
 -- Ours meets demands 2 and 3 as predicates of gateways, and each of the five wrong gateways fails one: at the hello, at the Finished or at
 -- the data of the worked handshake, or at a datagram of two records.
-use mathlib.Core.Path.{_≡_, refl, sym, _∙_, ap, ap₂, subst}
-use mathlib.Core.Logic.{_↔_, _⊎_, inl, inr, _≢_}
-use mathlib.Core.Bool.{Bool, true, false}
-use mathlib.Core.List.{List, [], _∷_, _++_, map, append-nil}
-use Prim.Native.Nat.{ℕ, zero, suc, _+_, _≤_, min}
+use mathlib.Core.Path.{_≡_, refl, sym, _∙_, ap, subst}
+use mathlib.Core.Logic.{_↔_, _≢_}
+use mathlib.Core.Bool.{true, false}
+use mathlib.Core.List.{List, [], _∷_, _++_, map}
+use Prim.Native.Nat.{ℕ, suc, _+_, _≤_}
 use native.Mathlib.Omega.{arith}
-use lib.ListN.{length, take, getD, replicate}
+use lib.ListN.{length, take, getD}
 use lib.Dec.{lit≤}
 use Rattle.digest.specs.Bytes.{laidOver}
 use Rattle.record.specs.Header.{kindOf, soundKind, contentOf}
 use Rattle.record.specs.Reader.{readOf, readAs, framedOf}
 use Rattle.record.specs.Window.{emptied}
-use Rattle.record.specs.Datagram.{Framing, framed, faulty, framingFrom, framingOf}
+use Rattle.record.specs.Datagram.{framed, framingFrom, framingOf}
 use Rattle.record.specs.declared.header.Content.the-variants as C
-use Rattle.record.specs.declared.keys.Keys.{Keys}
 use Rattle.record.specs.declared.reader.Record.{Record}
 use Rattle.message.specs.Change.{isChange}
 use Rattle.connection.specs.Answer.{handedOf, judged, refusing}
 use Rattle.connection.specs.Calls.{sessionOf}
 use Rattle.connection.specs.Handshake.{withState, withWindow}
-use Rattle.connection.specs.Judge.{judgedRecord, fragmentOf}
 use Rattle.connection.specs.Receive.{slot, slotsOf, endOf, answersOf, firstReply}
 use Rattle.connection.specs.Tally.{freshTally}
 use Rattle.connection.specs.declared.state.State.{State}
@@ -30,21 +28,18 @@ use Rattle.connection.specs.declared.refusal.Refusal.the-variants as X
 use Rattle.connection.specs.declared.answer.Answer.{Answer}
 use Rattle.connection.specs.declared.answer.Answer.the-variants as W
 use Rattle.connection.specs.declared.answer.Judged.{Judged}
-use Rattle.connection.specs.declared.answer.Slot.{Slot}
 use Rattle.connection.specs.declared.connection.Connection.{Connection}
-use Rattle.connection.specs.declared.receive.Taken.{Taken}
 use Rattle.connection.specs.declared.receive.Taken.the-variants as T
-use Rattle.connection.specs.declared.tally.Tally.{Tally}
 use Rattle.connection.specs.declared.handshake.Handshake.{Handshake}
 use Rattle.connection.specs.declared.handshake.Session.{Session}
-use Rattle.demands.specs.Runs.{Call, receive, close, Result, received, Step, Gateway, stepOf, finalOf}
-use Rattle.demands.specs.Genuine.{keysOf}
-use Rattle.demands.specs.Table.{Row, ended, allowed, row-ended, row-not-allowed, row-change}
-use Rattle.demands.specs.Calls.{Chain, chain-end, chain-more, taken, FirstSends}
+use Rattle.demands.specs.Runs.{receive, close, Result, received, Gateway, stepOf, finalOf}
+use Rattle.demands.specs.Seen.{Seen, seenIn}
+use Rattle.demands.specs.Table.{Row, Allowed, hello, change, alert, guarded, row-not-allowed, row-change}
+use Rattle.demands.specs.Calls.{Chain, chain-end, chain-more, FirstSends}
 use Rattle.demands.specs.Events.{Happened}
 use Rattle.demands.specs.Acts.{Act, comes, actsOf, eventOf, behind}
 use Rattle.demands.specs.Asked.{RightBeside, Tells, tells, asks-only, asks-protected, left-only}
-use Rattle.demands.specs.Past.{isData, keysIn, expectedIn}
+use Rattle.demands.specs.Past.{isData, keysIn}
 use Rattle.demands.specs.Runs.{freshWith, freshOne}
 use Rattle.demands.specs.LeftOut.{answersIn, talliedIn, Unreplaced}
 use Rattle.demands.specs.Refusals.{IsRefused}
@@ -54,6 +49,7 @@ use Rattle.demands.specs.Counts.{countIn, countOver, tallyAfter, upToSto
 use Rattle.demands.specs.Places.{answerOf, AnswersInPlace}
 use Rattle.demands.specs.Gateways.{AnswersByTable, Demand2, Demand2IsTable, Demand2Settles, HandsOut, OneEach, Demand3, RefusesCalls, RefusesRecords, AnswersAlike, NeverChanges, FirstOnly, Invented, FiveFail}
 use Rattle.demands.specs.Example.{exampleId, exampleSecret, exampleWidth, exampleRandom, exampleOut, exampleData}
+use Rattle.demands.proofs.States.{ended, live-over}
 use Rattle.demands.proofs.Genuine.{true-false}
 use Rattle.demands.proofs.Asked.{tells-is, left-of}
 use Rattle.demands.proofs.First.{first-sends}
@@ -260,9 +256,17 @@ clear-framed : framingOf clear-data ≡ framed (clear-record ∷ [])
 unfolding clear-data clear-record framingOf framingFrom readOf readAs framedOf kindOf soundKind contentOf
 clear-framed = refl
 
+-- clear data has no row
+no-row : (s : State) (q : Seen) → q .protected ≡ false → q .content ≡ C.Data → Allowed s q → ⊥
+no-row s q p c (hello a i z) = let y : C.Data ≡ C.Handshake = sym c ∙ i .handshake in let v : _≡_ {A = ℕ} 0 1 = cc in omega arith
+no-row s q p c (change a o k) = let y : C.Data ≡ C.ChangeCipherSpec = sym c ∙ k in let v : _≡_ {A = ℕ} 0 1 = cc in omega arith
+no-row s q p c (alert a o k) = let y : C.Data ≡ C.Alert = sym c ∙ k in let v : _≡_ {A = ℕ} 0 1 = cc in omega arith
+no-row s q p c (guarded g) = true-false (q .protected) (g .protection) p
+
 clear-row : (s : SentRecords) → Row start₀ s exampleRandom clear-data clear-record (refusing X.NotAllowed start₀)
 unfolding clear-record
-clear-row s = row-not-allowed refl refl (λ q. idle-not (q .is-open))
+clear-row s =
+    row-not-allowed (live-over (start₀ .state) refl) (no-row (start₀ .state) (seenIn clear-data clear-record) refl refl) (λ q. idle-not (q .is-open))
 
 pub alike-table : (g : Gateway) → AnswersAlike g → AnswersByTable g → ⊥
 unfolding AnswersAlike
@@ -302,7 +306,9 @@ two-framed = refl
 
 first-row : (s : SentRecords) → Row (w .h₁) s exampleRandom two one-of-two (refusing X.NotAllowed (w .h₁))
 unfolding one-of-two
-first-row s = row-not-allowed (ap ended (w .replied-is)) (ap (λ x. allowed x two one-of-two) (w .replied-is)) (λ q. replied-not (q .is-open))
+first-row s =
+    row-not-allowed (live-over (w .h₁ .state) (ap ended (w .replied-is))) (no-row (w .h₁ .state) (seenIn two one-of-two) refl refl)
+    (λ q. replied-not (q .is-open))
 
 second-row : (s : SentRecords) → Row (w .h₁) s exampleRandom two two-of-two (judged W.Spec (withState (withWindow (w .h₁) (emptied (w .h₁ .protection .window))) S.Spec))
 unfolding two two-of-two isChange
@@ -316,7 +322,9 @@ front-framed = refl
 front-row : (s : SentRecords) → Row (w .h₁) s exampleRandom (take (one-of-two .used) two) one-of-two (refusing X.NotAllowed (w .h₁))
 unfolding one-of-two
 front-row s =
-    row-not-allowed (ap ended (w .replied-is)) (ap (λ x. allowed x (take (one-of-two .used) two) one-of-two) (w .replied-is)) (λ q. replied-not (q .is-open))
+    row-not-allowed (live-over (w .h₁ .state) (ap ended (w .replied-is)))
+    (no-row (w .h₁ .state) (seenIn (take (one-of-two .used) two) one-of-two) refl refl)
+    (λ q. replied-not (q .is-open))
 
 pub first-only-table : (g : Gateway) → FirstOnly g → AnswersByTable g → ⊥
 unfolding FirstOnly AnswersByTable endOf

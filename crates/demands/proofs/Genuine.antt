@@ -1,7 +1,7 @@
 -- A record is protected with a content exactly if the test of its code succeeds, and the content is then the fragment without its code.
-use mathlib.Core.Path.{_≡_, refl, sym, _∙_, ap, subst}
+use mathlib.Core.Path.{_≡_, sym, _∙_, ap}
 use mathlib.Core.Bool.{Bool, true, false}
-use mathlib.Core.List.{List, [], _∷_, _++_}
+use mathlib.Core.List.{List, _++_}
 use Prim.Native.Nat.{ℕ, _+_, _-_, _≤_}
 use native.Mathlib.Omega.{arith}
 use lib.ListN.{length, take, length-append}
@@ -14,7 +14,7 @@ use Rattle.record.specs.declared.reader.Record.{Record}
 use Rattle.record.proofs.ProtectedBytes.{size-most, genuine-made, made-genuine}
 use Rattle.connection.specs.Judge.{fragmentOf}
 use Rattle.record.specs.declared.keys.Keys.{Keys}
-use Rattle.demands.specs.Genuine.{Protected, Genuine, unitKey}
+use Rattle.demands.specs.Genuine.{Protected, unitKey}
 use Rattle.demands.specs.Course.{contentBytes}
 
 -- no truth is false

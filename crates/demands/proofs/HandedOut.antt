@@ -2,20 +2,19 @@
 -- it is Open, under the same keys and expected contents, and its window is that of the numbers used up; once something closed it is ended.
 -- Each row of the table is one way in which both go on. At the end the row of data says what is due.
 use mathlib.Core.Path.{_≡_, refl, sym, _∙_, ap, ap₂, subst}
-use mathlib.Core.Logic.{_↔_, _⊎_, inl, inr, _≢_}
+use mathlib.Core.Logic.{_↔_, inl, inr}
 use mathlib.Core.Bool.{Bool, true, false}
 use mathlib.Core.List.{List, [], _∷_, _++_, map}
-use Prim.Native.Nat.{ℕ, zero, suc, _+_, _-_, _≤_, _<_, min}
+use Prim.Native.Nat.{ℕ, _+_, _-_, _≤_, _<_, min}
 use native.Mathlib.Omega.{arith}
 use lib.ListN.{length, take, drop, length-append, length-take, length-drop, take-append-drop}
 use lib.Seq.{take-at, take-append-le}
-use lib.Dec.{lit<, leb, eqb}
-use borrow.Author.Tests.{le-leb, lt-leb, leb-true, leb-false}
+use borrow.Author.Tests.{le-leb, lt-leb}
 use Rattle.digest.specs.Pick.{pick}
 use Rattle.digest.specs.Hmac.{hmac}
 use Rattle.digest.specs.Mac.{sizeOf}
 use Rattle.record.specs.Code.{genuineBy, fragmentBy, codeBy}
-use Rattle.record.specs.Window.{acceptOf, tooOld, Held}
+use Rattle.record.specs.Window.{acceptOf, Held}
 use Rattle.record.specs.History.{windowOf, arrivedOf, accepted, highestOf, judgedOf}
 use Rattle.record.specs.declared.header.Content.{Content}
 use Rattle.record.specs.declared.header.Content.the-variants as C
@@ -24,39 +23,35 @@ use Rattle.record.specs.declared.window.Window.{Window}
 use Rattle.record.specs.declared.window.Acceptance.{Acceptance}
 use Rattle.record.specs.declared.window.Acceptance.the-variants as A
 use Rattle.record.proofs.Histories.{meaning, new-means, old-means, repeated-means, new-when, all-below, below-all, accepted-here, accepted-still, held-some}
-use Rattle.message.specs.Alert.{alertOf}
 use Rattle.message.specs.Finished.{judgedOf as verdictOf}
 use Rattle.message.specs.declared.alert.Alert.{Alert}
-use Rattle.message.specs.declared.alert.Reading.the-variants as R
 use Rattle.message.specs.declared.finished.Verified.{Verified as Verdict}
 use Rattle.message.specs.declared.finished.Verified.the-variants as F
-use Rattle.connection.specs.Answer.{refusing, judged, handedOf, partAt}
+use Rattle.connection.specs.Answer.{handedOf, partAt}
 use Rattle.connection.specs.Calls.{sessionOf}
 use Rattle.connection.specs.Handshake.{withState, withWindow, barred}
 use Rattle.connection.specs.Judge.{judgedRecord, fragmentOf}
 use Rattle.connection.specs.Send.{afterAlert, nextAlert, senderOf, alertBody}
-use Rattle.connection.specs.declared.state.State.{State}
 use Rattle.connection.specs.declared.state.State.the-variants as S
-use Rattle.connection.specs.declared.refusal.Refusal.the-variants as X
-use Rattle.connection.specs.declared.answer.Answer.{Answer}
 use Rattle.connection.specs.declared.answer.Answer.the-variants as W
 use Rattle.connection.specs.declared.answer.Judged.{Judged}
 use Rattle.connection.specs.declared.handshake.Handshake.{Handshake}
 use Rattle.connection.specs.declared.handshake.Session.{Session}
-use Rattle.demands.specs.Runs.{Call, send-data, send-alert, close, start, Step, stepOf}
+use Rattle.demands.specs.Seen.{seenIn}
+use Rattle.demands.specs.Runs.{send-data, send-alert, close, start, Step, stepOf}
 use Rattle.record.specs.declared.keys.Keys.{Keys}
-use Rattle.demands.specs.Genuine.{Genuine, Protected, RecordOf, keysOf, unitKey}
-use Rattle.demands.specs.Table.{Row, ended, allowed, protectedAllowed, clearAllowed, beginsHello, isHello, Hears, New, Guarded, Greets, MalformedAs}
-use Rattle.demands.specs.Table.{row-ended, row-returned, row-not-allowed, row-not-first, row-reply, row-hello-malformed, row-unacceptable, row-resent, row-change, row-change-malformed, row-clear-malformed, row-checksum, row-clear-warning, row-clear-critical, row-clear-fatal, row-forged, row-old, row-repeated, row-malformed, row-data, row-warning, row-critical, row-barred, row-open, row-again, row-wrong-finished}
+use Rattle.demands.specs.Genuine.{Protected, RecordOf, keysOf, unitKey}
+use Rattle.demands.specs.Table.{Row, Allowed, guarded, New, Guarded, MalformedAs}
+use Rattle.demands.specs.Table.{row-ended, row-returned, row-not-allowed, row-reply, row-hello-malformed, row-unacceptable, row-resent, row-change, row-change-malformed, row-clear-malformed, row-checksum, row-clear-warning, row-clear-critical, row-clear-fatal, row-forged, row-old, row-repeated, row-malformed, row-data, row-warning, row-critical, row-barred, row-open, row-again, row-wrong-finished}
 use Rattle.demands.specs.Calls.{CallRow, data-16, data-7, data-8, data-15, data-6, data-sent, alert-16, alert-7, alert-8, alert-15, alert-6, alert-sent, close-7, close-done, start-7, start-8, start-done}
-use Rattle.demands.specs.Events.{Event, took, sending, alerting, closing, starting, Sound, AllSound, Happened, next, after, history}
+use Rattle.demands.specs.Events.{Event, took, sending, alerting, closing, starting, Happened, next, after, history}
 use Rattle.demands.specs.Past.{isData, keysIn, expectedIn, acceptedIn, barredIn}
 use Rattle.demands.specs.Course.{Course, genuineBytes, contentBytes, isNew, levelShuts, alertShuts, finishedShuts, contentShuts, withRecord, withEvent, courseOf, Ongoing, Due}
 use Rattle.demands.specs.Runs.{freshWith, freshOne}
 use Rattle.demands.specs.HandedOut.{courseAt, courseFrom, OngoingFrom, pastOf, HandedOut, HandedOnce}
+use Rattle.demands.proofs.States.{ended, over-ended}
 use Rattle.demands.proofs.Genuine.{true-false, protected-right, protected-content, right-protected}
 use Rattle.demands.proofs.Table.{row-of, row-is}
-use Rattle.demands.proofs.Changes.{hello-clear}
 use Rattle.demands.proofs.Calls.{call-of, sent-alone}
 use Rattle.demands.proofs.Kept.{window-more, live, protected-live}
 use Rattle.demands.proofs.Finished.{Progress, progress-all, progress-fresh, keys-are, expected-is}
@@ -198,18 +193,14 @@ module _ (k : Keys) (expected : List ℕ) (course : Course) (h : Handshake) (a :
       malformed-shuts c C.Data m = refl
 
       -- a record that the table does not allow in Open is clear
-      refused-clear : (s : State) → s ≡ S.Open → allowed s d r ≡ false → r .protected ≡ false
-      refused-clear s es e = by-protection (r .protected) refl (sym (ap (λ x. allowed x d r) es) ∙ e)
-        where
-          by-protection : (p : Bool) → r .protected ≡ p → pick (r .protected) true false ≡ false → r .protected ≡ false
-          by-protection false ep q = ep
-          by-protection true ep q = true-false true refl (sym (ap (λ b. pick b true false) ep) ∙ q)
+      refused-clear : h .state ≡ S.Open → (Allowed (h .state) (seenIn d r) → ⊥) → (p : Bool) → r .protected ≡ p → r .protected ≡ false
+      refused-clear o n false e = e
+      refused-clear o n true e = absurd (n (guarded (record { protection = e; kind = inr o })))
 
       by-row : {j : Judged} → Row h sent random d r j → Along k expected (withRecord k expected course d r) (j .handshake)
-      by-row (row-ended e) = true-false (ended (h .state)) e (ap ended (a .is-open z))
-      by-row (row-returned q) = clear-same (hello-clear h sent random d r (q .hello))
-      by-row (row-not-allowed e b n) = clear-same (refused-clear (h .state) (a .is-open z) b)
-      by-row (row-not-first b i y) = clear-same (hello-clear h sent random d r i)
+      by-row (row-ended e) = true-false (ended (h .state)) (over-ended (h .state) e) (ap ended (a .is-open z))
+      by-row (row-returned q) = clear-same (q .hello .clear)
+      by-row (row-not-allowed e b n) = clear-same (refused-clear (a .is-open z) b (r .protected) refl)
       by-row (row-reply plan g e) = greets-not-open (h .state) (g .another) (a .is-open z)
       by-row (row-hello-malformed fault g e) = greets-not-open (h .state) (g .another) (a .is-open z)
       by-row (row-unacceptable condition g e) = greets-not-open (h .state) (g .another) (a .is-open z)
@@ -223,7 +214,7 @@ module _ (k : Keys) (expected : List ℕ) (course : Course) (h : Handshake) (a :
       by-row (row-clear-fatal b s p c e q l) = not-open (h .state) s (a .is-open z)
       by-row (row-forged g f) = unchanged (not-genuine (forged-bytes g f (genuineBytes k d r) refl))
         where
-          forged-bytes : Guarded h r → ((c : List ℕ) → Protected (keysOf h) d r c → ⊥) → (b : Bool) → genuineBytes k d r ≡ b → genuineBytes k d r ≡ false
+          forged-bytes : Guarded (h .state) (seenIn d r) → ((c : List ℕ) → Protected (keysOf h) d r c → ⊥) → (b : Bool) → genuineBytes k d r ≡ b → genuineBytes k d r ≡ false
           forged-bytes g f false e = e
           forged-bytes g f true e =
               let code : genuineBy (hmac (unitKey k (r .number))) (sizeOf (k .mac)) (r .number) (r .byte) (fragmentOf d r) ≡ true
@@ -400,7 +391,6 @@ module _ (h : Handshake) (sent : SentRecords) (random d : List ℕ) (r : Record)
   data-facts (row-ended e) z = true-false false z refl
   data-facts (row-returned q) z = true-false false z refl
   data-facts (row-not-allowed e b n) z = true-false false z refl
-  data-facts (row-not-first b i y) z = true-false false z refl
   data-facts (row-reply plan g e) z = true-false false z refl
   data-facts (row-hello-malformed fault g e) z = true-false false z refl
   data-facts (row-unacceptable condition g e) z = true-false false z refl
@@ -449,7 +439,7 @@ module _ (k : Keys) (expected : List ℕ) (course : Course) (h : Handshake) (a :
   data-due c u =
       let z = u .not-shut in
       let n : New h d r c (windowOf (course .width) (r .number ∷ course .numbers)) = record {
-        guarded = record { protection = u .genuine .protected-as .is-protected; kind = ap (λ s. protectedAllowed s (r .content)) (a .is-open z) };
+        guarded = record { protection = u .genuine .protected-as .is-protected; kind = inr (a .is-open z) };
         coded = subst (λ x. Protected x d r c) (sym (a .keys-same z)) (u .genuine .protected-as);
         arrived = arrivedOf (course .width) (r .number ∷ course .numbers);
         accepted = ap (λ w. acceptOf w (r .number)) (a .window-same z) ∙ due-new (course .width) (a .held) (course .numbers) (r .number) (u .not-before) (u .recent);

@@ -1,26 +1,20 @@
 -- The refusals that turn on the past, in a run from fresh. The idea: what a row says of the connection's fields is, in a run from fresh, what
 -- the history says (`Kept`); so each row that gives one of these refusals says it of the history, and the other way round.
-use mathlib.Core.Path.{_≡_, refl, sym, _∙_, ap, ap₂, subst}
-use mathlib.Core.Logic.{_↔_, _⊎_, inl, inr, _≢_}
+use mathlib.Core.Path.{_≡_, refl, sym, _∙_, ap, subst}
+use mathlib.Core.Logic.{_↔_, inr}
 use mathlib.Core.Bool.{Bool, true, false}
-use mathlib.Core.List.{List, [], _∷_, _++_}
+use mathlib.Core.List.{List, [], _∷_}
 use Prim.Native.Nat.{ℕ, _+_, _≤_, _<_}
 use native.Mathlib.Omega.{arith}
-use lib.ListN.{length}
-use lib.Dec.{lit<, leb}
-use borrow.Author.Tests.{le-leb, lt-leb, leb-true, leb-false}
-use Rattle.digest.specs.Pick.{pick}
-use Rattle.record.specs.Window.{acceptOf, tooOld}
-use Rattle.record.specs.History.{windowOf, accepted, highestOf, judgedOf as judgedIn}
+use Rattle.record.specs.Window.{acceptOf}
+use Rattle.record.specs.History.{highestOf, judgedOf as judgedIn}
 use Rattle.record.specs.declared.header.Content.the-variants as C
 use Rattle.record.specs.declared.reader.Record.{Record}
-use Rattle.record.specs.declared.window.Acceptance.{Acceptance}
 use Rattle.record.specs.declared.window.Acceptance.the-variants as A
 use Rattle.record.proofs.Histories.{highest-in, accepted-le, old-means, old-when, repeated-means, repeated-when, all-below, below-all, held-some}
 use Rattle.message.specs.Alert.{alertOf}
 use Rattle.message.specs.Finished.{judgedOf}
 use Rattle.message.specs.declared.alert.Alert.{Alert}
-use Rattle.message.specs.declared.alert.Reading.{Reading}
 use Rattle.message.specs.declared.alert.Reading.the-variants as R
 use Rattle.message.specs.declared.finished.Verified.the-variants as F
 use Rattle.connection.specs.Calls.{sessionOf}
@@ -34,20 +28,20 @@ use Rattle.connection.specs.declared.answer.Judged.{Judged}
 use Rattle.connection.specs.Handshake.{}
 use Rattle.connection.specs.declared.handshake.Handshake.{Handshake}
 use Rattle.connection.specs.declared.handshake.Session.{Session}
+use Rattle.demands.specs.Seen.{seenIn}
 use Rattle.demands.specs.Runs.{freshWith, freshOne}
-use Rattle.record.specs.declared.keys.Keys.{Keys}
 use Rattle.demands.specs.Genuine.{Genuine, Protected, RecordOf, keysOf}
-use Rattle.demands.specs.Table.{Row, ended, Guarded, Hears}
-use Rattle.demands.specs.Table.{row-ended, row-returned, row-not-allowed, row-not-first, row-reply, row-hello-malformed, row-unacceptable, row-resent, row-change, row-change-malformed, row-clear-malformed, row-checksum, row-clear-warning, row-clear-critical, row-clear-fatal, row-forged, row-old, row-repeated, row-malformed, row-data, row-warning, row-critical, row-barred, row-open, row-again, row-wrong-finished}
-use Rattle.demands.specs.Events.{Event, AllSound, Happened, after, history}
+use Rattle.demands.specs.Table.{Row, Guarded}
+use Rattle.demands.specs.Table.{row-ended, row-returned, row-not-allowed, row-reply, row-hello-malformed, row-unacceptable, row-resent, row-change, row-change-malformed, row-clear-malformed, row-checksum, row-clear-warning, row-clear-critical, row-clear-fatal, row-forged, row-old, row-repeated, row-malformed, row-data, row-warning, row-critical, row-barred, row-open, row-again, row-wrong-finished}
+use Rattle.demands.specs.Events.{Happened, after, history}
 use Rattle.demands.specs.Past.{keysIn, expectedIn, acceptedIn, barredIn}
 use Rattle.connection.specs.Sent.{matchesOf}
 use Rattle.demands.specs.LeftOut.{Without}
-use Rattle.demands.specs.Acts.{Act, SoundActs, behind}
+use Rattle.demands.specs.Acts.{behind}
 use Rattle.demands.specs.Lives.{Lives, noLives, livesOf}
 use Rattle.connection.specs.declared.connection.Connection.{Connection}
 use Rattle.demands.specs.InRuns.{TooOldFor, RepeatedIn, ProtectedExactly, ProtectedInRuns, WrongFinishedInRuns, LeavesOutOfRuns}
-use Rattle.demands.proofs.Genuine.{true-false}
+use Rattle.demands.proofs.States.{ended}
 use Rattle.demands.proofs.Table.{row-of, row-is}
 use Rattle.demands.proofs.Kept.{live, protected-live}
 use Rattle.demands.proofs.Finished.{Progress, progress-all, progress-fresh, keys-are, expected-is}
@@ -93,7 +87,6 @@ module _ (h : Handshake) (sent : SentRecords) (random d : List ℕ) (r : Record)
   facts (row-ended e) = tt
   facts (row-returned q) = tt
   facts (row-not-allowed e b n) = tt
-  facts (row-not-first b i y) = tt
   facts (row-reply plan g e) = tt
   facts (row-hello-malformed fault g e) = tt
   facts (row-unacceptable condition g e) = tt
@@ -135,7 +128,7 @@ for-old width numbers s o = reached (o .n) (highestOf numbers) (o .far) (accepte
     reached n m a b = omega arith
 
 module _ (session : Session) {width : ℕ} (past : List Happened) (h : Handshake) (p : Progress session width past h) (sent : SentRecords) (random d : List ℕ) (r : Record) where
-  module _ (at : RecordOf d r) (g : Guarded h r) where
+  module _ (at : RecordOf d r) (g : Guarded (h .state) (seenIn d r)) where
     l : barredIn past ≡ false
     l = live session past h (p .kept) (protected-live (h .state) (r .content) (g .kind))
 
@@ -198,7 +191,7 @@ module _ (session : Session) {width : ℕ} (past : List Happened) (h : Handshake
   not-barred : (b : Bool) → barredIn past ≡ b → judgedRecord h sent random d r .answer ≡ W.Refused X.WrongFinished → barredIn past ≡ false
   not-barred false f e = f
   not-barred true f e =
-      let z : W.Refused X.Ended ≡ W.Refused X.WrongFinished = sym (ap (λ j. j .answer) (row-is h sent random d r (row-ended (ap ended (p .kept .barred-is f .0))))) ∙ e in
+      let z : W.Refused X.Ended ≡ W.Refused X.WrongFinished = sym (ap (λ j. j .answer) (row-is h sent random d r (row-ended (inr (p .kept .barred-is f .0))))) ∙ e in
       let n : _≡_ {A = ℕ} 0 1 = cc in
       absurd (omega arith)
 

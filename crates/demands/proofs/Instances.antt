@@ -1,13 +1,12 @@
 -- The premises are met by the worked handshake.
-use mathlib.Core.Path.{_≡_, refl, sym, _∙_, ap, ap₂, subst}
-use mathlib.Core.Logic.{_⊎_, inl, inr, _≢_}
-use mathlib.Core.Bool.{Bool, true, false}
+use mathlib.Core.Path.{_≡_, refl, sym, _∙_, ap, subst}
+use mathlib.Core.Logic.{inl, inr, _≢_}
+use mathlib.Core.Bool.{true, false}
 use mathlib.Core.List.{List, [], _∷_, _++_}
-use Prim.Native.Nat.{ℕ, suc, _+_, _≤_, _<_}
+use Prim.Native.Nat.{ℕ, _+_, _≤_}
 use native.Mathlib.Omega.{arith}
 use lib.ListN.{length, length-append, getD}
 use lib.Dec.{lit≤}
-use Rattle.digest.specs.Mac.{sizeOf}
 use Rattle.record.specs.Datagram.{Framing, framed, framingOf}
 use Rattle.record.specs.declared.header.Content.the-variants as C
 use Rattle.record.specs.declared.reader.Record.{Record}
@@ -25,17 +24,17 @@ use Rattle.connection.specs.declared.state.State.the-variants as S
 use Rattle.connection.specs.declared.answer.Answer.the-variants as W
 use Rattle.connection.specs.declared.calls.Outcome.the-variants as O
 use Rattle.connection.specs.declared.handshake.Handshake.{Handshake}
-use Rattle.demands.specs.Runs.{send-data, send-alert, stepOf, freshWith, freshOne}
+use Rattle.demands.specs.Runs.{stepOf, freshOne}
 use Rattle.record.specs.declared.keys.Keys.{Keys}
-use Rattle.demands.specs.Genuine.{Genuine, RecordOf, keysOf}
-use Rattle.demands.specs.Table.{Row, New, row-barred, Hears}
+use Rattle.demands.specs.Genuine.{keysOf}
+use Rattle.demands.specs.Table.{Row, row-barred, Hears}
 use Rattle.demands.specs.Calls.{mayAlert, data-sent, alert-sent}
-use Rattle.demands.specs.Events.{Event, took, Sound, AllSound, next, after}
+use Rattle.demands.specs.Events.{Event, took, after}
 use Rattle.demands.specs.Past.{isData}
 use Rattle.demands.specs.LeftOut.{NoneGenuine}
-use Rattle.demands.specs.Traps.{lastProtected, JustOpen}
+use Rattle.demands.specs.Traps.{lastProtected}
 use Rattle.demands.specs.Example.{exampleId, exampleSecret, exampleWidth, exampleRandom, exampleOut, exampleData, shaHello, shaPlan, exampleHello}
-use Rattle.demands.specs.Instances.{exampleFresh, OpenRun, Instances}
+use Rattle.demands.specs.Instances.{exampleFresh, Instances}
 use Rattle.demands.proofs.Genuine.{true-false}
 use Rattle.demands.proofs.Table.{row-is}
 use Rattle.demands.proofs.Calls.{call-is}

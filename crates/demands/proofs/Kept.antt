@@ -3,21 +3,19 @@
 use mathlib.Core.Path.{_≡_, refl, sym, _∙_, ap, ap₂, subst}
 use mathlib.Core.Logic.{_⊎_, inl, inr, _≢_}
 use mathlib.Core.Bool.{Bool, true, false}
-use mathlib.Core.List.{List, [], _∷_, _++_, map}
-use Prim.Native.Nat.{ℕ, zero, suc, _+_, _-_, _≤_, _<_}
+use mathlib.Core.List.{List, [], _∷_}
+use Prim.Native.Nat.{ℕ, _+_, _-_}
 use native.Mathlib.Omega.{arith}
 use lib.ListN.{length, take, replicate}
-use lib.Dec.{lit<}
 use lib.Seq.{take-at}
 use Rattle.digest.specs.Pick.{pick}
 use Rattle.digest.specs.Bytes.{laidOver}
-use Rattle.record.specs.Window.{acceptOf, tooOld, emptied, Held}
-use Rattle.record.specs.History.{windowOf, arrivedOf, accepted, highestOf, judgedOf}
+use Rattle.record.specs.Window.{acceptOf, emptied, Held}
+use Rattle.record.specs.History.{windowOf, accepted}
 use Rattle.record.specs.declared.header.Content.{Content}
 use Rattle.record.specs.declared.header.Content.the-variants as C
 use Rattle.record.specs.declared.reader.Record.{Record}
 use Rattle.record.specs.declared.window.Window.{Window}
-use Rattle.record.specs.declared.window.Acceptance.{Acceptance}
 use Rattle.record.specs.declared.window.Acceptance.the-variants as A
 use Rattle.record.proofs.Histories.{meaning, fresh-means, new-means}
 use Rattle.message.specs.Acceptance.{heardOf}
@@ -25,10 +23,9 @@ use Rattle.message.specs.declared.alert.Description.{Description}
 use Rattle.message.specs.declared.acceptance.Plan.{Plan}
 use Rattle.message.specs.declared.acceptance.Heard.the-variants as H
 use Rattle.connection.specs.Calls.{sessionOf}
-use Rattle.digest.specs.declared.mac.Mac.{Mac}
 use Rattle.connection.specs.Handshake.{withState, withWindow, barred, reopened, nothingKept, noSession, keptHello, keptReply, planted}
-use Rattle.connection.specs.Judge.{judgedRecord, fragmentOf}
-use Rattle.connection.specs.Reply.{answeredWith, replyTo, padTo}
+use Rattle.connection.specs.Judge.{fragmentOf}
+use Rattle.connection.specs.Reply.{answeredWith, replyTo}
 use Rattle.connection.specs.declared.sent.SentRecords.{SentRecords}
 use Rattle.connection.specs.Send.{nextProtected, nextAlert, senderOf, alertBody, afterAlert}
 use Rattle.connection.specs.declared.state.State.{State}
@@ -40,18 +37,19 @@ use Rattle.connection.specs.declared.answer.Answer.the-variants as W
 use Rattle.connection.specs.declared.answer.Judged.{Judged}
 use Rattle.connection.specs.declared.handshake.Handshake.{Handshake}
 use Rattle.connection.specs.declared.handshake.Session.{Session}
-use Rattle.demands.specs.Runs.{Call, send-data, send-alert, close, start, Step, stepOf}
-use Rattle.demands.specs.Table.{Row, ended, protectedAllowed, Hears, New, Guarded, Greets, isHello}
-use Rattle.demands.specs.Table.{row-ended, row-returned, row-not-allowed, row-not-first, row-reply, row-hello-malformed, row-unacceptable, row-resent, row-change, row-change-malformed, row-clear-malformed, row-checksum, row-clear-warning, row-clear-critical, row-clear-fatal, row-forged, row-old, row-repeated, row-malformed, row-data, row-warning, row-critical, row-barred, row-open, row-again, row-wrong-finished}
+use Rattle.demands.specs.Seen.{seenIn}
+use Rattle.demands.specs.Runs.{send-data, send-alert, close, start, Step, stepOf}
+use Rattle.demands.specs.Table.{Row, Hears, New, Greets}
+use Rattle.demands.specs.Table.{row-ended, row-returned, row-not-allowed, row-reply, row-hello-malformed, row-unacceptable, row-resent, row-change, row-change-malformed, row-clear-malformed, row-checksum, row-clear-warning, row-clear-critical, row-clear-fatal, row-forged, row-old, row-repeated, row-malformed, row-data, row-warning, row-critical, row-barred, row-open, row-again, row-wrong-finished}
 use Rattle.demands.specs.Calls.{CallRow, data-16, data-7, data-8, data-15, data-6, data-sent, alert-16, alert-7, alert-8, alert-15, alert-6, alert-sent, close-7, close-done, start-7, start-8, start-done}
 use Rattle.demands.specs.Refusals.{writtenBy}
-use Rattle.demands.specs.Events.{Event, took, sending, alerting, closing, starting, Sound, AllSound, Happened, answered, wrote, closed, started, refused, ifDone, next, happening, after, history}
-use Rattle.demands.specs.Past.{greeting, isReply, isSpec, isBarred, marks, lastReply, keptGreeting, agreedFor, agreedAs, helloAs, replyFor, replyHeard, protectedNext, nextClearNumber, acceptedIn, barredIn, agreedOf, nothingAgreed, Agreed}
+use Rattle.demands.specs.Events.{Event, took, sending, alerting, closing, starting, Happened, answered, wrote, closed, started, refused, ifDone, next, happening, after, history}
+use Rattle.demands.specs.Past.{greeting, isReply, isSpec, isBarred, marks, lastReply, keptGreeting, agreedFor, agreedAs, helloAs, replyFor, replyHeard, protectedNext, nextClearNumber, acceptedIn, barredIn, agreedOf, nothingAgreed}
 use Rattle.demands.specs.Runs.{freshWith}
 use Rattle.demands.specs.Kept.{KeptAs, KeptIsWhatHappened}
+use Rattle.demands.proofs.States.{ended}
 use Rattle.demands.proofs.Genuine.{true-false}
 use Rattle.demands.proofs.Table.{row-of}
-use Rattle.demands.proofs.Changes.{hello-clear}
 use Rattle.demands.proofs.Calls.{call-of, sent-alone}
 use Rattle.demands.proofs.Refusals.{outcomeIn}
 use Rattle.connection.specs.Connection.{alone}
@@ -69,13 +67,9 @@ pub hears-live : (s : State) → Hears s → ended s ≡ false
 hears-live s (inl e) = ap ended e
 hears-live s (inr e) = ap ended e
 
-pub protected-live : (s : State) (c : Content) → protectedAllowed s c ≡ true → ended s ≡ false
-protected-live S.Idle c e = refl
-protected-live S.Replied c e = refl
-protected-live S.Spec c e = refl
-protected-live S.Open c e = refl
-protected-live S.Closed c e = true-false false e refl
-protected-live S.Barred c e = true-false false e refl
+pub protected-live : (s : State) (c : Content) → ((s ≡ S.Spec) × ((c ≡ C.Alert) ⊎ (c ≡ C.Handshake))) ⊎ (s ≡ S.Open) → ended s ≡ false
+protected-live s c (inl (e, k)) = ap ended e
+protected-live s c (inr e) = ap ended e
 
 pub greets-live : (h : Handshake) (d : List ℕ) (r : Record) → (h .state ≡ S.Idle) ⊎ (Hears (h .state) × (fragmentOf d r ≢ keptHello h)) → ended (h .state) ≡ false
 greets-live h d r (inl e) = ap ended e
@@ -175,7 +169,7 @@ module _ (session : Session) {width : ℕ} (past : List Happened) (h : Handshake
         kept-by (withState (withWindow h w) s) a nr nb refl refl refl refl (window-marked c w n a ns m)
         (λ f. true-false (barredIn past) f (live (protected-live (h .state) (r .content) (n .guarded .kind))))
 
-    replied : (plan : Plan) → Greets h d r → heardOf (fragmentOf d r) (h .id) ≡ H.Accepted plan
+    replied : (plan : Plan) → Greets h (seenIn d r) → heardOf (fragmentOf d r) (h .id) ≡ H.Accepted plan
         → KeptAs session width (answered random d r (W.Reply (length (replyTo (planted h) random (fragmentOf d r) plan))) ∷ past) (answeredWith h random (fragmentOf d r) plan)
     unfolding answeredWith lastReply keptGreeting protectedNext nextClearNumber barredIn
     replied plan g e =
@@ -220,15 +214,14 @@ module _ (session : Session) {width : ℕ} (past : List Happened) (h : Handshake
     pub by-row : {j : Judged} → Row h sent random d r j → KeptAs session width (answered random d r (j .answer) ∷ past) (j .handshake)
     by-row (row-ended e) = refused-by X.Ended refl
     by-row (row-returned q) =
-        clear-by (W.Resent (length (keptReply h))) h refl refl refl (hello-clear h sent random d r (q .hello)) refl refl refl refl refl (ap ended (q .is-open))
+        clear-by (W.Resent (length (keptReply h))) h refl refl refl (q .hello .clear) refl refl refl refl refl (ap ended (q .is-open))
     by-row (row-not-allowed e a n) = refused-by X.NotAllowed refl
-    by-row (row-not-first a i z) = refused-by X.NotAllowed refl
     by-row (row-reply plan g e) = replied plan g e
     by-row (row-hello-malformed fault g e) =
-        clear-by (W.Refused X.Malformed) h refl refl refl (hello-clear h sent random d r (g .hello)) refl refl refl refl refl (greets-live h d r (g .another))
+        clear-by (W.Refused X.Malformed) h refl refl refl (g .hello .clear) refl refl refl refl refl (greets-live h d r (g .another))
     by-row (row-unacceptable condition g e) = refused-by X.Unacceptable refl
     by-row (row-resent s i z e) =
-        clear-by (W.Resent (length (keptReply h))) h refl refl refl (hello-clear h sent random d r i) refl refl refl refl refl (hears-live (h .state) s)
+        clear-by (W.Resent (length (keptReply h))) h refl refl refl (i .clear) refl refl refl refl refl (hears-live (h .state) s)
     by-row (row-change s p c e) =
         kept-by (withState (withWindow h (emptied (h .protection .window))) S.Spec) W.Spec refl refl refl refl refl refl fresh-again (λ f. true-false (barredIn past) f (live (ap ended s)))
     by-row (row-change-malformed s p c e) = clear-by (W.Refused X.Malformed) h refl refl refl p refl refl refl refl refl (ap ended s)

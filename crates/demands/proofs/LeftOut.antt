@@ -14,7 +14,7 @@ use Rattle.record.specs.Datagram.{Framing, framed, faulty, framingOf}
 use Rattle.message.specs.declared.acceptance.Plan.{Plan}
 use Rattle.record.specs.declared.reader.Record.{Record}
 use Rattle.connection.specs.Answer.{refusing, handedOf}
-use Rattle.connection.specs.Handshake.{withState, withWindow, keptReply, newcomerTo}
+use Rattle.connection.specs.Handshake.{keptReply, newcomerTo}
 use Rattle.connection.specs.Asked.{whomOf, askedOf}
 use Rattle.connection.specs.Told.{startedTo, leftBy, toldBy, toldRecord}
 use Rattle.connection.specs.Reply.{answeredWith}
@@ -22,7 +22,7 @@ use Rattle.connection.specs.Sent.{withRecord, sumOf}
 use Rattle.connection.specs.Judge.{judgedRecord, fragmentOf}
 use Rattle.connection.specs.Receive.{slot, slotsOf, endOf, answersOf, wholeOf, runOf}
 use Rattle.connection.specs.Send.{nextAlert, alertBody, senderOf, clearSender, clearBack, afterClear, afterSend}
-use Rattle.connection.specs.Tally.{bumped, countedAnswer, countedRefusal, countedFirst, countedOf}
+use Rattle.connection.specs.Tally.{bumped, countedAnswer, countedRefusal, countedFirst}
 use Rattle.connection.specs.declared.state.State.{State}
 use Rattle.connection.specs.declared.state.State.the-variants as S
 use Rattle.connection.specs.declared.refusal.Refusal.{Refusal}
@@ -37,17 +37,19 @@ use Rattle.connection.specs.declared.told.Told.{Told}
 use Rattle.connection.specs.declared.connection.Connection.{Connection}
 use Rattle.connection.specs.declared.handshake.Handshake.{Handshake}
 use Rattle.connection.specs.declared.tally.Tally.{Tally}
+use Rattle.demands.specs.Seen.{seenIn}
 use Rattle.demands.specs.Runs.{Call, receive, send-data, send-alert, close, start, Result, received, sent, called, Step, stepOf, finalOf}
 use Rattle.record.specs.declared.keys.Keys.{Keys}
 use Rattle.demands.specs.Genuine.{Genuine, Protected, RecordOf, keysOf}
-use Rattle.demands.specs.Table.{Row, ended, Hears, New, Greets, Guarded, protectedAllowed}
-use Rattle.demands.specs.Table.{row-ended, row-returned, row-not-allowed, row-not-first, row-reply, row-hello-malformed, row-unacceptable, row-resent, row-change, row-change-malformed, row-clear-malformed, row-checksum, row-clear-warning, row-clear-critical, row-clear-fatal, row-forged, row-old, row-repeated, row-malformed, row-data, row-warning, row-critical, row-barred, row-open, row-again, row-wrong-finished}
-use Rattle.demands.specs.Calls.{Chain, chain-end, chain-more, CallRow, receive-16, receive-6, receive-framing, receive-records, data-16, data-7, data-8, data-15, data-6, data-sent, alert-16, alert-7, alert-8, alert-15, alert-6, alert-sent, close-7, close-done, start-7, start-8, start-done}
+use Rattle.demands.specs.Table.{Row, Hears, Guarded}
+use Rattle.demands.specs.Table.{row-ended, row-returned, row-not-allowed, row-reply, row-hello-malformed, row-unacceptable, row-resent, row-change, row-change-malformed, row-clear-malformed, row-checksum, row-clear-warning, row-clear-critical, row-clear-fatal, row-forged, row-old, row-repeated, row-malformed, row-data, row-warning, row-critical, row-barred, row-open, row-again, row-wrong-finished}
+use Rattle.demands.specs.Calls.{CallRow, data-16, data-7, data-8, data-15, data-6, data-sent, alert-16, alert-7, alert-8, alert-15, alert-6, alert-sent, close-7, close-done, start-7, start-8, start-done}
 use Rattle.demands.specs.Past.{isData}
 use Rattle.demands.specs.Asked.{RightBeside, Asks, asks-protected, sentWith}
 use Rattle.demands.specs.Events.{next}
 use Rattle.demands.specs.Acts.{Act, comes, sends, alerts, closes, starts, recordsIn, actsIn, eventOf, leaves, behind}
-use Rattle.demands.specs.LeftOut.{NoneGenuine, GoesOn, Without, ends, both, but, handedAt, handedOver, SameOpen, LeavesOutRecords, Unreplaced, OpenKept, Continues, LeftOut, end, stays, left, handedParts, answersIn, datagramOf, handedBy, talliedIn, talliedBy, ButForged, SameWithout, LeavesOut}
+use Rattle.demands.specs.LeftOut.{NoneGenuine, GoesOn, Without, ends, both, but, handedAt, handedOver, SameOpen, LeavesOutRecords, Unreplaced, OpenKept, Continues, LeftOut, end, stays, left, handedParts, answersIn, datagramOf, handedBy, talliedIn, talliedBy, ButForged, LeavesOut}
+use Rattle.demands.proofs.States.{ended, ended-over}
 use Rattle.demands.proofs.Genuine.{true-false}
 use Rattle.demands.proofs.Table.{row-of, row-is, guarded-is}
 use Rattle.demands.proofs.Asked.{asks-of, asks-is, told-by, tells-is, tells-seven}
@@ -75,7 +77,6 @@ module _ (k : Keys) (h : Handshake) (sent : SentRecords) (random d : List ℕ) (
   open-more s e (row-ended x) = inl (s, e)
   open-more s e (row-returned x) = inl (s, e)
   open-more s e (row-not-allowed x o a) = inl (s, e)
-  open-more s e (row-not-first a i z) = inl (s, e)
   open-more s e (row-reply plan g x) = greets-not-open (h .state) (g .another) s
   open-more s e (row-hello-malformed fault g x) = inl (s, e)
   open-more s e (row-unacceptable condition g x) = inl (s, e)
@@ -101,7 +102,7 @@ module _ (k : Keys) (h : Handshake) (sent : SentRecords) (random d : List ℕ) (
 
   -- an ended connection gives 7
   pub seven : ended (h .state) ≡ true → judgedRecord h sent random d r ≡ refusing X.Ended h
-  seven e = row-is h sent random d r (row-ended e)
+  seven e = row-is h sent random d r (row-ended (ended-over (h .state) e))
 
   record-more : Settled k h → Settled k (judgedRecord h sent random d r .handshake)
   unfolding Settled
@@ -286,7 +287,6 @@ module _ (h : Handshake) (sent : SentRecords) (random d : List ℕ) (r : Record)
     open-noise (row-ended x) = (refl, silent-7)
     open-noise (row-returned q) = (refl, quiet (W.Resent (length (keptReply h))) refl (λ t. refl))
     open-noise (row-not-allowed x a n) = (refl, silent-8)
-    open-noise (row-not-first a i z) = (refl, silent-8)
     open-noise (row-reply plan g x) = greets-not-open (h .state) (g .another) s
     open-noise (row-hello-malformed fault g x) = greets-not-open (h .state) (g .another) s
     open-noise (row-unacceptable condition g x) = greets-not-open (h .state) (g .another) s
@@ -329,7 +329,6 @@ module _ (h : Handshake) (sent : SentRecords) (random d : List ℕ) (r : Record)
     clear-row (row-ended x) = (silent-7, λ n. n)
     clear-row (row-returned q) = (quiet (W.Resent (length (keptReply h))) refl (λ t. refl), λ n. n)
     clear-row (row-not-allowed x a m) = (silent-8, λ n. n)
-    clear-row (row-not-first a i z) = (silent-8, λ n. n)
     clear-row {j} (row-reply plan g x) = (quiet (j .answer) refl (λ t. refl), λ n. replied-never plan)
     clear-row (row-hello-malformed fault g x) = (quiet (W.Refused X.Malformed) refl (λ t. refl), λ n. n)
     clear-row (row-unacceptable condition g x) = (quiet (W.Refused X.Unacceptable) refl (λ t. refl), λ n. n)
@@ -440,7 +439,7 @@ module _ (k : Keys) (c e : Connection) (same : SameOpen c e) (random d : List �
   one-judgement : c .handshake .state ≡ S.Open → r .protected ≡ true
       → judgedRecord (c .handshake) (c .sent) random d r ≡ judgedRecord (e .handshake) (e .sent) random d r
   one-judgement o p =
-      let g : Guarded (c .handshake) r = record { protection = p; kind = ap (λ s. protectedAllowed s (r .content)) o } in
+      let g : Guarded (c .handshake .state) (seenIn d r) = record { protection = p; kind = inr o } in
       guarded-is (c .handshake) (c .sent) random d r g ∙ sym (guarded-is (c .handshake) (e .sent) random d r g)
       ∙ ap (λ h. judgedRecord h (e .sent) random d r) same
 

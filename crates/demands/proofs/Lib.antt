@@ -1,5 +1,7 @@
 -- The proofs of the demands.
 pub mod Genuine
+pub mod States
+pub mod Rules
 pub mod Table
 pub mod Asked
 pub mod Changes
@@ -34,3 +36,5 @@ pub mod Replaced
 pub mod Fatal
 pub mod Demands
 pub mod Messages
+pub mod Facts
+pub mod Why

@@ -1,9 +1,9 @@
 -- Lives. The idea: each act leaves of both handshakes what one event more of one life leaves; a newcomer is a fresh handshake, since
 -- an open one has the planted session and the width that was given to fresh (`Kept`).
 use mathlib.Core.Path.{_≡_, refl, sym, _∙_, ap, ap₂, subst}
-use mathlib.Core.Logic.{_↔_, _⊎_, inl, inr, _≢_}
+use mathlib.Core.Logic.{_⊎_, inl, inr, _≢_}
 use mathlib.Core.Bool.{Bool, true, false}
-use mathlib.Core.List.{List, [], _∷_, _++_}
+use mathlib.Core.List.{List, [], _∷_}
 use Prim.Native.Nat.{ℕ}
 use native.Mathlib.Omega.{arith}
 use lib.ListN.{length}
@@ -17,14 +17,16 @@ use Rattle.message.specs.declared.alert.Graded.{Graded}
 use Rattle.message.specs.declared.alert.Graded.the-variants as G
 use Rattle.message.specs.declared.alert.Sorted.{Sorted}
 use Rattle.message.specs.declared.alert.Sorted.the-variants as D
-use Rattle.connection.specs.Calls.{sessionOf, closedOf, closedIn, startedOf, startedIn}
+use Rattle.connection.specs.Calls.{sessionOf, closedIn, startedIn}
 use Rattle.connection.specs.Connection.{connectionOf, alone}
-use Rattle.connection.specs.Handshake.{noneStarted, newcomerTo, newHandshake, planted}
+use Rattle.connection.specs.Handshake.{noneStarted, newcomerTo, newHandshake}
 use Rattle.connection.specs.Asked.{underWay, whomOf, askedOf}
 use Rattle.connection.specs.Judge.{judgedRecord}
 use Rattle.connection.specs.Told.{besideOpen, startedTo, leftBy, toldRecord, judgedIn}
 use Rattle.connection.specs.Send.{nextProtected, nextClear, afterSend, afterClear, clearSender, clearBack, sentTo, done, dataSent, dataOutcome, alertSent, alertSentAs, alertOutcome, alertBody, alertRefused, nextAlert}
 use Rattle.connection.specs.Sent.{withRecord, sumOf}
+use Rattle.connection.specs.Reply.{answeredWith}
+use Rattle.connection.specs.declared.sent.SentRecords.{SentRecords}
 use Rattle.connection.specs.declared.state.State.{State}
 use Rattle.connection.specs.declared.state.State.the-variants as S
 use Rattle.connection.specs.declared.asked.Whom.{Whom}
@@ -34,19 +36,20 @@ use Rattle.connection.specs.declared.calls.Outcome.{Outcome}
 use Rattle.connection.specs.declared.calls.Outcome.the-variants as O
 use Rattle.connection.specs.declared.refusal.Refusal.the-variants as X
 use Rattle.connection.specs.declared.send.Sent.{Sent}
-use Rattle.connection.specs.declared.sent.SentRecords.{SentRecords}
 use Rattle.connection.specs.declared.handshake.Handshake.{Handshake}
 use Rattle.connection.specs.declared.connection.Connection.{Connection}
 use Rattle.demands.specs.Runs.{freshWith, freshOne}
-use Rattle.demands.specs.Table.{Hears, ended}
+use Rattle.demands.specs.Table.{Hears, Row}
+use Rattle.demands.specs.Table.{row-ended, row-returned, row-not-allowed, row-reply, row-hello-malformed, row-unacceptable, row-resent, row-change, row-change-malformed, row-clear-malformed, row-checksum, row-clear-warning, row-clear-critical, row-clear-fatal, row-forged, row-old, row-repeated, row-malformed, row-data, row-warning, row-critical, row-barred, row-open, row-again, row-wrong-finished}
 use Rattle.demands.specs.Asked.{Asks, asks-only, asks-its-hello, asks-open-hello, asks-new-hello, asks-clear, asks-clear-alone, asks-right, asks-protected, sentWith}
-use Rattle.demands.specs.Events.{Event, took, sending, alerting, closing, starting, Sound, AllSound, Happened, next, after, history}
+use Rattle.demands.specs.Events.{Event, took, sending, alerting, closing, starting, Sound, AllSound, next, after, history}
 use Rattle.demands.specs.Acts.{Act, comes, sends, alerts, closes, starts, SoundAct, SoundActs, eventOf, leaves, behind}
-use Rattle.demands.specs.Past.{isData, barredIn}
+use Rattle.demands.specs.Past.{isData}
 use Rattle.demands.specs.Kept.{KeptAs}
 use Rattle.demands.specs.Lives.{Lives, noLives, more, openLives, startedLives, newLives, toldLives, moreBeside, clearLives, livesAt, livesOf, besideOf, Lived, LivesHold, LivesSound, lifeOf, AnswersByLives, OnlyAfterFinishedOfOpen}
 use Rattle.demands.proofs.Genuine.{true-false}
-use Rattle.demands.proofs.Asked.{way-hears, idle-never, asks-of, asks-is, told-by}
+use Rattle.demands.proofs.States.{ended}
+use Rattle.demands.proofs.Asked.{way-hears, idle-never, asks-of, told-by}
 use Rattle.demands.proofs.First.{started-hears}
 use Rattle.demands.proofs.Table.{row-of}
 use Rattle.demands.proofs.Kept.{live, kept-all, kept-fresh}
@@ -93,6 +96,49 @@ hears-not-open s (inr e) z = let y : S.Spec ≡ S.Open = sym e ∙ z in let w : 
 idle-hears-not : {P : Type 0} → Hears S.Idle → P
 idle-hears-not (inl e) = let z : _≡_ {A = ℕ} 0 1 = cc in absurd (omega arith)
 idle-hears-not (inr e) = let z : _≡_ {A = ℕ} 0 1 = cc in absurd (omega arith)
+
+-- ---- a handshake that is under way stays so, or opens or ends: no row leads back to Idle
+
+abbrev idleIs : State → Bool
+idleIs S.Idle = true
+idleIs S.Replied = false
+idleIs S.Spec = false
+idleIs S.Open = false
+idleIs S.Closed = false
+idleIs S.Barred = false
+
+hears-on : (s : State) → Hears s → idleIs s ≡ false
+hears-on s (inl e) = ap idleIs e
+hears-on s (inr e) = ap idleIs e
+
+goes-on : (h : Handshake) (sent : SentRecords) (random d : List ℕ) (r : Record) {j : Judged} → Row h sent random d r j → idleIs (h .state) ≡ false
+    → idleIs (j .handshake .state) ≡ false
+unfolding answeredWith
+goes-on h sent random d r (row-ended o) e = e
+goes-on h sent random d r (row-not-allowed o a n) e = e
+goes-on h sent random d r (row-reply plan g x) e = refl
+goes-on h sent random d r (row-hello-malformed fault g x) e = e
+goes-on h sent random d r (row-unacceptable condition g x) e = e
+goes-on h sent random d r (row-resent s i z x) e = e
+goes-on h sent random d r (row-returned x) e = e
+goes-on h sent random d r (row-change s p c x) e = refl
+goes-on h sent random d r (row-change-malformed s p c x) e = e
+goes-on h sent random d r (row-clear-malformed s p c x) e = e
+goes-on h sent random d r (row-checksum a s p c x n) e = e
+goes-on h sent random d r (row-clear-warning a s p c x k l) e = e
+goes-on h sent random d r (row-clear-critical a s p c x k l) e = refl
+goes-on h sent random d r (row-clear-fatal a s p c x k l) e = refl
+goes-on h sent random d r (row-forged g n) e = e
+goes-on h sent random d r (row-old c g s x) e = e
+goes-on h sent random d r (row-repeated c g s x) e = e
+goes-on h sent random d r (row-malformed c w n m) e = e
+goes-on h sent random d r (row-data c w n x m) e = e
+goes-on h sent random d r (row-warning c w a n x m l) e = e
+goes-on h sent random d r (row-critical c w a n x m l) e = refl
+goes-on h sent random d r (row-barred c w a n x m l) e = refl
+goes-on h sent random d r (row-open c w n s x m) e = refl
+goes-on h sent random d r (row-again c w n s x m) e = e
+goes-on h sent random d r (row-wrong-finished c w n x m) e = refl
 
 -- ---- sends
 
@@ -330,6 +376,22 @@ module _ (id secret : List ℕ) (width : ℕ) (held : Held width) where
             idle-hears-not (subst Hears (ap (λ x. x .state) (v .beside-life ∙ ap (besideOf fresh) e)) s)
         by-life (x ∷ es) e = v .beside-life ∙ ap (besideOf fresh) e ∙ sym (ap (after fresh) e)
 
+    -- so it is not open; and one that has a life is under way
+    not-open : c .started .state ≢ S.Open
+    not-open = told (v .under-way)
+      where
+        told : (l .beside ≡ []) ⊎ Hears (c .started .state) → c .started .state ≢ S.Open
+        told (inl e) z = idle-never (sym (ap (λ x. x .state) (v .beside-life ∙ ap (besideOf fresh) e)) ∙ z)
+        told (inr s) z = hears-not-open (c .started .state) s z
+
+    alive-hears : {x : Event} {es : List Event} → l .beside ≡ x ∷ es → (l .beside ≡ []) ⊎ Hears (c .started .state) → Hears (c .started .state)
+    alive-hears e (inl n) = let z : _≡_ {A = ℕ} 0 1 = cc in absurd (omega arith)
+    alive-hears e (inr s) = s
+
+    still : {state : State} → (l .beside ≡ []) ⊎ Hears (c .started .state) → state ≡ c .started .state → (l .beside ≡ []) ⊎ Hears state
+    still (inl e) z = inl e
+    still (inr s) z = inr (subst Hears (sym z) s)
+
     module _ (random d : List ℕ) (r : Record) where
       abbrev event : Event
       event = took (c .sent) random d r
@@ -342,39 +404,35 @@ module _ (id secret : List ℕ) (width : ℕ) (held : Held width) where
 
       by-open : (s : State) → by A.Open .handshake .state ≡ s
           → Lived fresh (openLives l event s) (connectionOf (by A.Open .handshake) (besideOpen (c .started) s) (sentWith c (by A.Open)))
-      by-open S.Idle e = record { own-life = own-more event; beside-life = refl; only-open = λ _. refl; not-open = idle-never }
-      by-open S.Replied e = record { own-life = own-more event; beside-life = refl; only-open = λ _. refl; not-open = idle-never }
-      by-open S.Spec e = record { own-life = own-more event; beside-life = refl; only-open = λ _. refl; not-open = idle-never }
-      by-open S.Open e = record { own-life = own-more event; beside-life = v .beside-life; only-open = λ n. absurd (n e); not-open = v .not-open }
-      by-open S.Closed e = record { own-life = own-more event; beside-life = refl; only-open = λ _. refl; not-open = idle-never }
-      by-open S.Barred e = record { own-life = own-more event; beside-life = refl; only-open = λ _. refl; not-open = idle-never }
+      by-open S.Idle e = record { own-life = own-more event; beside-life = refl; only-open = λ _. refl; under-way = inl refl }
+      by-open S.Replied e = record { own-life = own-more event; beside-life = refl; only-open = λ _. refl; under-way = inl refl }
+      by-open S.Spec e = record { own-life = own-more event; beside-life = refl; only-open = λ _. refl; under-way = inl refl }
+      by-open S.Open e = record { own-life = own-more event; beside-life = v .beside-life; only-open = λ n. absurd (n e); under-way = v .under-way }
+      by-open S.Closed e = record { own-life = own-more event; beside-life = refl; only-open = λ _. refl; under-way = inl refl }
+      by-open S.Barred e = record { own-life = own-more event; beside-life = refl; only-open = λ _. refl; under-way = inl refl }
 
       by-started : c .handshake .state ≡ S.Open → Hears (c .started .state) → (s : State) → by A.Started .handshake .state ≡ s
           → Lived fresh (startedLives l event s) (startedTo c (by A.Started .handshake) (sentWith c (by A.Started)) s)
       by-started o s S.Idle e =
-          record {
-            own-life = v .own-life;
-            beside-life = beside-event s ∙ sym (beside-more fresh (l .beside) event);
-            only-open = λ n. absurd (n o);
-            not-open = λ z. idle-never (sym e ∙ z);
-          }
+          true-false (idleIs (by A.Started .handshake .state)) (ap idleIs e)
+          (goes-on (askedOf c A.Started) (c .sent) random d r (row-of (askedOf c A.Started) (c .sent) random d r) (hears-on (c .started .state) s))
       by-started o s S.Replied e =
           record {
             own-life = v .own-life;
             beside-life = beside-event s ∙ sym (beside-more fresh (l .beside) event);
             only-open = λ n. absurd (n o);
-            not-open = hears-not-open (by A.Started .handshake .state) (inl e);
+            under-way = inr (inl e);
           }
       by-started o s S.Spec e =
           record {
             own-life = v .own-life;
             beside-life = beside-event s ∙ sym (beside-more fresh (l .beside) event);
             only-open = λ n. absurd (n o);
-            not-open = hears-not-open (by A.Started .handshake .state) (inr e);
+            under-way = inr (inr e);
           }
-      by-started o s S.Open e = record { own-life = beside-event s; beside-life = refl; only-open = λ _. refl; not-open = idle-never }
-      by-started o s S.Closed e = record { own-life = v .own-life; beside-life = refl; only-open = λ _. refl; not-open = idle-never }
-      by-started o s S.Barred e = record { own-life = v .own-life; beside-life = refl; only-open = λ _. refl; not-open = idle-never }
+      by-started o s S.Open e = record { own-life = beside-event s; beside-life = refl; only-open = λ _. refl; under-way = inl refl }
+      by-started o s S.Closed e = record { own-life = v .own-life; beside-life = refl; only-open = λ _. refl; under-way = inl refl }
+      by-started o s S.Barred e = record { own-life = v .own-life; beside-life = refl; only-open = λ _. refl; under-way = inl refl }
 
       newcomer-is : c .handshake .state ≡ S.Open → newcomerTo (c .handshake) ≡ fresh
       newcomer-is o =
@@ -391,10 +449,10 @@ module _ (id secret : List ℕ) (width : ℕ) (held : Held width) where
             own-life = v .own-life;
             beside-life = new-event o;
             only-open = λ n. absurd (n o);
-            not-open = hears-not-open (by A.Newcomer .handshake .state) (way-hears (by A.Newcomer .handshake .state) e);
+            under-way = inr (way-hears (by A.Newcomer .handshake .state) e);
           }
       by-newcomer o false e =
-          record { own-life = v .own-life; beside-life = v .beside-life; only-open = v .only-open; not-open = v .not-open }
+          record { own-life = v .own-life; beside-life = v .beside-life; only-open = v .only-open; under-way = v .under-way }
 
       by-whom : (w : Whom) → whomOf c d r ≡ w → Lived fresh (toldLives l event w (by w .handshake .state)) (leftBy c w (by w))
       by-whom A.Only e =
@@ -402,7 +460,7 @@ module _ (id secret : List ℕ) (width : ℕ) (held : Held width) where
             own-life = own-more event;
             beside-life = v .beside-life;
             only-open = λ _. v .only-open (only-asked c d r (subst (Asks c d r) e (asks-of c d r)) refl);
-            not-open = v .not-open;
+            under-way = v .under-way;
           }
       by-whom A.Open e = by-open (by A.Open .handshake .state) refl
       by-whom A.Started e =
@@ -433,7 +491,7 @@ module _ (id secret : List ℕ) (width : ℕ) (held : Held width) where
           own-life = h ∙ own-more e;
           beside-life = s ∙ v .beside-life;
           only-open = λ n. v .only-open (λ o. n (z ∙ o));
-          not-open = λ o. v .not-open (sym (ap (λ x. x .state) s) ∙ o);
+          under-way = still (v .under-way) (ap (λ x. x .state) s);
         }
 
     sends-more : (bytes out : List ℕ) → Lived fresh (livesAt c l (sends bytes out)) (leaves c (sends bytes out))
@@ -462,23 +520,23 @@ module _ (id secret : List ℕ) (width : ℕ) (held : Held width) where
         → Lived fresh (record { own = l .own; beside = moreBeside es (alerting false level description lent out) }) (clearAlert level description lent out)
     unfolding alertSent
     clear-life level description lent out o [] e =
-        let q = clear-left-beside c lent (length out) (levelOf level) (sortedOf description) o (v .not-open) in
+        let q = clear-left-beside c lent (length out) (levelOf level) (sortedOf description) o not-open in
         let none : c .started ≡ noneStarted = v .beside-life ∙ ap (besideOf fresh) e in
         record {
           own-life = q .1 ∙ v .own-life;
           beside-life = q .0 ∙ ap (λ h. next h (alerting false level description lent out)) none ∙ none-next level description lent out;
           only-open = λ _. refl;
-          not-open = λ z. v .not-open (sym (q .2) ∙ z);
+          under-way = inl refl;
         }
     clear-life level description lent out o (x ∷ es) e =
         let event : Event = alerting false level description lent out in
-        let q = clear-left-beside c lent (length out) (levelOf level) (sortedOf description) o (v .not-open) in
+        let q = clear-left-beside c lent (length out) (levelOf level) (sortedOf description) o not-open in
         let lives : c .started ≡ after fresh (x ∷ es) = v .beside-life ∙ ap (besideOf fresh) e in
         record {
           own-life = q .1 ∙ v .own-life;
           beside-life = q .0 ∙ ap (λ h. next h event) lives ∙ sym (after-more fresh (x ∷ es) event);
           only-open = λ n. absurd (n (ap (λ h. h .state) (q .1) ∙ o));
-          not-open = λ z. v .not-open (sym (q .2) ∙ z);
+          under-way = inr (subst Hears (sym (q .2)) (alive-hears e (v .under-way)));
         }
 
     clear-more : (level description : ℕ) (lent out : List ℕ) (s : State) → c .handshake .state ≡ s
@@ -500,17 +558,17 @@ module _ (id secret : List ℕ) (width : ℕ) (held : Held width) where
     closed-life s e = ap (λ x. closedIn (alone (c .handshake)) x .connection .handshake) (sym e) ∙ own-more closing
 
     closes-more : (s : State) → c .handshake .state ≡ s → Lived fresh (record { own = more (l .own) closing; beside = [] }) (closedIn c s .connection)
-    closes-more S.Idle e = record { own-life = closed-life S.Idle e; beside-life = refl; only-open = λ _. refl; not-open = idle-never }
-    closes-more S.Replied e = record { own-life = closed-life S.Replied e; beside-life = refl; only-open = λ _. refl; not-open = idle-never }
-    closes-more S.Spec e = record { own-life = closed-life S.Spec e; beside-life = refl; only-open = λ _. refl; not-open = idle-never }
-    closes-more S.Open e = record { own-life = closed-life S.Open e; beside-life = refl; only-open = λ _. refl; not-open = idle-never }
-    closes-more S.Closed e = record { own-life = closed-life S.Closed e; beside-life = refl; only-open = λ _. refl; not-open = idle-never }
+    closes-more S.Idle e = record { own-life = closed-life S.Idle e; beside-life = refl; only-open = λ _. refl; under-way = inl refl }
+    closes-more S.Replied e = record { own-life = closed-life S.Replied e; beside-life = refl; only-open = λ _. refl; under-way = inl refl }
+    closes-more S.Spec e = record { own-life = closed-life S.Spec e; beside-life = refl; only-open = λ _. refl; under-way = inl refl }
+    closes-more S.Open e = record { own-life = closed-life S.Open e; beside-life = refl; only-open = λ _. refl; under-way = inl refl }
+    closes-more S.Closed e = record { own-life = closed-life S.Closed e; beside-life = refl; only-open = λ _. refl; under-way = inl refl }
     closes-more S.Barred e =
         record {
           own-life = closed-life S.Barred e;
           beside-life = v .beside-life ∙ ap (besideOf fresh) (v .only-open (λ z. let y : S.Barred ≡ S.Open = sym e ∙ z in let w : _≡_ {A = ℕ} 0 1 = cc in omega arith));
           only-open = λ _. refl;
-          not-open = v .not-open;
+          under-way = inl refl;
         }
 
     start-life : (s : State) → c .handshake .state ≡ s → startedIn (alone (c .handshake)) s .connection .handshake ≡ after fresh (more (l .own) starting)
@@ -518,7 +576,7 @@ module _ (id secret : List ℕ) (width : ℕ) (held : Held width) where
 
     unstarted : (s : State) → c .handshake .state ≡ s → startedIn (alone (c .handshake)) s .connection .handshake ≡ c .handshake
         → Lived fresh (record { own = more (l .own) starting; beside = l .beside }) c
-    unstarted s e q = record { own-life = sym q ∙ start-life s e; beside-life = v .beside-life; only-open = v .only-open; not-open = v .not-open }
+    unstarted s e q = record { own-life = sym q ∙ start-life s e; beside-life = v .beside-life; only-open = v .only-open; under-way = v .under-way }
 
     starts-more : (s : State) → c .handshake .state ≡ s → Lived fresh (record { own = more (l .own) starting; beside = l .beside }) (startedIn c s .connection)
     starts-more S.Idle e = unstarted S.Idle e refl
@@ -527,7 +585,7 @@ module _ (id secret : List ℕ) (width : ℕ) (held : Held width) where
     starts-more S.Open e = unstarted S.Open e refl
     starts-more S.Closed e =
         let none : l .beside ≡ [] = v .only-open (λ z. let y : S.Closed ≡ S.Open = sym e ∙ z in let w : _≡_ {A = ℕ} 0 1 = cc in omega arith) in
-        record { own-life = start-life S.Closed e; beside-life = sym (ap (besideOf fresh) none); only-open = λ _. none; not-open = idle-never }
+        record { own-life = start-life S.Closed e; beside-life = sym (ap (besideOf fresh) none); only-open = λ _. none; under-way = inl none }
     starts-more S.Barred e = unstarted S.Barred e refl
 
     pub act-more : (a : Act) → Lived fresh (livesAt c l a) (leaves c a)
@@ -545,7 +603,7 @@ module _ (id secret : List ℕ) (width : ℕ) (held : Held width) where
 
   pub lived-fresh : Lived fresh noLives (freshOne id secret width)
   unfolding after
-  lived-fresh = record { own-life = refl; beside-life = refl; only-open = λ _. refl; not-open = idle-never }
+  lived-fresh = record { own-life = refl; beside-life = refl; only-open = λ _. refl; under-way = inl refl }
 
 pub lives-hold-at : (id secret : List ℕ) (width : ℕ) → Held width → (acts : List Act)
     → Lived (freshWith id secret width) (livesOf (freshOne id secret width) noLives acts) (behind (freshOne id secret width) acts)

@@ -3,15 +3,12 @@ use mathlib.Core.Path.{_≡_, refl, sym, ap, _∙_}
 use mathlib.Core.Bool.{Bool, true, false}
 use mathlib.Core.List.{List, [], _∷_, _++_}
 use Prim.Native.Nat.{ℕ}
-use lib.ListN.{length}
-use Rattle.digest.specs.Pick.{pick}
-use Rattle.connection.specs.Receive.{receivedOf, outputOf, wholeOf}
+use Rattle.connection.specs.Receive.{wholeOf}
 use Rattle.connection.specs.declared.connection.Connection.{Connection}
-use Rattle.gather.specs.Gatherer.{Left, datagramOf}
-use Rattle.short.specs.Message.{Leaves, isShown, gatheredOf, takenOf, heardOf, messageOf}
-use Rattle.demands.specs.Runs.{Call, receive, Step, receivedAs, stepOf, stepsOf, finalOf}
+use Rattle.short.specs.Message.{isShown, takenOf, heardOf, messageOf}
+use Rattle.demands.specs.Runs.{Call, stepOf, stepsOf, finalOf}
 use Rattle.demands.specs.LeftOut.{LeavesOut}
-use Rattle.demands.specs.Messages.{Posted, message, dropping, on-connection, Gathering, gathers, gatheringAfter, callsAt, callsIn, Link, takes, linkAfter, linkEnd, stepsAt, stepsIn, SameRun, MessagesRun, MessagesLeaveOut}
+use Rattle.demands.specs.Messages.{Posted, message, dropping, on-connection, Gathering, gathers, gatheringAfter, callsAt, callsIn, Link, linkAfter, linkEnd, stepsAt, stepsIn, MessagesRun, MessagesLeaveOut}
 use Rattle.demands.proofs.LeftOut.{leaves-out}
 
 -- ---- runs of calls joined

@@ -1,9 +1,8 @@
 -- A run of calls is a run of events.
-use mathlib.Core.Path.{_≡_, refl, sym, _∙_, ap, ap₂, subst}
+use mathlib.Core.Path.{_≡_, refl, sym, _∙_, ap, ap₂}
 use mathlib.Core.Bool.{Bool, true, false}
 use mathlib.Core.List.{List, [], _∷_, _++_, map, append-assoc, append-nil}
-use Prim.Native.Nat.{ℕ, zero, suc, _+_, _-_, _≤_}
-use native.Mathlib.Omega.{arith}
+use Prim.Native.Nat.{ℕ, suc, _+_, _-_}
 use lib.ListN.{length, getD, replicate}
 use lib.Dec.{eqb, ltb}
 use borrow.Author.Tests.{eq-eqb, ne-eqb, lt-ltb, le-ltb, eqb-true}
@@ -16,14 +15,13 @@ use Rattle.connection.specs.declared.answer.Answer.{Answer}
 use Rattle.connection.specs.declared.answer.Answer.the-variants as W
 use Rattle.connection.specs.declared.answer.Slot.{Slot}
 use Rattle.connection.specs.declared.connection.Connection.{Connection}
-use Rattle.connection.specs.declared.handshake.Handshake.{Handshake}
 use Rattle.demands.specs.Runs.{Call, receive, send-data, send-alert, close, start, Step, stepOf, finalOf}
 use Rattle.demands.specs.Genuine.{RecordOf}
 use Rattle.demands.specs.Calls.{CallRow, receive-16, receive-6, receive-framing, receive-records}
 use Rattle.demands.specs.Acts as Q
 use Rattle.demands.specs.Acts.{Act, comes, SoundActs, recordsIn, actsIn, actsOf, leaves}
 use Rattle.demands.specs.LeftOut.{answersIn}
-use Rattle.demands.specs.Places.{RunsAreActs, answerOf, AnswersInPlace}
+use Rattle.demands.specs.Places.{RunsAreActs, AnswersInPlace}
 use Rattle.demands.proofs.Calls.{by-chain, call-of, call-is, chain-of, chain-is}
 
 pub behind-more : (c : Connection) (xs ys : List Act) → Q.behind c (xs ++ ys) ≡ Q.behind (Q.behind c xs) ys

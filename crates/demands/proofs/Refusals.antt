@@ -1,14 +1,13 @@
 -- A refused call changes nothing, and what a send changes: read off the call's row.
-use mathlib.Core.Path.{_≡_, refl, sym, _∙_, ap, ap₂, subst}
+use mathlib.Core.Path.{_≡_, refl, sym, _∙_, ap}
 use mathlib.Core.Bool.{Bool, true, false}
-use mathlib.Core.List.{List, [], _∷_, _++_}
+use mathlib.Core.List.{List, [], _∷_}
 use Prim.Native.Nat.{ℕ, _+_, _≤_}
 use native.Mathlib.Omega.{arith}
 use lib.ListN.{length, take, drop}
 use lib.Seq.{take-at}
-use Rattle.digest.specs.Bytes.{wordAt, laidOver}
-use Rattle.record.specs.Datagram.{Framing, framed, faulty, framingOf}
-use Rattle.record.specs.Checksum.{checksumOf}
+use Rattle.digest.specs.Bytes.{laidOver}
+use Rattle.record.specs.Datagram.{Framing, framed, framingOf}
 use Rattle.record.specs.declared.header.Content.the-variants as C
 use Rattle.record.specs.declared.reader.Record.{Record}
 use lib.Dec.{lit≤}
@@ -17,16 +16,14 @@ use Rattle.record.specs.declared.reader.Fault.{Fault}
 use Rattle.record.specs.declared.reader.Fault.the-variants as F
 use Rattle.connection.specs.Refusal.{refusalNumber}
 use Rattle.connection.specs.Answer.{replySize}
-use Rattle.connection.specs.Judge.{judgedRecord}
-use Rattle.connection.specs.Receive.{firstReply, sentBy}
-use Rattle.connection.specs.Send.{nextProtected, afterAlert, nextAlert, alertBody}
+use Rattle.connection.specs.Receive.{firstReply}
+use Rattle.connection.specs.Send.{nextProtected, nextAlert, alertBody}
 use Rattle.connection.specs.declared.refusal.Refusal.{Refusal}
 use Rattle.connection.specs.declared.refusal.Refusal.the-variants as X
 use Rattle.connection.specs.declared.connection.Connection.{Connection}
 use Rattle.connection.specs.declared.calls.Outcome.{Outcome}
 use Rattle.connection.specs.declared.calls.Outcome.the-variants as O
-use Rattle.connection.specs.declared.handshake.Handshake.{Handshake}
-use Rattle.demands.specs.Runs.{Call, receive, send-data, send-alert, close, start, Result, received, sent, called, Step, stepOf}
+use Rattle.demands.specs.Runs.{Call, receive, send-data, send-alert, Result, received, sent, called, Step, stepOf}
 use Rattle.demands.specs.Calls.{CallRow, receive-16, receive-6, receive-framing, receive-records, data-16, data-7, data-8, data-15, data-6, data-sent, alert-16, alert-7, alert-8, alert-15, alert-6, alert-sent, close-7, close-done, start-7, start-8, start-done}
 use Rattle.demands.specs.Refusals.{lentBy, IsRefused, writtenBy, RefusedCallChangesNothing, NothingWrittenWithoutReply, RefusedByTheList}
 use Rattle.demands.specs.Changes.{afterSending, DataChangesOnly, AlertChangesOnly}

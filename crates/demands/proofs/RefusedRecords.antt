@@ -1,5 +1,5 @@
 -- A refused record and the connection: the handshake that is asked is left as `Changes` has it, and its state says what is left of both.
-use mathlib.Core.Path.{_≡_, refl, sym, _∙_, ap, subst}
+use mathlib.Core.Path.{_≡_, refl, _∙_, ap}
 use mathlib.Core.Bool.{Bool, true, false}
 use mathlib.Core.Logic.{inl, inr}
 use mathlib.Core.List.{List}
@@ -8,7 +8,6 @@ use lib.Dec.{eqb}
 use Rattle.digest.specs.Pick.{pick}
 use Rattle.record.specs.Window.{acceptOf}
 use Rattle.record.specs.declared.reader.Record.{Record}
-use Rattle.record.specs.declared.reader.Fault.{Fault}
 use Rattle.record.specs.declared.reader.Fault.the-variants as F
 use Rattle.record.specs.declared.window.Acceptance.{Acceptance}
 use Rattle.record.specs.declared.window.Acceptance.the-variants as A
@@ -27,7 +26,7 @@ use Rattle.connection.specs.declared.handshake.Handshake.{Handshake}
 use Rattle.connection.specs.declared.connection.Connection.{Connection}
 use Rattle.demands.specs.Table.{Hears}
 use Rattle.demands.specs.Asked.{AskedHolds, Asks, asks-only, asks-its-hello, asks-open-hello, asks-new-hello, asks-clear, asks-clear-alone, asks-right, asks-protected}
-use Rattle.demands.specs.Refusals.{marked, markedAs, refusedLeaves, unless17, refusedIn, RefusedRecordChangesNothing, RefusedRecordInConnection}
+use Rattle.demands.specs.Refusals.{markedAs, refusedLeaves, unless17, refusedIn, RefusedRecordChangesNothing, RefusedRecordInConnection}
 use Rattle.demands.proofs.Asked.{asked-holds}
 use Rattle.demands.proofs.Changes.{refused-record}
 

@@ -1,17 +1,15 @@
 -- The replacement: only a handshake in Spec answers Open, to a protected record; in Open that is the started one.
 use mathlib.Core.Path.{_≡_, refl, sym, _∙_, ap, ap₂, subst}
-use mathlib.Core.Logic.{_⊎_, inl, inr, _≢_}
 use mathlib.Core.Bool.{Bool, true, false}
 use mathlib.Core.List.{List, [], _∷_}
-use Prim.Native.Nat.{ℕ, _+_}
+use Prim.Native.Nat.{ℕ}
 use native.Mathlib.Omega.{arith}
 use Rattle.record.specs.declared.reader.Record.{Record}
 use Rattle.connection.specs.Connection.{connectionOf}
-use Rattle.connection.specs.Handshake.{withState, noneStarted, newcomerTo}
+use Rattle.connection.specs.Handshake.{withState, noneStarted}
 use Rattle.connection.specs.Asked.{whomOf, askedOf}
 use Rattle.connection.specs.Judge.{judgedRecord, fragmentOf}
 use Rattle.connection.specs.Told.{sentAfter, startedTo, toldRecord}
-use Rattle.connection.specs.declared.state.State.{State}
 use Rattle.connection.specs.declared.state.State.the-variants as S
 use Rattle.connection.specs.declared.asked.Whom.{Whom}
 use Rattle.connection.specs.declared.asked.Whom.the-variants as A
@@ -21,16 +19,16 @@ use Rattle.connection.specs.declared.answer.Judged.{Judged}
 use Rattle.connection.specs.declared.sent.SentRecords.{SentRecords}
 use Rattle.connection.specs.declared.handshake.Handshake.{Handshake}
 use Rattle.connection.specs.declared.connection.Connection.{Connection}
-use Rattle.demands.specs.Table.{Row, isHello, beginsHello}
-use Rattle.demands.specs.Table.{row-ended, row-returned, row-not-allowed, row-not-first, row-reply, row-hello-malformed, row-unacceptable, row-resent, row-change, row-change-malformed, row-clear-malformed, row-checksum, row-clear-warning, row-clear-critical, row-clear-fatal, row-forged, row-old, row-repeated, row-malformed, row-data, row-warning, row-critical, row-barred, row-open, row-again, row-wrong-finished}
+use Rattle.demands.specs.Table.{Row}
+use Rattle.demands.specs.Table.{row-ended, row-returned, row-not-allowed, row-reply, row-hello-malformed, row-unacceptable, row-resent, row-change, row-change-malformed, row-clear-malformed, row-checksum, row-clear-warning, row-clear-critical, row-clear-fatal, row-forged, row-old, row-repeated, row-malformed, row-data, row-warning, row-critical, row-barred, row-open, row-again, row-wrong-finished}
 use Rattle.demands.specs.Asked.{RightBeside, Asks, asks-only, asks-its-hello, asks-open-hello, asks-new-hello, asks-clear, asks-clear-alone, asks-right, asks-protected}
 use Rattle.demands.specs.Past.{caseOf, among}
 use Rattle.demands.specs.Refusals.{marked}
 use Rattle.demands.specs.Changes.{Leaves}
 use Rattle.demands.specs.Replaced.{ReplacedExactly}
 use Rattle.demands.proofs.Genuine.{true-false}
-use Rattle.demands.proofs.Table.{row-of, hello-parts}
-use Rattle.demands.proofs.Asked.{idle-never, asks-of, told-by}
+use Rattle.demands.proofs.Table.{row-of}
+use Rattle.demands.proofs.Asked.{asks-of, told-by}
 use Rattle.demands.proofs.Changes.{leaves}
 use Rattle.demands.proofs.Lives.{only-asked}
 
@@ -43,7 +41,6 @@ module _ (h : Handshake) (sent : SentRecords) (random d : List ℕ) (r : Record)
   opens-facts (row-ended e) z = true-false false z refl
   opens-facts (row-returned q) z = true-false false z refl
   opens-facts (row-not-allowed e a n) z = true-false false z refl
-  opens-facts (row-not-first a i y) z = true-false false z refl
   opens-facts (row-reply plan g e) z = true-false false z refl
   opens-facts (row-hello-malformed fault g e) z = true-false false z refl
   opens-facts (row-unacceptable condition g e) z = true-false false z refl
@@ -72,7 +69,7 @@ module _ (c : Connection) (random d : List ℕ) (r : Record) where
   right-there : {w : Whom} → Asks c d r w → w ≡ A.Started → r .protected ≡ true → RightBeside c d r
   right-there (asks-only n) e p = let z : _≡_ {A = ℕ} 0 1 = cc in absurd (omega arith)
   right-there (asks-its-hello o i z s k) e p =
-      true-false (r .protected) p (hello-parts (r .content) (r .protected) (beginsHello d r) i .1)
+      true-false (r .protected) p (i .clear)
   right-there (asks-open-hello o i z n k) e p = let y : _≡_ {A = ℕ} 0 1 = cc in absurd (omega arith)
   right-there (asks-new-hello o i z n k) e p = let y : _≡_ {A = ℕ} 0 1 = cc in absurd (omega arith)
   right-there (asks-clear o q n s) e p = true-false (r .protected) p q

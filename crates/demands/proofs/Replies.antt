@@ -1,20 +1,18 @@
 -- What is written of a reply: read off the row of the first record, and what the connection keeps.
-use mathlib.Core.Path.{_≡_, refl, sym, _∙_, ap, ap₂, subst}
-use mathlib.Core.Bool.{Bool, true, false}
-use mathlib.Core.List.{List, [], _∷_, _++_}
-use Prim.Native.Nat.{ℕ, zero, suc, _+_, _-_, _≤_}
-use native.Mathlib.Omega.{arith}
-use lib.ListN.{length, take, replicate}
+use mathlib.Core.Path.{_≡_, refl, sym, _∙_, ap, subst}
+use mathlib.Core.Bool.{false}
+use mathlib.Core.List.{List, [], _∷_}
+use Prim.Native.Nat.{ℕ, _-_}
+use lib.ListN.{length, replicate}
 use lib.Seq.{take-at}
 use Rattle.digest.specs.Bytes.{laidOver}
-use Rattle.record.specs.Datagram.{framed, framingOf}
 use Rattle.record.specs.declared.reader.Record.{Record}
 use Rattle.message.specs.Acceptance.{heardOf}
 use Rattle.message.specs.declared.acceptance.Plan.{Plan}
 use Rattle.message.specs.declared.acceptance.Heard.the-variants as H
 use Rattle.connection.specs.Answer.{judged}
 use Rattle.connection.specs.Calls.{sessionOf}
-use Rattle.connection.specs.Handshake.{keptHello, keptReply, planted}
+use Rattle.connection.specs.Handshake.{keptReply, planted}
 use Rattle.connection.specs.Judge.{judgedRecord, fragmentOf}
 use Rattle.connection.specs.Receive.{firstReply, sentBy}
 use Rattle.connection.specs.Asked.{whomOf, askedOf}
@@ -22,22 +20,22 @@ use Rattle.connection.specs.Told.{toldRecord}
 use Rattle.connection.specs.declared.asked.Whom.{Whom}
 use Rattle.connection.specs.declared.connection.Connection.{Connection}
 use Rattle.connection.specs.Reply.{replyTo, answeredWith}
-use Rattle.connection.specs.declared.answer.Answer.{Answer}
 use Rattle.connection.specs.declared.answer.Answer.the-variants as W
 use Rattle.connection.specs.declared.answer.Judged.{Judged}
 use Rattle.connection.specs.declared.handshake.Handshake.{Handshake}
 use Rattle.connection.specs.declared.handshake.Session.{Session}
-use Rattle.demands.specs.Runs.{receive, stepOf, freshWith, freshOne}
-use Rattle.demands.specs.Table.{Row, ended, Hears, Greets, isHello}
-use Rattle.demands.specs.Table.{row-ended, row-returned, row-not-allowed, row-not-first, row-reply, row-hello-malformed, row-unacceptable, row-resent, row-change, row-change-malformed, row-clear-malformed, row-checksum, row-clear-warning, row-clear-critical, row-clear-fatal, row-forged, row-old, row-repeated, row-malformed, row-data, row-warning, row-critical, row-barred, row-open, row-again, row-wrong-finished}
-use Rattle.demands.specs.Calls.{taken}
+use Rattle.demands.specs.Seen.{seenIn}
+use Rattle.demands.specs.Runs.{freshWith, freshOne}
+use Rattle.demands.specs.Table.{Row, Greets}
+use Rattle.demands.specs.Table.{row-ended, row-returned, row-not-allowed, row-reply, row-hello-malformed, row-unacceptable, row-resent, row-change, row-change-malformed, row-clear-malformed, row-checksum, row-clear-warning, row-clear-critical, row-clear-fatal, row-forged, row-old, row-repeated, row-malformed, row-data, row-warning, row-critical, row-barred, row-open, row-again, row-wrong-finished}
 use Rattle.demands.specs.Refusals.{writtenBy}
 use Rattle.demands.specs.Events.{Happened, after, history}
-use Rattle.demands.specs.Acts.{Act, behind}
+use Rattle.demands.specs.Acts.{behind}
 use Rattle.demands.specs.Lives.{noLives, livesOf, lifeOf}
-use Rattle.demands.specs.Past.{keptGreeting, replyFor, barredIn}
+use Rattle.demands.specs.Past.{keptGreeting, replyFor}
 use Rattle.demands.specs.Kept.{KeptAs}
 use Rattle.demands.specs.Replies.{Sends, RepliesRight}
+use Rattle.demands.proofs.States.{ended}
 use Rattle.demands.proofs.Table.{row-of}
 use Rattle.demands.proofs.First.{take-taken, sentOf, told-sends}
 use Rattle.demands.proofs.Asked.{asks-of, told-by}
@@ -51,7 +49,7 @@ module _ (session : Session) {width : ℕ} (past : List Happened) (h : Handshake
   Sent j =
       (bytes : List ℕ) × Sends session past random (fragmentOf d r) bytes (j .answer) × (sentOf j ≡ bytes)
 
-  replied : (plan : Plan) → Greets h d r → heardOf (fragmentOf d r) (h .id) ≡ H.Accepted plan
+  replied : (plan : Plan) → Greets h (seenIn d r) → heardOf (fragmentOf d r) (h .id) ≡ H.Accepted plan
       → Sent (judged (W.Reply (length (replyTo (planted h) random (fragmentOf d r) plan))) (answeredWith h random (fragmentOf d r) plan))
   unfolding answeredWith
   replied plan g e =
@@ -73,7 +71,6 @@ module _ (session : Session) {width : ℕ} (past : List Happened) (h : Handshake
   by-row (row-ended e) = ([], refl, refl)
   by-row (row-returned q) = resent (ap ended (q .is-open))
   by-row (row-not-allowed e b n) = ([], refl, refl)
-  by-row (row-not-first b i y) = ([], refl, refl)
   by-row (row-reply plan g e) = replied plan g e
   by-row (row-hello-malformed fault g e) = ([], refl, refl)
   by-row (row-unacceptable condition g e) = ([], refl, refl)

@@ -1,11 +1,10 @@
 -- What we send, by the row of the send, the round trip of layer 2, and what the connection keeps.
-use mathlib.Core.Path.{_≡_, refl, sym, _∙_, ap, ap₂, subst}
+use mathlib.Core.Path.{_≡_, refl, sym, ap, ap₂, subst}
 use mathlib.Core.Bool.{Bool, true, false}
-use mathlib.Core.List.{List, [], _∷_, _++_}
+use mathlib.Core.List.{List, []}
 use Prim.Native.Nat.{ℕ, _+_, _≤_}
 use native.Mathlib.Omega.{arith}
-use lib.ListN.{length, take, drop}
-use Rattle.digest.specs.Bytes.{laidOver}
+use lib.ListN.{length, take}
 use Rattle.digest.specs.Hmac.{hmac}
 use Rattle.digest.specs.Mac.{sizeOf}
 use Rattle.record.specs.Written.{recordOf}
@@ -26,7 +25,6 @@ use Rattle.record.specs.Protection.{recordUnder}
 use Rattle.connection.specs.Send.{nextProtected, nextClear, nextAlert, alertBody, senderOf, clearSender}
 use Rattle.connection.specs.declared.state.State.{State}
 use Rattle.connection.specs.declared.state.State.the-variants as S
-use Rattle.connection.specs.declared.refusal.Refusal.{Refusal}
 use Rattle.connection.specs.declared.refusal.Refusal.the-variants as X
 use Rattle.connection.specs.declared.calls.Outcome.the-variants as O
 use Rattle.connection.specs.declared.handshake.Handshake.{Handshake}
@@ -34,16 +32,16 @@ use Rattle.connection.specs.declared.handshake.Session.{Session}
 use Rattle.demands.specs.Runs.{send-data, send-alert, Step, stepOf}
 use Rattle.record.specs.declared.keys.Keys.{Keys}
 use Rattle.demands.specs.Genuine.{keysOf}
-use Rattle.demands.specs.Table.{ended, Hears}
+use Rattle.demands.specs.Table.{Hears}
 use Rattle.demands.specs.Calls.{mayAlert, numberFor, CallRow, data-16, data-7, data-8, data-15, data-6, data-sent, alert-16, alert-7, alert-8, alert-15, alert-6, alert-sent}
 use Rattle.demands.specs.Refusals.{writtenBy}
 use Rattle.demands.specs.Events.{Event, AllSound, Happened, after, history}
-use Rattle.demands.specs.Acts.{Act, SoundActs, behind}
+use Rattle.demands.specs.Acts.{behind}
 use Rattle.demands.specs.Lives.{Lives, noLives, livesOf, Lived, clearSenderLife, senderLife}
+use Rattle.demands.proofs.States.{ended}
 use Rattle.demands.proofs.Lives.{alive, lives-hold-at, lives-sound-at}
-use Rattle.demands.specs.Past.{keysIn, protectedNext, nextClearNumber, barredIn}
+use Rattle.demands.specs.Past.{keysIn, protectedNext, nextClearNumber}
 use Rattle.demands.specs.Runs.{freshWith, freshOne}
-use Rattle.demands.specs.Kept.{KeptAs}
 use Rattle.demands.specs.Sends.{ourKey, ProtectedRecord, ClearRecord, AlertRecord, DataSentRight, AlertSentRight}
 use Rattle.demands.proofs.Genuine.{true-false}
 use Rattle.demands.proofs.Calls.{call-of}
@@ -51,7 +49,7 @@ use Rattle.demands.proofs.Refusals.{outcomeIn, laid-front, refused-done
 use Rattle.demands.proofs.Kept.{live}
 use Rattle.demands.proofs.Finished.{Progress, progress-all, progress-fresh, keys-are}
 use Rattle.demands.proofs.Wire.{clear-read, clear-fragment, size-protected, protected-read, protected-fragment}
-use mathlib.Core.Logic.{_⊎_, inl, inr}
+use mathlib.Core.Logic.{inl, inr}
 use Rattle.record.specs.Window.{Held}
 use Rattle.connection.specs.declared.connection.Connection.{Connection}
 

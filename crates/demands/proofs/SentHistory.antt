@@ -1,16 +1,13 @@
 -- The records that we sent. The idea: only a new reply and a send add to them, and only a start again forgets them; of a reply the
 -- three records stand one behind the other.
-use mathlib.Core.Path.{_≡_, refl, sym, _∙_, ap, ap₂, subst}
-use mathlib.Core.Logic.{_↔_, _⊎_, inl, inr}
+use mathlib.Core.Path.{_≡_, refl, sym, _∙_, ap, subst}
 use mathlib.Core.Bool.{Bool, true, false}
 use mathlib.Core.List.{List, [], _∷_, _++_, map, append-assoc}
-use Prim.Native.Nat.{ℕ, _+_, _-_, _≤_}
+use Prim.Native.Nat.{ℕ, _+_, _-_}
 use native.Mathlib.Omega.{arith}
 use lib.ListN.{length, take, drop, replicate, length-append}
 use lib.Seq.{take-at, drop-at, drop-drop}
-use Rattle.digest.specs.Pick.{pick}
 use Rattle.digest.specs.Bytes.{laidOver}
-use Rattle.digest.specs.Mac.{sizeOf}
 use Rattle.record.specs.Window.{Held}
 use Rattle.record.specs.declared.header.Content.the-variants as C
 use Rattle.record.specs.declared.reader.Record.{Record}
@@ -21,41 +18,38 @@ use Rattle.message.specs.declared.acceptance.Heard.the-variants as H
 use Rattle.message.specs.declared.alert.Alert.{Alert}
 use Rattle.message.specs.declared.alert.Reading.{Reading}
 use Rattle.message.specs.declared.alert.Reading.the-variants as R
-use Rattle.connection.specs.Calls.{sessionOf, closedIn, startedIn}
+use Rattle.connection.specs.Calls.{sessionOf}
 use Rattle.connection.specs.Handshake.{planted}
 use Rattle.connection.specs.Asked.{whomOf, askedOf}
 use Rattle.connection.specs.Judge.{judgedRecord, fragmentOf}
 use Rattle.connection.specs.Reply.{replyTo, answeredWith, lastOf, ourHello, ourFinished, helloRecord, changeRecord, finishedRecord, flightOf, clientRandom}
-use Rattle.connection.specs.Send.{afterSend, putBack, clearBack, senderOf, nextProtected, nextAlert, afterAlert, alertBody}
-use Rattle.connection.specs.Sent.{recordsKept, sumOf, sumsOf, withRecord, withReply, oneOf, matchesOf, noRecords}
-use Rattle.connection.specs.Told.{repliedWith, sentAfter, leftBy, leftWith, startedTo, toldRecord}
+use Rattle.connection.specs.Send.{afterSend, clearBack, senderOf, nextProtected, nextAlert, afterAlert, alertBody}
+use Rattle.connection.specs.Sent.{recordsKept, sumOf, sumsOf, withRecord, withReply, oneOf, matchesOf}
+use Rattle.connection.specs.Told.{repliedWith, sentAfter, leftBy, startedTo, toldRecord}
 use Rattle.connection.specs.declared.state.State.{State}
 use Rattle.connection.specs.declared.state.State.the-variants as S
 use Rattle.connection.specs.declared.asked.Whom.{Whom}
 use Rattle.connection.specs.declared.asked.Whom.the-variants as A
-use Rattle.connection.specs.declared.answer.Answer.{Answer}
 use Rattle.connection.specs.declared.answer.Answer.the-variants as W
 use Rattle.connection.specs.declared.answer.Judged.{Judged}
 use Rattle.connection.specs.declared.refusal.Refusal.the-variants as X
-use Rattle.connection.specs.declared.calls.Outcome.the-variants as O
 use Rattle.connection.specs.declared.sent.SentRecords.{SentRecords}
-use Rattle.connection.specs.declared.handshake.Kept.{Kept}
 use Rattle.connection.specs.declared.handshake.Handshake.{Handshake}
 use Rattle.connection.specs.declared.handshake.Session.{Session}
 use Rattle.connection.specs.declared.connection.Connection.{Connection}
 use Rattle.message.proofs.Replies.{length-server}
 use Rattle.connection.proofs.Replying.{hello-size, change-size}
+use Rattle.demands.specs.Seen.{seenIn}
 use Rattle.demands.specs.Runs.{send-data, send-alert, close, start, Step, stepOf, freshWith, freshOne}
 use Rattle.demands.specs.Refusals.{writtenBy}
-use Rattle.demands.specs.Table.{Row, Hears, Greets, ended}
-use Rattle.demands.specs.Table.{row-ended, row-returned, row-not-allowed, row-not-first, row-reply, row-hello-malformed, row-unacceptable, row-resent, row-change, row-change-malformed, row-clear-malformed, row-checksum, row-clear-warning, row-clear-critical, row-clear-fatal, row-forged, row-old, row-repeated, row-malformed, row-data, row-warning, row-critical, row-barred, row-open, row-again, row-wrong-finished}
+use Rattle.demands.specs.Table.{Row, Greets}
+use Rattle.demands.specs.Table.{row-ended, row-returned, row-not-allowed, row-reply, row-hello-malformed, row-unacceptable, row-resent, row-change, row-change-malformed, row-clear-malformed, row-checksum, row-clear-warning, row-clear-critical, row-clear-fatal, row-forged, row-old, row-repeated, row-malformed, row-data, row-warning, row-critical, row-barred, row-open, row-again, row-wrong-finished}
 use Rattle.demands.specs.Calls.{CallRow, data-16, data-7, data-8, data-15, data-6, data-sent, alert-16, alert-7, alert-8, alert-15, alert-6, alert-sent, close-7, close-done, start-7, start-8, start-done}
-use Rattle.demands.specs.Events.{Event, Happened, answered, wrote, closed, started, refused, ifDone, after, history}
+use Rattle.demands.specs.Events.{Event, Happened, answered, wrote, closed, started, ifDone, after, history}
 use Rattle.demands.specs.Acts.{Act, comes, sends, alerts, closes, starts, SoundAct, SoundActs, leaves, behind, happens, historyOf}
-use Rattle.demands.specs.Past.{isReply, recordsHeard, sentSince, MatchesNone}
+use Rattle.demands.specs.Past.{recordsHeard, sentSince}
 use Rattle.demands.specs.Kept.{KeptAs}
-use Rattle.demands.specs.Lives.{Lives, noLives, livesAt, livesOf, lifeOf, Lived, SentIsWhatHappened, ChecksumInRuns}
-use Rattle.demands.proofs.Genuine.{true-false}
+use Rattle.demands.specs.Lives.{Lives, noLives, livesAt, lifeOf, Lived, SentIsWhatHappened, ChecksumInRuns}
 use Rattle.demands.proofs.Table.{row-of, row-is}
 use Rattle.demands.proofs.Asked.{told-by}
 use Rattle.demands.proofs.Calls.{call-of}
@@ -112,8 +106,8 @@ Sums session c past = sumsOf (c .sent) ≡ map sumOf (take recordsKept (sentSinc
 
 module _ (session : Session) (l8 : length (session .id) ≡ 8) (h : Handshake) (s : SentRecords) (past : List Happened)
     (e : sumsOf s ≡ map sumOf (take recordsKept (sentSince session past))) (random d : List ℕ) (r : Record) (lr : length random ≡ 16)
-    (planted-is : Greets h d r → planted h ≡ session) where
-  replied : (plan : Plan) → Greets h d r → heardOf (fragmentOf d r) (h .id) ≡ H.Accepted plan
+    (planted-is : Greets h (seenIn d r) → planted h ≡ session) where
+  replied : (plan : Plan) → Greets h (seenIn d r) → heardOf (fragmentOf d r) (h .id) ≡ H.Accepted plan
       → sumsOf (sentAfter s (answeredWith h random (fragmentOf d r) plan .kept) (W.Reply (length (replyTo (planted h) random (fragmentOf d r) plan))))
       ≡ map sumOf (take recordsKept (recordsHeard session random (fragmentOf d r) (heardOf (fragmentOf d r) (session .id)) ++ sentSince session past))
   replied plan g heard =
@@ -130,7 +124,6 @@ module _ (session : Session) (l8 : length (session .id) ≡ 8) (h : Handshake) (
   by-row (row-ended x) = e
   by-row (row-returned q) = e
   by-row (row-not-allowed x a n) = e
-  by-row (row-not-first a i y) = e
   by-row (row-reply plan g x) = replied plan g x
   by-row (row-hello-malformed fault g x) = e
   by-row (row-unacceptable condition g x) = e
@@ -225,7 +218,7 @@ module _ (id secret : List ℕ) (width : ℕ) (l8 : length id ≡ 8) (held : Hel
   session = sessionOf id secret
 
   -- the session of a handshake that greets is the planted one
-  greeter : (es : List Event) (d : List ℕ) (r : Record) → Greets (after (freshWith id secret width) es) d r → planted (after (freshWith id secret width) es) ≡ session
+  greeter : (es : List Event) (d : List ℕ) (r : Record) → Greets (after (freshWith id secret width) es) (seenIn d r) → planted (after (freshWith id secret width) es) ≡ session
   greeter es d r g =
       let h : Handshake = after (freshWith id secret width) es in
       let past : List Happened = history (freshWith id secret width) es [] in
@@ -243,7 +236,7 @@ module _ (id secret : List ℕ) (width : ℕ) (l8 : length id ≡ 8) (held : Hel
       subst (λ x. Sums session (x .connection) (answered random d r (x .answer) ∷ past)) (sym t)
       (ap sumsOf (left-sent c j w)
       ∙ by-row session l8 h (c .sent) past e random d r lr
-      (λ g. ap planted lives ∙ greeter (lifeOf l w) d r (subst (λ x. Greets x d r) lives g)) (row-of h (c .sent) random d r))
+      (λ g. ap planted lives ∙ greeter (lifeOf l w) d r (subst (λ x. Greets x (seenIn d r)) lives g)) (row-of h (c .sent) random d r))
 
   act-sums : (l : Lives) (c : Connection) (past : List Happened) → Lived (freshWith id secret width) l c → Sums session c past → (a : Act) → SoundAct a
       → Sums session (leaves c a) (happens c a ∷ past)

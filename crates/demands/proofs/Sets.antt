@@ -5,7 +5,7 @@ use mathlib.Core.List.{List}
 use Prim.Native.Nat.{ℕ}
 use lib.ListN.{length}
 use Rattle.record.specs.declared.reader.Record.{Record}
-use Rattle.message.specs.Values.{Values, helloOf}
+use Rattle.message.specs.Values.{Values}
 use Rattle.message.specs.Acceptance.{heardOf}
 use Rattle.message.specs.Blank.{blanked}
 use Rattle.message.specs.declared.acceptance.Heard.{Heard}
@@ -13,20 +13,19 @@ use Rattle.message.specs.declared.acceptance.Heard.the-variants as H
 use Rattle.message.proofs.Blanks.{alike-sound, alike-heard, heard-alike}
 use Rattle.message.proofs.SetsSaid.{sets-as-written}
 use Rattle.connection.specs.Handshake.{planted}
-use Rattle.connection.specs.Reply.{replyTo}
 use Rattle.connection.specs.Judge.{judgedRecord, fragmentOf}
-use Rattle.connection.specs.declared.answer.Answer.{Answer}
 use Rattle.connection.specs.declared.answer.Answer.the-variants as W
 use Rattle.connection.specs.declared.answer.Judged.{Judged}
 use Rattle.connection.specs.declared.handshake.Handshake.{Handshake}
 use Rattle.connection.proofs.Replying.{reply-size}
+use Rattle.demands.specs.Seen.{seenIn}
 use Rattle.demands.specs.Table.{Greets, row-reply, row-hello-malformed, row-unacceptable}
 use Rattle.demands.specs.Sets.{Brings, AnsweredAlike, Sets}
 use Rattle.demands.proofs.Table.{row-is}
 use Rattle.connection.specs.declared.sent.SentRecords.{SentRecords}
 
 module _ (h : Handshake) (sent : SentRecords) (random d e : List ℕ) (r q : Record) (lr : length random ≡ 16) (li : length (h .id) ≡ 8)
-    (g : Greets h d r) (k : Greets h e q) where
+    (g : Greets h (seenIn d r)) (k : Greets h (seenIn e q)) where
   by-heard : (x : Heard) → heardOf (fragmentOf d r) (h .id) ≡ x → heardOf (fragmentOf e q) (h .id) ≡ x
       → judgedRecord h sent random d r .answer ≡ judgedRecord h sent random e q .answer
   by-heard (H.Accepted plan) a b =
@@ -47,8 +46,8 @@ answered : (h : Handshake) (sent : SentRecords) (random d e : List ℕ) (r q : R
     → blanked v ≡ blanked w
     → Brings d r v
     → Brings e q w
-    → Greets h d r
-    → Greets h e q
+    → Greets h (seenIn d r)
+    → Greets h (seenIn e q)
     → judgedRecord h sent random d r .answer ≡ judgedRecord h sent random e q .answer
 answered h sent random d e r q v w lr li same x y g k =
     by-heard h sent random d e r q lr li g k (heardOf (fragmentOf d r) (h .id)) refl

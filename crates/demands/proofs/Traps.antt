@@ -1,16 +1,15 @@
 -- The small cases of demand 3. Each datagram is made of records that are read back as they were made (`Wire`); the window answers by its history.
-use mathlib.Core.Path.{_≡_, refl, sym, _∙_, ap, ap₂, subst}
-use mathlib.Core.Bool.{Bool, true, false}
-use mathlib.Core.List.{List, [], _∷_, _++_, append-assoc}
-use Prim.Native.Nat.{ℕ, suc, _+_, _-_, _≤_, _<_}
+use mathlib.Core.Logic.{inr}
+use mathlib.Core.Path.{_≡_, refl, sym, _∙_, ap, ap₂}
+use mathlib.Core.Bool.{true, false}
+use mathlib.Core.List.{List, [], _∷_, _++_}
+use Prim.Native.Nat.{ℕ, suc, _+_, _-_, _≤_}
 use native.Mathlib.Omega.{arith}
-use lib.ListN.{length, take, drop, length-append}
-use Rattle.digest.specs.Hmac.{hmac}
+use lib.ListN.{length, length-append}
 use Rattle.digest.specs.Mac.{sizeOf}
 use Rattle.record.specs.Window.{acceptOf, Held}
 use Rattle.record.specs.History.{accepted, highestOf, windowOf, arrivedOf}
-use Rattle.record.specs.Code.{protectedBy}
-use Rattle.record.specs.Datagram.{Framing, framed, after, placedAt, framingFrom, framingOf}
+use Rattle.record.specs.Datagram.{framed, after, placedAt, framingFrom, framingOf}
 use Rattle.record.specs.declared.header.Content.{Content}
 use Rattle.record.specs.declared.header.Content.the-variants as C
 use Rattle.record.specs.declared.reader.Record.{Record}
@@ -21,12 +20,10 @@ use Rattle.record.proofs.RoundTrip.{readBack}
 use Rattle.record.proofs.ProtectedBytes.{size-most}
 use Rattle.message.specs.Alert.{alertBytes}
 use Rattle.message.specs.declared.alert.Alert.{Alert}
-use Rattle.message.specs.declared.alert.Description.{Description}
 use Rattle.message.specs.declared.alert.Level.the-variants as L
 use Rattle.message.proofs.AlertLaws.{alert-back}
 use Rattle.connection.specs.Answer.{judged, refusing, replySize}
 use Rattle.connection.specs.Handshake.{withState, withWindow}
-use Rattle.connection.specs.Judge.{judgedRecord, fragmentOf}
 use Rattle.connection.specs.Receive.{slotsOf}
 use Rattle.connection.specs.declared.state.State.the-variants as S
 use Rattle.connection.specs.declared.refusal.Refusal.the-variants as X
@@ -36,12 +33,13 @@ use Rattle.connection.specs.declared.answer.Judged.{Judged}
 use Rattle.connection.specs.declared.connection.Connection.{Connection}
 use Rattle.connection.specs.declared.handshake.Handshake.{Handshake}
 use Rattle.connection.specs.declared.receive.Taken.the-variants as T
+use Rattle.demands.specs.Seen.{seenIn}
 use Rattle.demands.specs.Runs.{receive, received, stepOf}
 use Rattle.record.specs.declared.keys.Keys.{Keys}
 use Rattle.demands.specs.Genuine.{Protected, keysOf, unitKey}
-use Rattle.demands.specs.Table.{Row, New, Guarded, protectedAllowed, row-ended, row-repeated, row-malformed, row-data, row-critical}
+use Rattle.demands.specs.Table.{Row, New, Guarded, row-repeated, row-malformed, row-data, row-critical}
 use Rattle.demands.specs.Calls.{Chain, chain-end, chain-more}
-use Rattle.demands.specs.Traps.{longProtected, lastProtected, JustOpen, EmptyThenData, TwiceInOne, ClosedBetween}
+use Rattle.demands.specs.Traps.{longProtected, lastProtected, EmptyThenData, TwiceInOne, ClosedBetween}
 use Rattle.demands.specs.Asked.{Tells, tells, asks-protected}
 use Rattle.demands.proofs.Asked.{left-of, tells-is, tells-seven}
 use Rattle.connection.specs.Told.{leftBy}
@@ -105,13 +103,13 @@ unfolding w₇ w₈ highestOf accepted
 takes-8 width held = meaning width held (7 ∷ 0 ∷ []) 8 ∙ new-when width (7 ∷ 0 ∷ []) 8 (omega (arith, held .0)) refl
 
 module _ (h : Handshake) (is-open : h .state ≡ S.Open) (width : ℕ) (held : Held width) (window-is : h .protection .window ≡ w₀ width) where
-  guarded : (x : Window) (r : Record) → r .protected ≡ true → Guarded (withWindow h x) r
-  guarded x r p = record { protection = p; kind = ap (λ s. protectedAllowed s (r .content)) is-open }
+  guarded : (d : List ℕ) (r : Record) → r .protected ≡ true → Guarded (h .state) (seenIn d r)
+  guarded d r p = record { protection = p; kind = inr is-open }
 
   pub new-7 : (d : List ℕ) (r : Record) (c : List ℕ) → r .number ≡ 7 → Protected (keysOf h) d r c → New h d r c (w₇ width)
   new-7 d r c e s =
       record {
-        guarded = record { protection = s .is-protected; kind = ap (λ x. protectedAllowed x (r .content)) is-open };
+        guarded = guarded d r (s .is-protected);
         coded = s;
         arrived = arrivedOf width (7 ∷ 0 ∷ []);
         accepted = ap₂ (λ w n. acceptOf w n) window-is e ∙ takes-7 width held;
@@ -120,7 +118,7 @@ module _ (h : Handshake) (is-open : h .state ≡ S.Open) (width : ℕ) (held : H
   new-8 : (d : List ℕ) (r : Record) (c : List ℕ) → r .number ≡ 8 → Protected (keysOf h) d r c → New (withWindow h (w₇ width)) d r c (w₈ width)
   new-8 d r c e s =
       record {
-        guarded = guarded (w₇ width) r (s .is-protected);
+        guarded = guarded d r (s .is-protected);
         coded = s;
         arrived = arrivedOf width (8 ∷ 7 ∷ 0 ∷ []);
         accepted = ap (acceptOf (w₇ width)) e ∙ takes-8 width held;
@@ -128,7 +126,7 @@ module _ (h : Handshake) (is-open : h .state ≡ S.Open) (width : ℕ) (held : H
 
   repeated-7 : (sent : SentRecords) (random d : List ℕ) (r : Record) (c : List ℕ) → r .number ≡ 7 → Protected (keysOf h) d r c
       → Row (withWindow h (w₇ width)) sent random d r (refusing X.Repeated (withWindow h (w₇ width)))
-  repeated-7 sent random d r c e s = row-repeated c (guarded (w₇ width) r (s .is-protected)) s (ap (acceptOf (w₇ width)) e ∙ again-7 width held)
+  repeated-7 sent random d r c e s = row-repeated c (guarded d r (s .is-protected)) s (ap (acceptOf (w₇ width)) e ∙ again-7 width held)
 
 -- ---- a record alone in its datagram
 

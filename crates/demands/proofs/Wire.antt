@@ -1,13 +1,13 @@
 -- Records on the wire: a datagram of one record without a length is framed as this record, clear or protected, and its fragment is what
 -- was put into it.
-use mathlib.Core.Path.{_≡_, refl, sym, _∙_, ap, ap₂, subst}
-use mathlib.Core.Bool.{Bool, true, false}
+use mathlib.Core.Path.{_≡_, refl, sym, _∙_, ap, ap₂}
+use mathlib.Core.Bool.{true, false}
 use mathlib.Core.List.{List, [], _∷_, _++_, append-nil}
-use Prim.Native.Nat.{ℕ, zero, suc, _+_, _-_, _≤_, _<_}
+use Prim.Native.Nat.{ℕ, zero, suc, _+_, _-_, _≤_}
 use native.Mathlib.Omega.{arith}
 use lib.ListN.{length, take, drop, length-append}
 use lib.Seq.{drop-append-seam, drop-append-add}
-use lib.Dec.{eqb, ltb}
+use lib.Dec.{ltb}
 use borrow.Author.Tests.{eq-eqb, ne-eqb, le-ltb}
 use Rattle.digest.specs.Pick.{pick}
 use Rattle.digest.specs.Hmac.{hmac}
@@ -16,7 +16,7 @@ use Rattle.digest.specs.declared.mac.Mac.{Mac}
 use Rattle.record.specs.Reader.{readOf}
 use Rattle.record.specs.Written.{recordOf, byteFor}
 use Rattle.record.specs.Code.{fragmentBy, protectedBy}
-use Rattle.record.specs.Datagram.{Framing, framed, faulty, after, ahead, placedAt, framingFrom, framingOf}
+use Rattle.record.specs.Datagram.{framed, faulty, after, ahead, placedAt, framingFrom, framingOf}
 use Rattle.record.specs.declared.header.Content.{Content}
 use Rattle.record.specs.declared.reader.Record.{Record}
 use Rattle.record.specs.declared.reader.Fault.the-variants as F

@@ -1,16 +1,13 @@
 -- It works. The idea: each of the four datagrams is one record, framed and read back as it was made (`Wire`); its row of the table is
 -- given by how it was made; and what each row leaves is what the next one asks for.
 use mathlib.Core.Path.{_≡_, refl, sym, _∙_, ap, ap₂, subst}
-use mathlib.Core.Logic.{_⊎_, inl, inr, _≢_}
+use mathlib.Core.Logic.{inl, inr, _≢_}
 use mathlib.Core.Bool.{Bool, true, false}
 use mathlib.Core.List.{List, [], _∷_, _++_}
-use Prim.Native.Nat.{ℕ, _+_, _-_, _≤_, _<_}
+use Prim.Native.Nat.{ℕ, _+_, _-_, _≤_}
 use native.Mathlib.Omega.{arith}
-use lib.ListN.{length, take, drop, getD, replicate}
+use lib.ListN.{length, take, getD, replicate}
 use lib.Seq.{take-at, length-take-le}
-use lib.Dec.{eqb}
-use borrow.Author.Tests.{eq-eqb}
-use Rattle.digest.specs.Pick.{pick}
 use Rattle.digest.specs.Bytes.{laidOver}
 use Rattle.digest.specs.Hmac.{hmac}
 use Rattle.digest.specs.Sha1.{sha1}
@@ -19,10 +16,7 @@ use Rattle.digest.specs.Mac.{sizeOf}
 use Rattle.digest.proofs.Codes.{length-hmac}
 use Rattle.record.specs.Window.{acceptOf, Held, freshWindow, emptied}
 use Rattle.record.specs.History.{accepted, highestOf, windowOf, arrivedOf}
-use Rattle.record.specs.Written.{recordOf, byteFor}
-use Rattle.record.specs.Code.{protectedBy}
 use Rattle.record.specs.Datagram.{framed, framingOf}
-use Rattle.record.specs.declared.header.Content.{Content}
 use Rattle.record.specs.declared.header.Content.the-variants as C
 use Rattle.record.specs.declared.reader.Record.{Record}
 use Rattle.record.specs.declared.window.Window.{Window}
@@ -34,22 +28,21 @@ use Rattle.message.specs.Acceptance.{heardOf, heardAs}
 use Rattle.message.specs.Hello.{readOf}
 use Rattle.message.specs.Handshake.{fills, clientHello}
 use Rattle.message.specs.Change.{changeBytes, isChange}
-use Rattle.message.specs.Finished.{finishedOf, judgedOf, clientVerify, clientLabel}
+use Rattle.message.specs.Finished.{finishedOf, clientVerify, clientLabel}
 use Rattle.message.specs.declared.acceptance.Plan.{Plan}
 use Rattle.message.specs.declared.acceptance.Heard.the-variants as H
-use Rattle.message.specs.declared.finished.Verified.the-variants as F
 use Rattle.message.specs.declared.hello.Reading.the-variants as Q
 use Rattle.message.specs.declared.hello.Field.the-variants as E
 use Rattle.message.proofs.Hearing.{accepted-size}
-use Rattle.message.proofs.Written.{Filled, filled}
+use Rattle.message.proofs.Written.{filled}
 use Rattle.message.proofs.FinishedLaws.{finished-right}
 use Rattle.connection.specs.Answer.{judged, handedOf, replySize}
 use Rattle.connection.specs.Calls.{sessionOf}
 use Rattle.connection.specs.Handshake.{withState, withWindow, planted, keptHello, keptReply, newcomerTo, newHandshake, noneStarted}
 use Rattle.connection.specs.Sent.{noRecords}
 use Rattle.connection.specs.Told.{sentAfter, leftBy, toldBy, keptBy}
-use Rattle.connection.specs.Judge.{judgedRecord, fragmentOf}
-use Rattle.connection.specs.Receive.{firstReply, sentBy, slotsOf}
+use Rattle.connection.specs.Judge.{fragmentOf}
+use Rattle.connection.specs.Receive.{firstReply, sentBy}
 use Rattle.connection.specs.Reply.{replyTo, expectedOf, answeredWith, ourHello, ourFinished}
 use Rattle.connection.specs.declared.state.State.the-variants as S
 use Rattle.connection.specs.declared.answer.Answer.{Answer}
@@ -58,14 +51,15 @@ use Rattle.connection.specs.declared.answer.Judged.{Judged}
 use Rattle.connection.specs.declared.connection.Connection.{Connection}
 use Rattle.connection.specs.declared.handshake.Handshake.{Handshake}
 use Rattle.connection.specs.declared.handshake.Session.{Session}
-use Rattle.demands.specs.Runs.{receive, received, Step, stepOf}
+use Rattle.demands.specs.Seen.{seenIn}
+use Rattle.demands.specs.Runs.{receive, stepOf}
 use Rattle.record.specs.declared.keys.Keys.{Keys}
-use Rattle.demands.specs.Genuine.{Protected, RecordOf, keysOf, unitKey}
-use Rattle.demands.specs.Table.{Row, New, Guarded, Greets, isHello, Hears, row-reply, row-change, row-open, row-data}
+use Rattle.demands.specs.Genuine.{Protected, keysOf, unitKey}
+use Rattle.demands.specs.Table.{Row, New, IsHello, Hears, row-reply, row-change, row-open, row-data}
 use Rattle.demands.specs.Calls.{chain-end, chain-more, taken}
 use Rattle.demands.specs.Runs.{freshWith}
 use Rattle.demands.specs.Works.{clearDatagram, protectedDatagram, keysAfter, oneAnswer, Worked, Works, Rebooted, Reboots}
-use Rattle.demands.proofs.Genuine.{true-false}
+use Rattle.demands.proofs.States.{live-over}
 use Rattle.demands.proofs.Asked.{tells-is, left-of}
 use Rattle.demands.proofs.Calls.{by-chain, call-is}
 use Rattle.demands.proofs.Refusals.{laid-nothing}
@@ -201,9 +195,9 @@ module _ (id secret : List ℕ) (width : ℕ) (held : Held width) (m random out 
   unfolding d₁ r₁
   fragment₁ = clear-fragment C.Handshake 0 (omega arith) m hello-some
 
-  hello₁ : isHello d₁ r₁ ≡ true
+  hello₁ : IsHello (seenIn d₁ r₁)
   unfolding r₁
-  hello₁ = eq-eqb (getD (fragmentOf d₁ r₁) 0 0) 1 (ap (λ f. getD f 0 0) fragment₁ ∙ begins m id plan e)
+  hello₁ = record { clear = refl; handshake = refl; begins = ap (λ f. getD f 0 0) fragment₁ ∙ begins m id plan e }
 
   row₁ : (s : SentRecords) → Row (freshWith id secret width) s random d₁ r₁ (judged (W.Reply (length (replyTo session random m plan))) h₁)
   unfolding h₁ r₁
@@ -295,7 +289,7 @@ module _ (id secret : List ℕ) (width : ℕ) (held : Held width) (m random out 
   unfolding h₁ answeredWith h₂ h₃ r₃ w₃
   row₃ s =
       row-open (finishedOf expected) w₃
-      (record { guarded = record { protection = refl; kind = refl }; coded = protected₃; arrived = arrivedOf width (0 ∷ []); accepted = takes-0 width held }) refl refl (finished-right expected (expected-size session random m plan))
+      (record { guarded = record { protection = refl; kind = inl (refl, inr refl) }; coded = protected₃; arrived = arrivedOf width (0 ∷ []); accepted = takes-0 width held }) refl refl (finished-right expected (expected-size session random m plan))
 
   finished-step : (c : Connection) (x : Told) → Tells c random d₃ r₃ x → x .answer ≡ W.Open
       → stepOf c (receive (protectedDatagram k C.Handshake 0 (finishedOf expected)) random out) ≡ record { result = oneAnswer W.Open 0; output = out; connection = x .connection }
@@ -325,7 +319,7 @@ module _ (id secret : List ℕ) (width : ℕ) (held : Held width) (m random out 
   row₄ : (s : SentRecords) → Row h₃ s random d₄ r₄ (judged (W.Data 1 3 (length bytes)) h₄)
   unfolding h₁ answeredWith h₂ h₃ h₄ r₄ w₃ w₄
   row₄ s =
-      row-data bytes w₄ (record { guarded = record { protection = refl; kind = refl }; coded = protected₄; arrived = arrivedOf width (1 ∷ 0 ∷ []); accepted = takes-1 width held }) refl some
+      row-data bytes w₄ (record { guarded = record { protection = refl; kind = inr refl }; coded = protected₄; arrived = arrivedOf width (1 ∷ 0 ∷ []); accepted = takes-1 width held }) refl some
 
   open₃ : h₃ .state ≡ S.Open
   unfolding h₃
@@ -444,9 +438,12 @@ module _ (id secret : List ℕ) (width : ℕ) (held : Held width) (m random out 
     abbrev e₁ : Connection
     e₁ = connectionOf (c .handshake) h₁ (list (c .sent))
 
+    change-no-hello : {P : Type 0} → C.ChangeCipherSpec ≡ C.Handshake → P
+    change-no-hello z = let w : _≡_ {A = ℕ} 0 1 = cc in absurd (omega arith)
+
     told₂ : Tells e₁ random d₂ r₂ (record { answer = W.Spec; connection = connectionOf (c .handshake) h₂ (list (c .sent)); beside = true })
     unfolding r₂ h₂
-    told₂ = tells (asks-clear o refl (λ i. true-false false i refl) (inl replied-state)) (row₂ (list (c .sent))) (left-started spec-not refl)
+    told₂ = tells (asks-clear o refl (λ i. change-no-hello (i .handshake)) (inl replied-state)) (row₂ (list (c .sent))) (left-started spec-not (live-over S.Spec refl))
 
     abbrev e₂ : Connection
     e₂ = connectionOf (c .handshake) h₂ (list (c .sent))

@@ -1,9 +1,9 @@
 -- What is written is read back: the laws of layers 2 and 3 in one place.
-use mathlib.Core.Path.{_≡_, refl, sym, _∙_, ap, ap₂, subst}
+use mathlib.Core.Path.{_≡_, refl, _∙_, ap}
 use mathlib.Core.Logic.{_↔_}
 use mathlib.Core.Bool.{Bool, true, false}
-use mathlib.Core.List.{List, [], _∷_, _++_}
-use Prim.Native.Nat.{ℕ, _+_, _-_, _≤_, _<_}
+use mathlib.Core.List.{List, [], _∷_}
+use Prim.Native.Nat.{ℕ, _-_}
 use native.Mathlib.Omega.{arith}
 use lib.ListN.{length, take, getD}
 use lib.Dec.{eqb}
@@ -17,8 +17,7 @@ use Rattle.record.specs.Code.{codedOf, fragmentBy, genuineBy}
 use Rattle.record.proofs.RoundTrip.{read-long, read-short, fragment-back}
 use Rattle.record.proofs.ProtectedBytes.{size-most, genuine-made, made-genuine}
 use Rattle.message.specs.Change.{isChange, changeBytes}
-use Rattle.message.specs.Finished.{finishedOf, judgedOf}
-use Rattle.message.specs.declared.finished.Verified.the-variants as F
+use Rattle.message.specs.Finished.{judgedOf}
 use Rattle.message.proofs.AlertLaws.{alert-back}
 use Rattle.message.proofs.FinishedLaws.{finished-right}
 use Rattle.message.proofs.Written.{image}

@@ -22,7 +22,8 @@ use Rattle.connection.specs.declared.sent.SentRecords.{SentRecords}
 use Rattle.connection.specs.declared.connection.Connection.{Connection}
 use Rattle.connection.specs.declared.told.Told.{Told}
 use Rattle.demands.specs.Genuine.{Protected, keysOf}
-use Rattle.demands.specs.Table.{Row, Hears, ended, isHello}
+use Rattle.demands.specs.Seen.{seenIn}
+use Rattle.demands.specs.Table.{Row, Hears, Over, IsHello}
 
 -- a record that is right under the started keys: "a protected handshake record", the started one's "change cipher spec has come",
 -- and its code is right there
@@ -35,7 +36,7 @@ pub record RightBeside (c : Connection) (d : List ℕ) (r : Record) : Type 0 whe
 
 -- not a ClientHello first in its datagram
 abbrev pub NotGreeting : List ℕ → Record → Type 0
-NotGreeting d r = isHello d r ≡ true → r .start ≢ 0
+NotGreeting d r = IsHello (seenIn d r) → r .start ≢ 0
 
 -- not the hello of a started handshake
 abbrev pub NotItsHello : Connection → List ℕ → Record → Type 0
@@ -47,13 +48,13 @@ pub data Asks (c : Connection) (d : List ℕ) (r : Record) : Whom → Type 0 whe
   -- without an open one all is as in 01
   asks-only : c .handshake .state ≢ Open → Asks c d r A.Only
   -- "by the rows of .. Replied and Spec": the same ClientHello, the same reply bytes
-  asks-its-hello : c .handshake .state ≡ Open → isHello d r ≡ true → r .start ≡ 0 → Hears (c .started .state)
+  asks-its-hello : c .handshake .state ≡ Open → IsHello (seenIn d r) → r .start ≡ 0 → Hears (c .started .state)
       → fragmentOf d r ≡ keptHello (c .started) → Asks c d r A.Started
   -- "The hello that made the open connection gets its reply bytes again and starts nothing."
-  asks-open-hello : c .handshake .state ≡ Open → isHello d r ≡ true → r .start ≡ 0 → NotItsHello c d r
+  asks-open-hello : c .handshake .state ≡ Open → IsHello (seenIn d r) → r .start ≡ 0 → NotItsHello c d r
       → fragmentOf d r ≡ keptHello (c .handshake) → Asks c d r A.Open
   -- any other ClientHello that is first: a newcomer greets
-  asks-new-hello : c .handshake .state ≡ Open → isHello d r ≡ true → r .start ≡ 0 → NotItsHello c d r
+  asks-new-hello : c .handshake .state ≡ Open → IsHello (seenIn d r) → r .start ≡ 0 → NotItsHello c d r
       → fragmentOf d r ≢ keptHello (c .handshake) → Asks c d r A.Newcomer
   -- "Clear alerts touch the started one only", and so do the other clear records
   asks-clear : c .handshake .state ≡ Open → r .protected ≡ false → NotGreeting d r → Hears (c .started .state) → Asks c d r A.Started
@@ -77,11 +78,11 @@ pub data Left (c : Connection) (j : Judged) : Whom → Connection → Type 0 whe
   -- "What closes or bars the open one drops the started one too."
   left-ended : j .handshake .state ≢ Open → Left c j A.Open (connectionOf (j .handshake) noneStarted (sentWith c j))
   -- "The open one goes on until the new Finished is verified, and is then replaced."
-  left-started : j .handshake .state ≢ Open → ended (j .handshake .state) ≡ false
+  left-started : j .handshake .state ≢ Open → (Over (j .handshake .state) → ⊥)
       → Left c j A.Started (connectionOf (c .handshake) (j .handshake) (sentWith c j))
   left-replaced : j .handshake .state ≡ Open → Left c j A.Started (connectionOf (j .handshake) noneStarted (sentWith c j))
   -- "closing by one of them, or by 17 under the started keys, drops just that"
-  left-dropped : ended (j .handshake .state) ≡ true → Left c j A.Started (connectionOf (c .handshake) noneStarted (sentWith c j))
+  left-dropped : Over (j .handshake .state) → Left c j A.Started (connectionOf (c .handshake) noneStarted (sentWith c j))
   -- a newcomer with a new reply becomes the started one, in place of any earlier
   left-greeted : Hears (j .handshake .state) → Left c j A.Newcomer (connectionOf (c .handshake) (j .handshake) (sentWith c j))
   left-unchanged : (Hears (j .handshake .state) → ⊥) → Left c j A.Newcomer (connectionOf (c .handshake) (c .started) (sentWith c j))

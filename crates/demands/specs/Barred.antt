@@ -31,6 +31,7 @@ use Rattle.connection.specs.declared.receive.Taken.the-variants as T
 use Rattle.connection.specs.declared.handshake.Handshake.{Handshake}
 use Rattle.demands.specs.Runs.{Call, receive, send-data, send-alert, close, start, Result, received, sent, called, Step, Gateway, stepOf, finalOf}
 use Rattle.demands.specs.Genuine.{Genuine, keysOf}
+use Rattle.demands.specs.Seen.{seenIn}
 use Rattle.demands.specs.Table.{Guarded}
 use Rattle.demands.specs.Events.{Event, took, Sound, next}
 use Rattle.demands.specs.Refusals.{lentBy}
@@ -45,7 +46,7 @@ pub record FatalUnderCode (h : Handshake) (e : Event) : Type 0 where
   pub c : List ℕ
   pub a : Alert
   pub event : e ≡ took records random d r
-  pub taken : Guarded h r
+  pub taken : Guarded (h .state) (seenIn d r)
   pub genuine : Genuine (keysOf h) d r c
   pub w : Window
   pub arrived : ℕ

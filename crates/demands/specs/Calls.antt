@@ -47,7 +47,7 @@ use Rattle.connection.specs.declared.handshake.Handshake.{Handshake}
 use Rattle.demands.specs.Runs.{Call, receive, send-data, send-alert, close, start, received, sent, called, Step, stepOf, freshOne}
 use Rattle.connection.specs.declared.asked.Whom.{Whom}
 use Rattle.connection.specs.declared.told.Told.{Told}
-use Rattle.demands.specs.Table.{ended}
+use Rattle.demands.specs.Table.{Over}
 use Rattle.demands.specs.Asked.{Asks, Tells}
 
 -- Records one after the other, each in the connection that those before it left: an answer for each, and what the last
@@ -159,9 +159,9 @@ pub data CallRow (c : Connection) : Call → Step → Type 0 where
       → CallRow c (receive d random out) (taken out rs answers reply left)
   -- send data
   data-16 : {bytes out : List ℕ} → BadData bytes → CallRow c (send-data bytes out) (notSent c out X.Argument)
-  data-7 : {bytes out : List ℕ} → GoodData bytes → ended (c .handshake .state) ≡ true
+  data-7 : {bytes out : List ℕ} → GoodData bytes → Over (c .handshake .state)
       → CallRow c (send-data bytes out) (notSent c out X.Ended)
-  data-8 : {bytes out : List ℕ} → GoodData bytes → ended (c .handshake .state) ≡ false → c .handshake .state ≢ Open
+  data-8 : {bytes out : List ℕ} → GoodData bytes → (Over (c .handshake .state) → ⊥) → c .handshake .state ≢ Open
       → CallRow c (send-data bytes out) (notSent c out X.NotAllowed)
   data-15 : {bytes out : List ℕ} → GoodData bytes → c .handshake .state ≡ Open → 65535 < numberFor true (c .handshake)
       → CallRow c (send-data bytes out) (notSent c out X.Spent)
@@ -178,11 +178,11 @@ pub data CallRow (c : Connection) : Call → Step → Type 0 where
       → CallRow c (send-alert protected level description answered out) (notSent c out X.Argument)
   alert-7 : {protected : Bool} {level description : ℕ} {answered out : List ℕ} {l : Level} {k : Description}
       → GoodAlert level description answered l k
-      → ended (senderOf protected c .state) ≡ true
+      → Over (senderOf protected c .state)
       → CallRow c (send-alert protected level description answered out) (notSent c out X.Ended)
   alert-8 : {protected : Bool} {level description : ℕ} {answered out : List ℕ} {l : Level} {k : Description}
       → GoodAlert level description answered l k
-      → ended (senderOf protected c .state) ≡ false → mayAlert protected (senderOf protected c .state) ≡ false
+      → (Over (senderOf protected c .state) → ⊥) → mayAlert protected (senderOf protected c .state) ≡ false
       → CallRow c (send-alert protected level description answered out) (notSent c out X.NotAllowed)
   alert-15 : {protected : Bool} {level description : ℕ} {answered out : List ℕ} {l : Level} {k : Description}
       → GoodAlert level description answered l k

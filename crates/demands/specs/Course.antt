@@ -73,7 +73,11 @@ withRecord k expected course d r =
     pick (course .shut) course
     (pick (genuineBytes k d r)
     (pick (isNew (course .width) (course .numbers) (r .number))
-    (record { width = course .width; numbers = r .number ∷ course .numbers; shut = contentShuts (r .content) (contentBytes k d r) expected })
+    (record {
+      width = course .width;
+      numbers = r .number ∷ course .numbers;
+      shut = contentShuts (r .content) (contentBytes k d r) expected;
+    })
     course)
     course)
 

@@ -4,6 +4,7 @@ use Rattle.demands.specs.Runs.{stepOf}
 use Rattle.demands.specs.Table.{TableHolds}
 use Rattle.demands.specs.Calls.{CallsHold, FreshHolds}
 use Rattle.demands.specs.Exactly.All.{GivenExactlyWhen}
+use Rattle.demands.specs.Exactly.Record.{SeenInPlace}
 use Rattle.demands.specs.Refusals.{RefusedByTheList, RefusedCallChangesNothing, RefusedRecordChangesNothing, RefusedRecordInConnection, NothingWrittenWithoutReply}
 use Rattle.demands.specs.Changes.{RecordChangesOnly, DataChangesOnly, AlertChangesOnly, CloseChangesOnly, StartChangesOnly}
 use Rattle.demands.specs.Kept.{KeptIsWhatHappened}
@@ -27,6 +28,7 @@ use Rattle.demands.specs.Places.{RunsAreActs, AnswersInPlace}
 use Rattle.demands.specs.Gateways.{Demand2, Demand3, Demand2IsTable, Demand2Settles, FiveFail}
 use Rattle.demands.specs.Instances.{Instances}
 use Rattle.demands.specs.Cases.{Cases}
+use Rattle.demands.specs.Why.{WhyAnswers}
 
 -- "The gateway takes every datagram, of any content, and every order of calls, and always comes back. Bad input is
 -- refused with a number from the list. A refused call writes nothing into the output we lend, and the connection is as
@@ -45,6 +47,8 @@ pub record First : Type 0 where
 -- defines them, within the stated profile."
 pub record Second : Type 0 where
   pub table : TableHolds
+  -- .. over records that were read as their bytes say
+  pub seen : SeenInPlace
   -- 02, P6, "A unit that rebooted": for whom a record is, and what is left of both handshakes
   pub asked : AskedHolds
   pub left : LeftHolds
@@ -111,6 +115,8 @@ pub record Demands : Type 0 where
   pub cases : Cases
   pub runs-are-acts : RunsAreActs
   pub answers-in-place : AnswersInPlace
+  -- 02, P5: the tool that names the reason of a refusal
+  pub why : WhyAnswers stepOf
   -- demands 2 and 3 of any gateway; 01: "These must not pass"
   pub meets-2 : Demand2 stepOf
   pub meets-3 : Demand3 stepOf

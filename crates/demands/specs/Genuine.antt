@@ -2,7 +2,7 @@
 -- for its number." Said over the bytes, with the key and code definitions of layer 2.
 use mathlib.Core.Path.{_≡_}
 use mathlib.Core.Bool.{true}
-use mathlib.Core.List.{List, [], _∷_, _++_}
+use mathlib.Core.List.{List, _∷_, _++_}
 use Prim.Native.Nat.{ℕ}
 use Rattle.digest.specs.Hmac.{hmac}
 use Rattle.digest.specs.Mac.{sizeOf}
@@ -12,8 +12,8 @@ use Rattle.record.specs.declared.keys.Sense.the-variants.{FromUnit}
 use Rattle.record.specs.Code.{fragmentBy}
 use Rattle.record.specs.Datagram.{framed, framingOf}
 use Rattle.record.specs.declared.reader.Record.{Record}
-use Rattle.connection.specs.Judge.{fragmentOf}
 use Rattle.connection.specs.declared.handshake.Handshake.{Handshake}
+use Rattle.demands.specs.Seen.{Seen, seenIn}
 
 -- "the key for its number": the unit's MAC secret for number s
 abbrev pub unitKey : Keys → ℕ → List ℕ
@@ -25,10 +25,14 @@ pub record RecordOf (d : List ℕ) (r : Record) : Type 0 where
   pub behind : List Record
   pub framing : framingOf d ≡ framed (before ++ (r ∷ behind))
 
--- the record is protected, and its fragment is the content c with the right code behind it
+-- the fragment is the content c with the right code behind it
+abbrev pub Coded : Keys → Seen → List ℕ → Type 0
+Coded k q c = q .fragment ≡ fragmentBy (hmac (unitKey k (q .number))) (sizeOf (k .mac)) (q .number) (q .byte) c
+
+-- the record is protected, and so coded
 pub record Protected (k : Keys) (d : List ℕ) (r : Record) (c : List ℕ) : Type 0 where
   pub is-protected : r .protected ≡ true
-  pub is-coded : fragmentOf d r ≡ fragmentBy (hmac (unitKey k (r .number))) (sizeOf (k .mac)) (r .number) (r .byte) c
+  pub is-coded : Coded k (seenIn d r) c
 
 -- r is a genuine record of d with the content c
 pub record Genuine (k : Keys) (d : List ℕ) (r : Record) (c : List ℕ) : Type 0 where

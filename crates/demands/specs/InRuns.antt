@@ -21,6 +21,7 @@ use Rattle.connection.specs.declared.handshake.Handshake.{Handshake}
 use Rattle.connection.specs.declared.handshake.Session.{Session}
 use Rattle.demands.specs.Runs.{freshWith, freshOne}
 use Rattle.demands.specs.Genuine.{Genuine, RecordOf}
+use Rattle.demands.specs.Seen.{seenIn}
 use Rattle.demands.specs.Table.{Guarded}
 use Rattle.demands.specs.Events.{Event, AllSound, Happened, after, history}
 use Rattle.demands.specs.Past.{keysIn, expectedIn, acceptedIn}
@@ -54,7 +55,7 @@ unfoldable pub ProtectedInRuns : Type 0
 ProtectedInRuns =
     (id secret : List ℕ) (width : ℕ) → Held width → (es : List Event) → AllSound es
     → (sent : SentRecords) (random d : List ℕ) (r : Record) → RecordOf d r
-    → Guarded (after (freshWith id secret width) es) r
+    → Guarded (after (freshWith id secret width) es .state) (seenIn d r)
     → ProtectedExactly (sessionOf id secret) width (history (freshWith id secret width) es []) d r
     (judgedRecord (after (freshWith id secret width) es) sent random d r .answer)
 

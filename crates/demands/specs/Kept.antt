@@ -33,7 +33,8 @@ pub record KeptAs (session : Session) (width : ℕ) (past : List Happened) (h : 
   pub window-is : h .protection .window ≡ windowOf width (acceptedIn past)
   -- "required to forget any session identifiers, keys, and secrets" (002 10.2.2)
   pub barred-is : barredIn past ≡ true
-      → (h .state ≡ Barred) × (planted h ≡ noSession) × (h .kept ≡ nothingKept) × (agreedOf h ≡ nothingAgreed (h .protection .keys .mac) (h .protection .keys .refresh))
+      → (h .state ≡ Barred) × (planted h ≡ noSession) × (h .kept ≡ nothingKept)
+      × (agreedOf h ≡ nothingAgreed (h .protection .keys .mac) (h .protection .keys .refresh))
 
 unfoldable pub KeptIsWhatHappened : Type 0
 KeptIsWhatHappened =

@@ -1,5 +1,6 @@
 -- The demands on the gateway, as statements over the definitions of the four layers.
 pub mod Runs
+pub mod Seen
 pub mod Genuine
 pub mod Table
 pub mod Asked
@@ -33,4 +34,6 @@ pub mod Instances
 pub mod Cases
 pub mod Exactly
 pub mod Messages
+pub mod Facts
+pub mod Why
 pub mod Demands

@@ -2,7 +2,7 @@
 -- life of its own, the events that it was given, and is what that life leaves of a fresh handshake; what is said of every life
 -- (`Kept`, `Finished`, `InRuns`, `Fatal`) is said of both.
 use mathlib.Core.Path.{_≡_}
-use mathlib.Core.Logic.{_↔_, _≢_}
+use mathlib.Core.Logic.{_↔_, _⊎_, _≢_}
 use mathlib.Core.Bool.{Bool, true, false}
 use mathlib.Core.List.{List, [], _∷_, _++_, map}
 use Prim.Native.Nat.{ℕ}
@@ -110,9 +110,9 @@ besideOf fresh (e ∷ es) = after fresh (e ∷ es)
 pub record Lived (fresh : Handshake) (l : Lives) (c : Connection) : Type 0 where
   pub own-life : c .handshake ≡ after fresh (l .own)
   pub beside-life : c .started ≡ besideOf fresh (l .beside)
-  -- a handshake is started only beside an open one, and is not open itself
+  -- a handshake is started only beside an open one, and is in Replied or Spec
   pub only-open : c .handshake .state ≢ S.Open → l .beside ≡ []
-  pub not-open : c .started .state ≢ S.Open
+  pub under-way : (l .beside ≡ []) ⊎ Hears (c .started .state)
 
 -- after any run of a connection from fresh
 unfoldable pub LivesHold : Type 0

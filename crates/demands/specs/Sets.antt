@@ -11,6 +11,7 @@ use Rattle.message.specs.Values.{Values, allowed, helloOf}
 use Rattle.message.specs.Blank.{blanked, entriesRanged, HeardAlike}
 use Rattle.connection.specs.Judge.{judgedRecord, fragmentOf}
 use Rattle.connection.specs.declared.handshake.Handshake.{Handshake}
+use Rattle.demands.specs.Seen.{seenIn}
 use Rattle.demands.specs.Table.{Greets}
 use Rattle.connection.specs.declared.sent.SentRecords.{SentRecords}
 
@@ -29,8 +30,8 @@ pub record AnsweredAlike : Type 0 where
       → blanked v ≡ blanked w
       → Brings d r v
       → Brings e q w
-      → Greets h d r
-      → Greets h e q
+      → Greets h (seenIn d r)
+      → Greets h (seenIn e q)
       → judgedRecord h sent random d r .answer ≡ judgedRecord h sent random e q .answer
 
 -- explicit sets, read and written exactly, and of no weight in what is accepted

@@ -3,12 +3,10 @@
 -- then code and window; then content 12, then 13, 14 or 17." Which handshake of a connection a record is for: `Asked`.
 use mathlib.Core.Path.{_≡_}
 use mathlib.Core.Logic.{_↔_, _⊎_, _≢_}
-use mathlib.Core.Bool.{Bool, true, false}
+use mathlib.Core.Bool.{true, false}
 use mathlib.Core.List.{List}
 use Prim.Native.Nat.{ℕ, _+_, _<_}
 use lib.ListN.{length, getD}
-use lib.Dec.{eqb}
-use Rattle.digest.specs.Pick.{pick}
 use Rattle.record.specs.Window.{acceptOf, emptied}
 use Rattle.record.specs.declared.header.Content.{Content}
 use Rattle.record.specs.declared.header.Content.the-variants as C
@@ -38,95 +36,57 @@ use Rattle.connection.specs.declared.refusal.Refusal.the-variants as X
 use Rattle.connection.specs.declared.answer.Answer.the-variants as W
 use Rattle.connection.specs.declared.answer.Judged.{Judged}
 use Rattle.connection.specs.declared.handshake.Handshake.{Handshake}
+use Rattle.demands.specs.Seen.{Seen, seenIn}
 use Rattle.demands.specs.Genuine.{Protected, keysOf}
 use Rattle.connection.specs.declared.sent.SentRecords.{SentRecords}
 
--- 7: "Barred, or Closed except for start again and close"
-abbrev pub ended : State → Bool
-ended Idle = false
-ended Replied = false
-ended Spec = false
-ended Open = false
-ended Closed = true
-ended Barred = true
-
--- "A clear handshake record that begins with byte 1 counts as a ClientHello."
-abbrev pub beginsHello : List ℕ → Record → Bool
-beginsHello d r = eqb (getD (fragmentOf d r) 0 0) 1
-
-abbrev pub helloFor : Content → Bool → Bool → Bool
-helloFor C.ChangeCipherSpec protected one = false
-helloFor C.Alert protected one = false
-helloFor C.Handshake protected one = pick protected false one
-helloFor C.Data protected one = false
-
-abbrev pub isHello : List ℕ → Record → Bool
-isHello d r = helloFor (r .content) (r .protected) (beginsHello d r)
-
--- The clear records of the table: ClientHello in Idle, Replied and Spec; change cipher spec in Replied; alert in
--- Replied and Spec. "Everything else is refused." An open handshake knows one clear record, the hello that made it: `Returns`.
-abbrev pub clearAllowed : State → Content → Bool → Bool
-clearAllowed Idle C.ChangeCipherSpec one = false
-clearAllowed Idle C.Alert one = false
-clearAllowed Idle C.Handshake one = one
-clearAllowed Idle C.Data one = false
-clearAllowed Replied C.ChangeCipherSpec one = true
-clearAllowed Replied C.Alert one = true
-clearAllowed Replied C.Handshake one = one
-clearAllowed Replied C.Data one = false
-clearAllowed Spec C.ChangeCipherSpec one = false
-clearAllowed Spec C.Alert one = true
-clearAllowed Spec C.Handshake one = one
-clearAllowed Spec C.Data one = false
-clearAllowed Open content one = false
-clearAllowed Closed content one = false
-clearAllowed Barred content one = false
-
--- "In Spec the allowed kinds are handshake and alert; in Open all four."
-abbrev pub protectedAllowed : State → Content → Bool
-protectedAllowed Idle content = false
-protectedAllowed Replied content = false
-protectedAllowed Spec C.ChangeCipherSpec = false
-protectedAllowed Spec C.Alert = true
-protectedAllowed Spec C.Handshake = true
-protectedAllowed Spec C.Data = false
-protectedAllowed Open content = true
-protectedAllowed Closed content = false
-protectedAllowed Barred content = false
-
--- whether the table has a row for a record in a state
-abbrev pub allowed : State → List ℕ → Record → Bool
-allowed s d r = pick (r .protected) (protectedAllowed s (r .content)) (clearAllowed s (r .content) (beginsHello d r))
-
--- states by name, where a row is for two of them
+-- states by name, where a row is for two of them; 7: "Barred, or Closed"
 abbrev pub Hears : State → Type 0
 Hears s = (s ≡ Replied) ⊎ (s ≡ Spec)
 
--- a protected record of an allowed kind
-pub record Guarded (h : Handshake) (r : Record) : Type 0 where
-  pub protection : r .protected ≡ true
-  pub kind : protectedAllowed (h .state) (r .content) ≡ true
+abbrev pub Over : State → Type 0
+Over s = (s ≡ Closed) ⊎ (s ≡ Barred)
 
--- ".. whose code is right, and whose number is new: w is the window with its mark"
+-- "A clear handshake record that begins with byte 1 counts as a ClientHello."
+pub record IsHello (q : Seen) : Type 0 where
+  pub clear : q .protected ≡ false
+  pub handshake : q .content ≡ C.Handshake
+  pub begins : getD (q .fragment) 0 0 ≡ 1
+
+-- "In Spec and Open, a protected record of an allowed kind": "in Spec the allowed kinds are handshake and alert; in
+-- Open all four"
+pub record Guarded (s : State) (q : Seen) : Type 0 where
+  pub protection : q .protected ≡ true
+  pub kind : ((s ≡ Spec) × ((q .content ≡ C.Alert) ⊎ (q .content ≡ C.Handshake))) ⊎ (s ≡ Open)
+
+-- what the table has a row for: "Idle | clear ClientHello", "Replied, Spec | the same, another ClientHello", "which may stand only
+-- first in its datagram"; "Replied | clear change cipher spec"; "Replied, Spec | clear alert"; and the protected records of Spec and
+-- Open. "Everything else is refused." An open handshake knows one clear record, the hello that made it: `Returns`.
+pub data Allowed (s : State) (q : Seen) : Type 0 where
+  hello : (s ≡ Idle) ⊎ Hears s → IsHello q → q .at ≡ 0 → Allowed s q
+  change : s ≡ Replied → q .protected ≡ false → q .content ≡ C.ChangeCipherSpec → Allowed s q
+  alert : Hears s → q .protected ≡ false → q .content ≡ C.Alert → Allowed s q
+  guarded : Guarded s q → Allowed s q
+
+-- 02, P6: "The hello that made the open connection gets its reply bytes again and starts nothing."
+pub record Returns (h : Handshake) (q : Seen) : Type 0 where
+  pub is-open : h .state ≡ Open
+  pub hello : IsHello q
+  pub first : q .at ≡ 0
+  pub same : q .fragment ≡ keptHello h
+
+-- a ClientHello first in its datagram that is to be read: "Idle"; "Replied, Spec: another ..", not "the same ClientHello message"
+pub record Greets (h : Handshake) (q : Seen) : Type 0 where
+  pub hello : IsHello q
+  pub first : q .at ≡ 0
+  pub another : (h .state ≡ Idle) ⊎ (Hears (h .state) × (q .fragment ≢ keptHello h))
+
+-- a protected record of an allowed kind whose code is right, and whose number is new: w is the window with its mark
 pub record New (h : Handshake) (d : List ℕ) (r : Record) (c : List ℕ) (w : Window) : Type 0 where
-  pub guarded : Guarded h r
+  pub guarded : Guarded (h .state) (seenIn d r)
   pub coded : Protected (keysOf h) d r c
   pub arrived : ℕ
   pub accepted : acceptOf (h .protection .window) (r .number) ≡ A.New w arrived
-
--- a clear ClientHello that is first in its datagram, in a state that hears it
-pub record Greets (h : Handshake) (d : List ℕ) (r : Record) : Type 0 where
-  pub hello : isHello d r ≡ true
-  pub first : r .start ≡ 0
-  -- "Idle"; "Replied, Spec: another ..."
-  pub another : (h .state ≡ Idle) ⊎ (Hears (h .state) × (fragmentOf d r ≢ keptHello h))
-
--- 02, P6: "The hello that made the open connection gets its reply bytes again and starts nothing."
-pub record Returns (h : Handshake) (d : List ℕ) (r : Record) : Type 0 where
-  pub is-open : h .state ≡ Open
-  pub hello : isHello d r ≡ true
-  pub first : r .start ≡ 0
-  pub same : fragmentOf d r ≡ keptHello h
 
 -- 12 under protection: "empty data", an alert or a Finished that is none, "change cipher spec or a message other than
 -- Finished under protection"
@@ -140,29 +100,27 @@ MalformedAs C.Data c expected = length c ≡ 0
 -- answer and leaves this handshake.
 pub data Row (h : Handshake) (sent : SentRecords) (random d : List ℕ) (r : Record) : Judged → Type 0 where
   -- 7
-  row-ended : ended (h .state) ≡ true → Row h sent random d r (refusing X.Ended h)
-  -- 8: "record .. not allowed in this state or place"; a ClientHello "may stand only first in its datagram"
-  row-not-allowed : ended (h .state) ≡ false → allowed (h .state) d r ≡ false → (Returns h d r → ⊥)
-      → Row h sent random d r (refusing X.NotAllowed h)
-  row-not-first : allowed (h .state) d r ≡ true → isHello d r ≡ true → (r .start ≡ 0 → ⊥)
+  row-ended : Over (h .state) → Row h sent random d r (refusing X.Ended h)
+  -- 8: "record .. not allowed in this state or place"
+  row-not-allowed : (Over (h .state) → ⊥) → (Allowed (h .state) (seenIn d r) → ⊥) → (Returns h (seenIn d r) → ⊥)
       → Row h sent random d r (refusing X.NotAllowed h)
   -- "Idle | clear ClientHello | reply; Replied" and "Replied, Spec | another acceptable ClientHello | new reply;
   -- Replied"
-  row-reply : (plan : Plan) → Greets h d r → heardOf (fragmentOf d r) (h .id) ≡ H.Accepted plan
+  row-reply : (plan : Plan) → Greets h (seenIn d r) → heardOf (fragmentOf d r) (h .id) ≡ H.Accepted plan
       → Row h sent random d r
       (judged (W.Reply (length (replyTo (planted h) random (fragmentOf d r) plan)))
       (answeredWith h random (fragmentOf d r) plan))
   -- 12 and 13 of a hello
-  row-hello-malformed : (fault : Field) → Greets h d r → heardOf (fragmentOf d r) (h .id) ≡ H.Malformed fault
+  row-hello-malformed : (fault : Field) → Greets h (seenIn d r) → heardOf (fragmentOf d r) (h .id) ≡ H.Malformed fault
       → Row h sent random d r (refusing X.Malformed h)
-  row-unacceptable : (condition : Condition) → Greets h d r
+  row-unacceptable : (condition : Condition) → Greets h (seenIn d r)
       → heardOf (fragmentOf d r) (h .id) ≡ H.Unacceptable condition
       → Row h sent random d r (refusing X.Unacceptable h)
   -- "Replied, Spec | the same ClientHello message | the same reply bytes; no change"
-  row-resent : Hears (h .state) → isHello d r ≡ true → r .start ≡ 0 → fragmentOf d r ≡ keptHello h
+  row-resent : Hears (h .state) → IsHello (seenIn d r) → r .start ≡ 0 → fragmentOf d r ≡ keptHello h
       → Row h sent random d r (judged (W.Resent (length (keptReply h))) h)
   -- Open: "gets its reply bytes again" (02, P6)
-  row-returned : Returns h d r → Row h sent random d r (judged (W.Resent (length (keptReply h))) h)
+  row-returned : Returns h (seenIn d r) → Row h sent random d r (judged (W.Resent (length (keptReply h))) h)
   -- "Replied | clear change cipher spec (one byte 1) | Spec, window empty"; 12: "clear change cipher spec other than
   -- one byte 1"
   row-change : h .state ≡ Replied → r .protected ≡ false → r .content ≡ C.ChangeCipherSpec
@@ -188,10 +146,13 @@ pub data Row (h : Handshake) (sent : SentRecords) (random d : List ℕ) (r : Rec
       → alertOf (fragmentOf d r) ≡ R.WellFormed a → matchesOf sent (a .checksum) ≡ true → a .level ≡ L.Fatal
       → Row h sent random d r (judged (W.Fatal (a .description)) (withState h Closed))
   -- 9: "code not right"; 10: "too old"; 11: "repeated"
-  row-forged : Guarded h r → ((c : List ℕ) → Protected (keysOf h) d r c → ⊥) → Row h sent random d r (refusing X.Forged h)
-  row-old : (c : List ℕ) → Guarded h r → Protected (keysOf h) d r c → acceptOf (h .protection .window) (r .number) ≡ A.TooOld
+  row-forged : Guarded (h .state) (seenIn d r) → ((c : List ℕ) → Protected (keysOf h) d r c → ⊥)
+      → Row h sent random d r (refusing X.Forged h)
+  row-old : (c : List ℕ) → Guarded (h .state) (seenIn d r) → Protected (keysOf h) d r c
+      → acceptOf (h .protection .window) (r .number) ≡ A.TooOld
       → Row h sent random d r (refusing X.TooOld h)
-  row-repeated : (c : List ℕ) → Guarded h r → Protected (keysOf h) d r c → acceptOf (h .protection .window) (r .number) ≡ A.Repeated
+  row-repeated : (c : List ℕ) → Guarded (h .state) (seenIn d r) → Protected (keysOf h) d r c
+      → acceptOf (h .protection .window) (r .number) ≡ A.Repeated
       → Row h sent random d r (refusing X.Repeated h)
   -- "A genuine new record marks its number even if its content is then refused."
   row-malformed : (c : List ℕ) (w : Window) → New h d r c w → MalformedAs (r .content) c (h .expected)

@@ -1,12 +1,12 @@
 -- Hellos, by what is written of their values. The idea: the well-formed hellos are exactly those that the writer
 -- writes (layer 3), and the conditions of acceptance are the tests on those values.
 use mathlib.Core.Path.{_≡_, refl, sym, ap, subst, _∙_}
-use mathlib.Core.Logic.{_⊎_, _≢_, inl, inr}
-use mathlib.Core.Bool.{Bool, true, false}
+use mathlib.Core.Logic.{_⊎_, inl, inr}
+use mathlib.Core.Bool.{true, false}
 use mathlib.Core.List.{List, [], _∷_}
 use Prim.Native.Nat.{ℕ, zero, suc, _+_, _<_}
 use native.Mathlib.Omega.{arith}
-use lib.ListN.{length, getD, take, drop}
+use lib.ListN.{take, drop}
 use lib.Seq.{getD-drop}
 use lib.Dec.{eqb, lit<}
 use borrow.Author.Tests.{eq-eqb, ne-eqb, eqb-true, eqb-false}
@@ -15,15 +15,14 @@ use Rattle.digest.specs.Mac.{listedAs, sameBytes}
 use Rattle.digest.proofs.Same.{same-equal, equal-same}
 use Rattle.digest.specs.declared.mac.Listed.{Listed}
 use Rattle.digest.specs.declared.mac.Listed.the-variants as L
-use Rattle.digest.specs.declared.mac.Mac.the-variants.{Sha80, Sha}
 use Rattle.message.specs.Acceptance.{fitsPair, firstFit, hasNull, paired, acceptedOf, acceptanceOf, judged, heardAs, heardOf}
 use Rattle.message.specs.Hello.{readOf}
-use Rattle.message.specs.Values.{Values, allowed, helloOf, valuesAt}
+use Rattle.message.specs.Values.{Values, valuesAt}
 use Rattle.message.proofs.Written.{placesOf, read-written, written-read}
+use Rattle.message.specs.declared.acceptance.Condition.the-variants as N
 use Rattle.message.specs.declared.acceptance.Acceptance.{Acceptance}
 use Rattle.message.specs.declared.acceptance.Acceptance.the-variants as A
 use Rattle.message.specs.declared.acceptance.Condition.{Condition}
-use Rattle.message.specs.declared.acceptance.Condition.the-variants as C
 use Rattle.message.specs.declared.acceptance.Heard.{Heard}
 use Rattle.message.specs.declared.acceptance.Heard.the-variants as H
 use Rattle.message.specs.declared.hello.Field.{Field}
@@ -31,6 +30,7 @@ use Rattle.message.specs.declared.hello.Hello.{Hello}
 use Rattle.message.specs.declared.hello.Reading.{Reading}
 use Rattle.message.specs.declared.hello.Reading.the-variants as R
 use Rattle.demands.specs.Exactly.Numbers.{isAmong}
+use Rattle.demands.specs.Facts.{FirstUnmet}
 use Rattle.demands.specs.Exactly.Record.{Bytes, WellFormedHello, OffersPair, Acceptable}
 use Rattle.demands.proofs.Exactly.Reasons.{clash, decide}
 
@@ -105,7 +105,7 @@ null-is (x ∷ s) = ap (pick (eqb x 0) true) (null-is s)
 
 abbrev AcceptHolds : Values → List ℕ → Acceptance → Type 0
 AcceptHolds v id (A.Accepted plan) = Acceptable v id
-AcceptHolds v id (A.Unacceptable condition) = Acceptable v id → ⊥
+AcceptHolds v id (A.Unacceptable condition) = FirstUnmet v id condition
 
 module _ (v : Values) (id : List ℕ) where
   paired-holds : v .version ≡ 1 → v .session ≡ id → (l : Listed) → ListedHolds (v .suites) l
@@ -121,9 +121,9 @@ module _ (v : Values) (id : List ℕ) where
             ∙ c;
         numbering = eqb-true (v .numbering) 2 e;
       }))
-      (λ e. rw (c, e) (λ x. eqb-false (v .numbering) 2 e (x .numbering))))
-      (λ c. rw c (λ x. clash (sym (x .compression) ∙ sym (null-is (v .methods)) ∙ c)))
-  paired-holds a b L.Other o = λ x. o (x .pair)
+      (λ e. rw (c, e) (a, b, o, sym (null-is (v .methods)) ∙ c, eqb-false (v .numbering) 2 e)))
+      (λ c. rw c (a, b, o, sym (null-is (v .methods)) ∙ c))
+  paired-holds a b L.Other o = (a, b, o)
 
   accept-holds : AcceptHolds v id (acceptanceOf v id)
   unfolding acceptedOf
@@ -133,23 +133,31 @@ module _ (v : Values) (id : List ℕ) where
       (λ b. rw (a, b)
       (paired-holds (eqb-true (v .version) 1 a) (same-equal (v .session) id b) (listedAs (firstFit (v .suites)))
       (listed-holds (v .suites))))
-      (λ b. rw (a, b) (λ x. clash (sym (equal-same (v .session) id (x .session)) ∙ b))))
-      (λ a. rw a (λ x. eqb-false (v .version) 1 a (x .version)))
+      (λ b. rw (a, b) (eqb-true (v .version) 1 a, λ x. clash (sym (equal-same (v .session) id x) ∙ b))))
+      (λ a. rw a (eqb-false (v .version) 1 a))
+
+  -- a hello of which a condition fails is not acceptable
+  pub unmet-not : (condition : Condition) → FirstUnmet v id condition → Acceptable v id → ⊥
+  unmet-not N.Version u x = u (x .version)
+  unmet-not N.SessionId (a, u) x = u (x .session)
+  unmet-not N.CipherSuite (a, b, u) x = u (x .pair)
+  unmet-not N.Compression (a, b, o, u) x = clash (sym (x .compression) ∙ u)
+  unmet-not N.Numbering (a, b, o, c, u) x = u (x .numbering)
 
 -- ---- a message that is to be a ClientHello
 
 module _ (m id : List ℕ) where
   abbrev pub HeardHolds : Heard → Type 0
   HeardHolds (H.Accepted plan) = Unit
-  HeardHolds (H.Unacceptable condition) = (w : WellFormedHello m) × (Acceptable (w .values) id → ⊥)
+  HeardHolds (H.Unacceptable condition) = (w : WellFormedHello m) × FirstUnmet (w .values) id condition
   HeardHolds (H.Malformed fault) = WellFormedHello m → ⊥
 
   -- what is written of values is read as well formed
-  reads-so : (w : WellFormedHello m) → readOf m ≡ R.WellFormed (placesOf (w .values))
+  pub reads-so : (w : WellFormedHello m) → readOf m ≡ R.WellFormed (placesOf (w .values))
   reads-so w = subst (λ l. readOf l ≡ R.WellFormed (placesOf (w .values))) (w .layout)
       (written-read (w .values) (w .can) .0)
 
-  values-so : (w : WellFormedHello m) → valuesAt m (placesOf (w .values)) ≡ w .values
+  pub values-so : (w : WellFormedHello m) → valuesAt m (placesOf (w .values)) ≡ w .values
   values-so w = subst (λ l. valuesAt l (placesOf (w .values)) ≡ w .values) (w .layout)
       (written-read (w .values) (w .can) .1)
 

@@ -30,7 +30,8 @@ use Rattle.connection.specs.declared.refusal.Refusal.the-variants as X
 use Rattle.connection.specs.declared.state.State.{State}
 use Rattle.connection.specs.declared.state.State.the-variants as S
 use Rattle.demands.specs.Runs.{sent, sentAs, stepOf}
-use Rattle.demands.specs.Exactly.Numbers.{Over, isAmong, isAssigned}
+use Rattle.demands.specs.Table.{Over}
+use Rattle.demands.specs.Exactly.Numbers.{isAmong, isAssigned}
 use Rattle.demands.specs.Exactly.Sends.{DataFits, WhyData, DataGoes, ExactlyData, AlertFits, AlertMay, AlertMayNot, alertNumberOf, alertCodeOf, WhyAlert, AlertGoes, ExactlyAlert}
 use Rattle.demands.proofs.Exactly.Reasons.{decide, Holds, refused-when, done-when, through}
 

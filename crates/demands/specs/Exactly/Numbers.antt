@@ -2,7 +2,6 @@
 -- and words that several
 -- rows share.
 use mathlib.Core.Path.{_≡_}
-use mathlib.Core.Logic.{_⊎_}
 use mathlib.Core.Bool.{Bool, true, false}
 use mathlib.Core.List.{List, [], _∷_}
 use Prim.Native.Nat.{ℕ}
@@ -11,8 +10,6 @@ use Rattle.digest.specs.Pick.{pick}
 use Rattle.record.specs.declared.reader.Fault.the-variants as F
 use Rattle.connection.specs.Refusal.{refusalNumber}
 use Rattle.connection.specs.declared.refusal.Refusal.the-variants as X
-use Rattle.connection.specs.declared.state.State.{State}
-use Rattle.connection.specs.declared.state.State.the-variants.{Closed, Barred}
 
 pub record Numbered : Type 0 where
   pub one : refusalNumber (X.Framing F.Size) ≡ 1
@@ -32,10 +29,6 @@ pub record Numbered : Type 0 where
   pub fifteen : refusalNumber X.Spent ≡ 15
   pub sixteen : refusalNumber X.Argument ≡ 16
   pub seventeen : refusalNumber X.WrongFinished ≡ 17
-
--- 7: "Barred, or Closed"
-abbrev pub Over : State → Type 0
-Over state = (state ≡ Closed) ⊎ (state ≡ Barred)
 
 -- 002 10.2, AlertDescription: the numbers that are assigned
 abbrev pub assignedNumbers : List ℕ

@@ -3,100 +3,55 @@
 -- the numbers accepted before and the records sent.
 use mathlib.Core.Path.{_≡_}
 use mathlib.Core.Logic.{_↔_, _⊎_, _≢_}
-use mathlib.Core.Bool.{Bool, true, false}
+use mathlib.Core.Bool.{true, false}
 use mathlib.Core.List.{List, [], _∷_}
 use Prim.Native.Nat.{ℕ, _+_, _%_, _≤_, _<_}
 use lib.ListN.{length, getD, take, drop}
 use Rattle.digest.specs.Bytes.{wordAt}
-use Rattle.digest.specs.Hmac.{hmac}
-use Rattle.digest.specs.Mac.{sizeOf}
-use Rattle.record.specs.Code.{fragmentBy}
-use Rattle.record.specs.Header.{bit}
+use Rattle.record.specs.Header.{bit, contentOf}
 use Rattle.record.specs.History.{accepted, highestOf, windowOf}
 use Rattle.record.specs.Reader.{pairAt}
+use Rattle.record.specs.declared.header.Content.the-variants as C
 use Rattle.record.specs.declared.reader.Record.{Record}
 use Rattle.message.specs.Values.{Values, allowed, helloOf}
-use Rattle.connection.specs.Handshake.{keptHello, planted}
 use Rattle.connection.specs.Judge.{judgedRecord}
 use Rattle.connection.specs.declared.answer.Answer.the-variants as W
 use Rattle.connection.specs.declared.handshake.Handshake.{Handshake}
 use Rattle.connection.specs.declared.refusal.Refusal.{Refusal}
 use Rattle.connection.specs.declared.refusal.Refusal.the-variants as X
-use Rattle.connection.specs.declared.state.State.{State}
-use Rattle.connection.specs.declared.state.State.the-variants.{Idle, Replied, Spec, Open}
-use Rattle.record.specs.declared.keys.Keys.{Keys}
-use Rattle.demands.specs.Table.{Hears}
-use Rattle.demands.specs.Genuine.{unitKey, keysOf, RecordOf}
-use Rattle.demands.specs.Exactly.Numbers.{Over, isAmong, isAssigned}
+use Rattle.connection.specs.declared.state.State.the-variants.{Replied}
+use Rattle.demands.specs.Seen.{Seen, seenIn}
+use Rattle.demands.specs.Genuine.{Coded, keysOf, RecordOf}
+use Rattle.demands.specs.Table.{Hears, Over, Guarded, Allowed, Returns, Greets}
+use Rattle.demands.specs.Exactly.Numbers.{isAmong, isAssigned}
 use Rattle.demands.specs.Exactly.Whole.{typeAt, headAt, sizeAt}
 use Rattle.record.specs.Window.{Held}
 use Rattle.connection.specs.Sent.{matchesOf}
 use Rattle.connection.specs.declared.sent.SentRecords.{SentRecords}
 
--- ---- what the bytes of a record say
-
-pub record Seen : Type 0 where
-  -- the type byte as on the wire, its bit 2 and its bits 4 to 7
-  pub byte : ℕ
-  pub protected : Bool
-  pub content : ℕ
-  -- "then the sequence number (2 bytes)"
-  pub number : ℕ
-  pub fragment : List ℕ
-  -- where the record begins: 0 for the first of its datagram
-  pub at : ℕ
+-- ---- what the bytes from `at` on say of a record
 
 abbrev pub seenAt : List ℕ → ℕ → Seen
 seenAt d at =
     record {
       byte = typeAt d at;
       protected = bit 2 (typeAt d at);
-      content = typeAt d at % 16;
+      content = contentOf (typeAt d at % 16);
       number = pairAt d (at + 1);
       fragment = take (sizeAt d at) (drop (at + headAt d at) d);
       at = at;
     }
 
--- ---- the table
+-- a record of a soundly framed datagram was read as its bytes say
+unfoldable pub SeenInPlace : Type 0
+SeenInPlace = (d : List ℕ) (r : Record) → RecordOf d r → seenIn d r ≡ seenAt d (r .start)
 
--- "A clear handshake record that begins with byte 1 counts as a ClientHello."
-pub record IsHello (q : Seen) : Type 0 where
-  pub clear : q .protected ≡ false
-  pub handshake : q .content ≡ 3
-  pub begins : getD (q .fragment) 0 0 ≡ 1
-
--- "In Spec and Open, a protected record of an allowed kind": "in Spec the allowed kinds are handshake and alert; in
--- Open all four"
-pub record GuardedAs (state : State) (q : Seen) : Type 0 where
-  pub protection : q .protected ≡ true
-  pub kind : ((state ≡ Spec) × ((q .content ≡ 2) ⊎ (q .content ≡ 3))) ⊎ (state ≡ Open)
-
--- the rows: "Idle | clear ClientHello", "Replied, Spec | the same, another ClientHello", "which may stand only first
--- in its datagram"; "Replied | clear change cipher spec"; "Replied, Spec | clear alert"; and the protected records of
--- Spec and Open
-pub data Allowed (state : State) (q : Seen) : Type 0 where
-  hello : (state ≡ Idle) ⊎ Hears state → IsHello q → q .at ≡ 0 → Allowed state q
-  change : state ≡ Replied → q .protected ≡ false → q .content ≡ 1 → Allowed state q
-  alert : Hears state → q .protected ≡ false → q .content ≡ 2 → Allowed state q
-  guarded : GuardedAs state q → Allowed state q
-
--- an open handshake: "the hello that made the open connection" (02, P6)
-pub record ReturnsAs (h : Handshake) (q : Seen) : Type 0 where
-  pub is-open : h .state ≡ Open
-  pub hello : IsHello q
-  pub first : q .at ≡ 0
-  pub same : q .fragment ≡ keptHello h
-
--- ---- code and window
-
--- the code is right "under the key for its number": the fragment is the content c and its code
-abbrev pub CodedAs : Keys → Seen → List ℕ → Type 0
-CodedAs k q c = q .fragment ≡ fragmentBy (hmac (unitKey k (q .number))) (sizeOf (k .mac)) (q .number) (q .byte) c
+-- ---- code and window, by the numbers accepted before
 
 -- genuine, not too old and not repeated, with the content c
 pub record NewAs (h : Handshake) (numbers : List ℕ) (q : Seen) (c : List ℕ) : Type 0 where
-  pub guarded : GuardedAs (h .state) q
-  pub coded : CodedAs (keysOf h) q c
+  pub guarded : Guarded (h .state) q
+  pub coded : Coded (keysOf h) q c
   pub recent : highestOf numbers < q .number + h .protection .window .width
   pub unseen : accepted numbers (q .number) ≡ false
 
@@ -131,25 +86,19 @@ pub record Acceptable (v : Values) (id : List ℕ) : Type 0 where
   pub compression : isAmong (v .methods) 0 ≡ true
   pub numbering : v .numbering ≡ 2
 
--- a ClientHello that is to be read: not "the same ClientHello message" again
-pub record GreetsAs (h : Handshake) (q : Seen) : Type 0 where
-  pub hello : IsHello q
-  pub first : q .at ≡ 0
-  pub another : (h .state ≡ Idle) ⊎ (Hears (h .state) × (q .fragment ≢ keptHello h))
-
 -- 12, clear: a malformed hello, "clear change cipher spec other than one byte 1", "wrong alert length, unassigned
 -- alert level or description"; and under protection: "change cipher spec or a message other than Finished", such an
 -- alert, "empty data"
 pub data WhyMalformed (h : Handshake) (numbers : List ℕ) (q : Seen) : Type 0 where
-  bad-hello : GreetsAs h q → (WellFormedHello (q .fragment) → ⊥) → WhyMalformed h numbers q
-  bad-change : h .state ≡ Replied → q .protected ≡ false → q .content ≡ 1 → q .fragment ≢ 1 ∷ []
+  bad-hello : Greets h q → (WellFormedHello (q .fragment) → ⊥) → WhyMalformed h numbers q
+  bad-change : h .state ≡ Replied → q .protected ≡ false → q .content ≡ C.ChangeCipherSpec → q .fragment ≢ 1 ∷ []
       → WhyMalformed h numbers q
-  bad-alert : Hears (h .state) → q .protected ≡ false → q .content ≡ 2 → (IsAlert (q .fragment) → ⊥)
+  bad-alert : Hears (h .state) → q .protected ≡ false → q .content ≡ C.Alert → (IsAlert (q .fragment) → ⊥)
       → WhyMalformed h numbers q
-  bad-protected-change : (c : List ℕ) → NewAs h numbers q c → q .content ≡ 1 → WhyMalformed h numbers q
-  bad-protected-alert : (c : List ℕ) → NewAs h numbers q c → q .content ≡ 2 → (IsAlert c → ⊥) → WhyMalformed h numbers q
-  bad-message : (c : List ℕ) → NewAs h numbers q c → q .content ≡ 3 → (IsFinished c → ⊥) → WhyMalformed h numbers q
-  empty-data : (c : List ℕ) → NewAs h numbers q c → q .content ≡ 4 → length c ≡ 0 → WhyMalformed h numbers q
+  bad-protected-change : (c : List ℕ) → NewAs h numbers q c → q .content ≡ C.ChangeCipherSpec → WhyMalformed h numbers q
+  bad-protected-alert : (c : List ℕ) → NewAs h numbers q c → q .content ≡ C.Alert → (IsAlert c → ⊥) → WhyMalformed h numbers q
+  bad-message : (c : List ℕ) → NewAs h numbers q c → q .content ≡ C.Handshake → (IsFinished c → ⊥) → WhyMalformed h numbers q
+  empty-data : (c : List ℕ) → NewAs h numbers q c → q .content ≡ C.Data → length c ≡ 0 → WhyMalformed h numbers q
 
 -- ---- the reasons
 
@@ -158,28 +107,28 @@ abbrev pub WhyRecord : Handshake → SentRecords → List ℕ → Seen → Refus
 WhyRecord h sent numbers q X.Ended = Over (h .state)
 -- 8: "record not allowed in this state or place"
 WhyRecord h sent numbers q X.NotAllowed =
-    (Over (h .state) → ⊥) × (Allowed (h .state) q → ⊥) × (ReturnsAs h q → ⊥)
+    (Over (h .state) → ⊥) × (Allowed (h .state) q → ⊥) × (Returns h q → ⊥)
 -- 9: "code not right"
-WhyRecord h sent numbers q X.Forged = GuardedAs (h .state) q × ((c : List ℕ) → CodedAs (keysOf h) q c → ⊥)
+WhyRecord h sent numbers q X.Forged = Guarded (h .state) q × ((c : List ℕ) → Coded (keysOf h) q c → ⊥)
 -- 10: "too old": "with n the highest number accepted, a number at most n - 32", less the width
 WhyRecord h sent numbers q X.TooOld =
-    GuardedAs (h .state) q × ((c : List ℕ) × CodedAs (keysOf h) q c) × (q .number + h .protection .window .width ≤ highestOf numbers)
+    Guarded (h .state) q × ((c : List ℕ) × Coded (keysOf h) q c) × (q .number + h .protection .window .width ≤ highestOf numbers)
 -- 11: "repeated": "a number accepted before"
 WhyRecord h sent numbers q X.Repeated =
-    GuardedAs (h .state) q × ((c : List ℕ) × CodedAs (keysOf h) q c) × (highestOf numbers < q .number + h .protection .window .width) ×
+    Guarded (h .state) q × ((c : List ℕ) × Coded (keysOf h) q c) × (highestOf numbers < q .number + h .protection .window .width) ×
     (accepted numbers (q .number) ≡ true)
 -- 12: "malformed content"
 WhyRecord h sent numbers q X.Malformed = WhyMalformed h numbers q
 -- 13: "hello well formed, not acceptable"
 WhyRecord h sent numbers q X.Unacceptable =
-    GreetsAs h q × ((w : WellFormedHello (q .fragment)) × (Acceptable (w .values) (h .id) → ⊥))
+    Greets h q × ((w : WellFormedHello (q .fragment)) × (Acceptable (w .values) (h .id) → ⊥))
 -- 14: "clear alert with another checksum"
 WhyRecord h sent numbers q X.Checksum =
-    Hears (h .state) × (q .protected ≡ false) × (q .content ≡ 2) × IsAlert (q .fragment) ×
+    Hears (h .state) × (q .protected ≡ false) × (q .content ≡ C.Alert) × IsAlert (q .fragment) ×
     (matchesOf sent (wordAt (q .fragment) 2) ≡ false)
 -- 17: "genuine Finished with wrong contents"
 WhyRecord h sent numbers q X.WrongFinished =
-    (c : List ℕ) × NewAs h numbers q c × (q .content ≡ 3) × IsFinished c × (drop 3 c ≢ h .expected)
+    (c : List ℕ) × NewAs h numbers q c × (q .content ≡ C.Handshake) × IsFinished c × (drop 3 c ≢ h .expected)
 -- no other
 WhyRecord h sent numbers q (X.Framing fault) = ⊥
 WhyRecord h sent numbers q X.Room = ⊥

@@ -15,7 +15,8 @@ use Rattle.connection.specs.declared.refusal.Refusal.the-variants as X
 use Rattle.connection.specs.declared.state.State.{State}
 use Rattle.connection.specs.declared.state.State.the-variants.{Idle, Replied, Spec, Open}
 use Rattle.demands.specs.Runs.{send-data, send-alert, sent, Gateway}
-use Rattle.demands.specs.Exactly.Numbers.{Over, isAssigned}
+use Rattle.demands.specs.Table.{Over}
+use Rattle.demands.specs.Exactly.Numbers.{isAssigned}
 use Rattle.connection.specs.Send.{senderOf}
 
 -- ---- send data: `size` bytes, our next protected number, the size of our code, and the room lent

@@ -1,8 +1,8 @@
 -- The state table by the bytes. The idea: what a record is, as the definitions sort it, is decided by its protected
 -- bit, its content number and its first byte; so each rule of the table has its reason there, and each reason its
 -- rule.
-use mathlib.Core.Path.{_≡_, refl, sym, ap, subst, _∙_}
-use mathlib.Core.Logic.{_⊎_, _≢_, inl, inr}
+use mathlib.Core.Path.{_≡_, refl, sym, ap, _∙_}
+use mathlib.Core.Logic.{_⊎_, inl, inr}
 use mathlib.Core.Bool.{Bool, true, false}
 use mathlib.Core.List.{List}
 use Prim.Native.Nat.{ℕ}
@@ -11,7 +11,6 @@ use lib.ListN.{getD}
 use lib.Dec.{eqb}
 use borrow.Author.Tests.{eq-eqb, eqb-true}
 use Rattle.digest.specs.Pick.{pick}
-use Rattle.record.specs.Header.{numberOf}
 use Rattle.record.specs.declared.header.Content.{Content}
 use Rattle.record.specs.declared.header.Content.the-variants as C
 use Rattle.connection.specs.State.{kindOf, ruleOf}
@@ -21,9 +20,8 @@ use Rattle.connection.specs.declared.state.Kind.{Kind}
 use Rattle.connection.specs.declared.state.Kind.the-variants as K
 use Rattle.connection.specs.declared.state.Rule.{Rule}
 use Rattle.connection.specs.declared.state.Rule.the-variants as T
-use Rattle.demands.specs.Exactly.Numbers.{Over}
-use Rattle.demands.specs.Table.{Hears}
-use Rattle.demands.specs.Exactly.Record.{Seen, IsHello, GuardedAs, Allowed, hello, change, alert, guarded}
+use Rattle.demands.specs.Seen.{Seen}
+use Rattle.demands.specs.Table.{Hears, Over, IsHello, Guarded, Allowed, hello, change, alert, guarded}
 
 -- what a record's fields say of its bytes
 abbrev pub seenOf : ℕ → Bool → Content → ℕ → List ℕ → ℕ → Seen
@@ -31,7 +29,7 @@ seenOf byte protected content number fragment at =
     record {
       byte = byte;
       protected = protected;
-      content = numberOf content;
+      content = content;
       number = number;
       fragment = fragment;
       at = at;
@@ -58,31 +56,6 @@ kind-by C.Handshake false first = refl
 kind-by C.Handshake true first = refl
 kind-by C.Data false first = refl
 kind-by C.Data true first = refl
-
--- a content has its own number
-pub number-one : (content : Content) → numberOf content ≡ 1 → content ≡ C.ChangeCipherSpec
-number-one C.ChangeCipherSpec e = refl
-number-one C.Alert e = absurd (omega arith)
-number-one C.Handshake e = absurd (omega arith)
-number-one C.Data e = absurd (omega arith)
-
-pub number-two : (content : Content) → numberOf content ≡ 2 → content ≡ C.Alert
-number-two C.ChangeCipherSpec e = absurd (omega arith)
-number-two C.Alert e = refl
-number-two C.Handshake e = absurd (omega arith)
-number-two C.Data e = absurd (omega arith)
-
-pub number-three : (content : Content) → numberOf content ≡ 3 → content ≡ C.Handshake
-number-three C.ChangeCipherSpec e = absurd (omega arith)
-number-three C.Alert e = absurd (omega arith)
-number-three C.Handshake e = refl
-number-three C.Data e = absurd (omega arith)
-
-pub number-four : (content : Content) → numberOf content ≡ 4 → content ≡ C.Data
-number-four C.ChangeCipherSpec e = absurd (omega arith)
-number-four C.Alert e = absurd (omega arith)
-number-four C.Handshake e = absurd (omega arith)
-number-four C.Data e = refl
 
 -- the kind of a protected record is its content's
 abbrev pub protectedKind : Content → Kind
@@ -117,13 +90,13 @@ module _ (byte number : ℕ) (f : List ℕ) (at : ℕ) where
     hello-kind : IsHello q → kindBy content p one ≡ K.ClearHello
     hello-kind i =
         let is-one : one ≡ true = sym first ∙ eq-eqb (getD f 0 0) 1 (i .begins) in
-        (λ j. kindBy (number-three content (i .handshake) j) (i .clear j) (is-one j))
+        (λ j. kindBy (i .handshake j) (i .clear j) (is-one j))
 
-    change-kind : p ≡ false → numberOf content ≡ 1 → kindBy content p one ≡ K.ClearChange
-    change-kind c n = λ j. kindBy (number-one content n j) (c j) one
+    change-kind : p ≡ false → content ≡ C.ChangeCipherSpec → kindBy content p one ≡ K.ClearChange
+    change-kind c n = λ j. kindBy (n j) (c j) one
 
-    alert-kind : p ≡ false → numberOf content ≡ 2 → kindBy content p one ≡ K.ClearAlert
-    alert-kind c n = λ j. kindBy (number-two content n j) (c j) one
+    alert-kind : p ≡ false → content ≡ C.Alert → kindBy content p one ≡ K.ClearAlert
+    alert-kind c n = λ j. kindBy (n j) (c j) one
 
     pub over-rule : Over state → rule ≡ T.Ended
     over-rule (inl e) = ap (λ s. ruleOf s (kindBy content p one)) e
@@ -139,19 +112,19 @@ module _ (byte number : ℕ) (f : List ℕ) (at : ℕ) where
     hears-rule (inl e) i = λ j. ruleOf (e j) (hello-kind i j)
     hears-rule (inr e) i = λ j. ruleOf (e j) (hello-kind i j)
 
-    pub change-rule : state ≡ S.Replied → p ≡ false → numberOf content ≡ 1 → rule ≡ T.Change
+    pub change-rule : state ≡ S.Replied → p ≡ false → content ≡ C.ChangeCipherSpec → rule ≡ T.Change
     change-rule e c n = λ j. ruleOf (e j) (change-kind c n j)
 
-    pub alert-rule : Hears state → p ≡ false → numberOf content ≡ 2 → rule ≡ T.Hear
+    pub alert-rule : Hears state → p ≡ false → content ≡ C.Alert → rule ≡ T.Hear
     alert-rule (inl e) c n = λ j. ruleOf (e j) (alert-kind c n j)
     alert-rule (inr e) c n = λ j. ruleOf (e j) (alert-kind c n j)
 
-    pub guarded-rule : GuardedAs state q → rule ≡ T.OpenRecord
+    pub guarded-rule : Guarded state q → rule ≡ T.OpenRecord
     guarded-rule g = go (g .kind)
       where
-        go : ((state ≡ S.Spec) × ((numberOf content ≡ 2) ⊎ (numberOf content ≡ 3))) ⊎ (state ≡ S.Open) → rule ≡ T.OpenRecord
-        go (inl (e, inl n)) = λ j. ruleOf (e j) (kindBy (number-two content n j) (g .protection j) one)
-        go (inl (e, inr n)) = λ j. ruleOf (e j) (kindBy (number-three content n j) (g .protection j) one)
+        go : ((state ≡ S.Spec) × ((content ≡ C.Alert) ⊎ (content ≡ C.Handshake))) ⊎ (state ≡ S.Open) → rule ≡ T.OpenRecord
+        go (inl (e, inl n)) = λ j. ruleOf (e j) (kindBy (n j) (g .protection j) one)
+        go (inl (e, inr n)) = λ j. ruleOf (e j) (kindBy (n j) (g .protection j) one)
         go (inr e) = (λ j. ruleOf (e j) (kindBy content (g .protection j) one)) ∙ open-opens-record content one
 
     -- ---- from a rule to its reason
@@ -162,9 +135,9 @@ module _ (byte number : ℕ) (f : List ℕ) (at : ℕ) where
     RuleHolds T.Resend = (state ≡ S.Open) × IsHello q
     RuleHolds T.Greet = (state ≡ S.Idle) × IsHello q
     RuleHolds T.GreetAgain = Hears state × IsHello q
-    RuleHolds T.Change = (state ≡ S.Replied) × (p ≡ false) × (numberOf content ≡ 1)
-    RuleHolds T.Hear = Hears state × (p ≡ false) × (numberOf content ≡ 2)
-    RuleHolds T.OpenRecord = GuardedAs state q
+    RuleHolds T.Change = (state ≡ S.Replied) × (p ≡ false) × (content ≡ C.ChangeCipherSpec)
+    RuleHolds T.Hear = Hears state × (p ≡ false) × (content ≡ C.Alert)
+    RuleHolds T.OpenRecord = Guarded state q
 
     not-allowed : rule ≡ T.NotAllowed → Allowed state q → ⊥
     not-allowed e (hello (inl s) i z) = let t : T.NotAllowed ≡ T.Greet = sym e
