@@ -54,5 +54,8 @@ pub mod stored;
 pub mod storedreboots;
 pub mod storedsets;
 pub mod unit;
+pub mod why;
+pub mod whycover;
+pub mod whywords;
 pub mod window;
 pub mod wire;
