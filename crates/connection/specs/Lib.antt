@@ -12,6 +12,7 @@ pub mod Judge
 pub mod Asked
 pub mod Told
 pub mod Receive
+pub mod Point
 pub mod Send
 pub mod Calls
 pub mod Tally

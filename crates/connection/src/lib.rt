@@ -7,6 +7,7 @@ mod clear;
 pub mod connection;
 pub mod handshake;
 mod judge;
+pub mod point;
 mod protected;
 pub mod receive;
 pub mod refusal;
