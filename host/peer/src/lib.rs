@@ -53,6 +53,7 @@ pub mod shrink;
 pub mod stored;
 pub mod storedreboots;
 pub mod storedsets;
+pub mod storedwhys;
 pub mod unit;
 pub mod why;
 pub mod whycover;
