@@ -1,14 +1,10 @@
 // The console: one connection, one tally and one gatherer, driven by lines. Each line of standard input is a call; what the call gave, and the
 // state that it left, are written to standard output.
-mod call;
 mod console;
 mod gathering;
 mod line;
-mod mac;
 mod outcome;
 mod run;
-mod set;
-mod status;
 
 use console::Console;
 use libc::STDIN_FILENO;

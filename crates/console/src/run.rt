@@ -1,15 +1,13 @@
 // Running the call that a line makes. Its words were read when the call was told (`call_of`), so that each says what it should.
 ghost use mathlib.Core.Path.{_≡_};
 ghost use lib.ListN.{length};
-use crate::call::Call;
-use crate::call::call_in;
-use crate::call::call_of;
 use crate::console::Console;
 use crate::console::Ran;
 use crate::gathering;
-use crate::mac::put_mac;
 use crate::outcome;
-use crate::set::run_set;
+use callwords::call::Call;
+use callwords::call::call_in;
+use callwords::call::call_of;
 use connection::calls;
 use connection::calls::Outcome;
 use connection::receive::receive;
@@ -41,6 +39,7 @@ pub fn run(console: Console, line: &[u8], text: &mut [u8], at: usize) -> Ran {
         Call::Start => run_start(console, text, at),
         Call::Mac => run_mac(console, line, text, at),
         Call::Set => run_set(console, line, text, at),
+        Call::Why => run_why(console, line, text, at),
         Call::Bad => gathering::run(console, line, text, at),
     }
 }
@@ -171,8 +170,17 @@ fn run_start(console: Console, text: &mut [u8], at: usize) -> Ran {
 }
 
 fn run_mac(console: Console, line: &[u8], text: &mut [u8], at: usize) -> Ran {
-    let edition = number(word(line, 1), 255) as u8;
-    let mac = number(word(line, 2), 255) as u8;
-    let end = put_mac(edition, mac, text, at);
+    let end = tablelines::mac::put_asked(line, text, at);
+    outcome::state_line(console, text, end)
+}
+
+fn run_set(console: Console, line: &[u8], text: &mut [u8], at: usize) -> Ran {
+    let end = tablelines::set::put_asked(line, text, at);
+    outcome::state_line(console, text, end)
+}
+
+fn run_why(console: Console, line: &[u8], text: &mut [u8], at: usize) -> Ran {
+    let connection = console.connection;
+    let end = whylines::put_asked(connection, line, text, at);
     outcome::state_line(console, text, end)
 }

@@ -54,8 +54,8 @@ impl Coast {
         let Some(message) = datagram.strip_prefix(&[0x43, 0, 0]) else {
             return Err("another layout of the hello".to_string());
         };
-        let hello = hello::read(message).ok_or("a malformed hello")?;
-        let kind = hello::choose(&hello, session).ok_or("a hello that is not acceptable")?;
+        let hello = hello::read(message).map_err(|_| "a malformed hello")?;
+        let kind = hello::choose(&hello, session).map_err(|_| "a hello that is not acceptable")?;
         if hello.suites[0] != [0, kind.number()] || ![40, 42].contains(&message.len()) {
             return Err("a hello with more in it".to_string());
         }

@@ -8,6 +8,8 @@ use crate::messages;
 use crate::set;
 use crate::shore::{Answer, Judged, Phase, Received, Refusal, Shore, Started, State, Tally};
 use crate::short::Gathering;
+use crate::why;
+use crate::whywords;
 use crate::window::Window;
 
 pub(crate) const LONGEST_LINE: usize = 8192;
@@ -34,6 +36,7 @@ enum Call {
     Set { suite: u8, set: Vec<u8> },
     Message { message: Vec<u8>, random: Vec<u8>, room: usize },
     Drop { reference: u8 },
+    Why { edition: u8, datagram: Vec<u8>, random: Vec<u8>, index: usize },
 }
 
 /// Runs every line of the input.
@@ -214,6 +217,8 @@ fn run_call(
             gathering.drop_reference(reference);
             lines.push("drop ok".to_string());
         }
+        Call::Why { edition, datagram, random, index } => lines
+            .push(whywords::words(&why::why(shore, edition, &datagram, &random, index), edition)),
         Call::Close => write_done("close", shore.close(), lines),
         Call::Start => write_done("start", shore.start(), lines),
     }
@@ -310,6 +315,12 @@ fn read(line: &[u8]) -> Option<Call> {
             room: number(room, MOST_ROOM)?,
         }),
         [b"drop", reference] => Some(Call::Drop { reference: number(reference, 255)? as u8 }),
+        [b"why", edition, datagram, random, index] => Some(Call::Why {
+            edition: number(edition, 255)? as u8,
+            datagram: bytes(datagram)?,
+            random: bytes(random)?,
+            index: number(index, MOST_NUMBER)?,
+        }),
         [b"close"] => Some(Call::Close),
         [b"start"] => Some(Call::Start),
         _ => None,

@@ -2,6 +2,7 @@
 //! strangers on it, and a caller who makes mistakes. Every call goes to the model first, since
 //! the unit must hear what the shore would say.
 
+mod asks;
 mod reboots;
 mod records;
 mod sent;
@@ -25,15 +26,15 @@ pub type Sink<'a> = dyn FnMut(&[u8], Vec<String>) -> bool + 'a;
 
 /// One random day.
 pub fn random(seed: u64, model: &mut Console, sink: &mut Sink) {
+    Day::new(seed, model, sink).whole();
+}
+
+/// One on which the caller asks, before each receive, why each record of the datagram would be refused.
+/// No datagram comes by short messages.
+pub fn asking(seed: u64, model: &mut Console, sink: &mut Sink) {
     let mut day = Day::new(seed, model, sink);
-    day.morning();
-    let steps = day.rng.between(20, 300);
-    for _ in 0..steps {
-        if day.over {
-            return;
-        }
-        day.step();
-    }
+    (day.asking, day.by_messages) = (true, 0);
+    day.whole();
 }
 
 /// Which sending numbers run out.
@@ -102,6 +103,8 @@ struct Day<'a> {
     messages: Vec<Vec<u8>>,
     came: Vec<Vec<u8>>,
     reference: u8,
+    /// Whether the caller asks why.
+    asking: bool,
 }
 
 impl<'a> Day<'a> {
@@ -120,6 +123,7 @@ impl<'a> Day<'a> {
             messages: Vec::new(),
             came: Vec::new(),
             reference: rng.byte(),
+            asking: false,
             rng,
             model,
             sink,
@@ -133,6 +137,17 @@ impl<'a> Day<'a> {
             hellos: Vec::new(),
             last_line: Vec::new(),
             forgotten: Vec::new(),
+        }
+    }
+
+    fn whole(&mut self) {
+        self.morning();
+        let steps = self.rng.between(20, 300);
+        for _ in 0..steps {
+            if self.over {
+                return;
+            }
+            self.step();
         }
     }
 
@@ -172,6 +187,9 @@ impl<'a> Day<'a> {
 
     fn step(&mut self) {
         self.choose_voice();
+        if self.asking && self.is_worth_asking() {
+            return self.worth_asking();
+        }
         match self.rng.under(100) {
             0..=5 => self.replay(),
             6..=12 => self.damage(),
@@ -355,6 +373,9 @@ impl Day<'_> {
     }
 
     fn receive_with(&mut self, datagram: &[u8], random: &[u8], room: usize) {
+        if self.asking {
+            self.ask(datagram, random);
+        }
         let line = format!("receive {} {} {room}", word(datagram), word(random));
         let out = self.call(line.into_bytes());
         self.took(datagram, out);

@@ -28,6 +28,8 @@ pub trait End {
 }
 
 pub struct Ashore;
+/// The console ashore, asked why before each receive.
+pub struct Asking;
 pub struct Aboard;
 
 impl End for Ashore {
@@ -39,6 +41,22 @@ impl End for Ashore {
 
     fn spent(seed: u64, turn: usize, model: &mut Console, sink: &mut Sink) {
         day::spent(seed, Spent::ALL[turn % Spent::ALL.len()], model, sink)
+    }
+
+    fn run(input: &[u8], output: &mut Vec<u8>) -> io::Result<()> {
+        console::run(input, output)
+    }
+}
+
+impl End for Asking {
+    type Model = Console;
+
+    fn random(seed: u64, model: &mut Console, sink: &mut Sink) {
+        day::asking(seed, model, sink)
+    }
+
+    fn spent(seed: u64, turn: usize, model: &mut Console, sink: &mut Sink) {
+        Ashore::spent(seed, turn, model, sink)
     }
 
     fn run(input: &[u8], output: &mut Vec<u8>) -> io::Result<()> {

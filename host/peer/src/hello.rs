@@ -19,29 +19,51 @@ pub struct ClientHello {
     pub refresh: u8,
 }
 
-/// Walks a whole ClientHello message; nothing if it is malformed anywhere.
-pub fn read(message: &[u8]) -> Option<ClientHello> {
+/// The fields of a ClientHello message, from the front, between its size as a whole and its end.
+#[derive(Clone, Copy, PartialEq, Eq, PartialOrd, Ord, Debug)]
+pub enum Field {
+    Size,
+    Header,
+    Version,
+    Random,
+    Session,
+    ClientIds,
+    TrustedIds,
+    Suites,
+    Compressions,
+    Numbering,
+    Refresh,
+    End,
+}
+
+/// Walks a whole ClientHello message; the first field at fault if it is malformed.
+pub fn read(message: &[u8]) -> Result<ClientHello, Field> {
     if message.len() > LARGEST_HELLO {
-        return None;
+        return Err(Field::Size);
     }
+    let mut body = read_body(message).ok_or(Field::Header)?;
+    let version = body.uint8().ok_or(Field::Version)?;
+    let random = body.take(16).ok_or(Field::Random)?.to_vec();
+    let session = body.list8(0, 8).ok_or(Field::Session)?.left.to_vec();
+    body.list16().and_then(walk_key_ids).ok_or(Field::ClientIds)?;
+    body.list16().and_then(walk_key_ids).ok_or(Field::TrustedIds)?;
+    let suites = body.list8(2, 255).and_then(read_suites).ok_or(Field::Suites)?;
+    let compressions = body.list8(1, 255).ok_or(Field::Compressions)?.left.to_vec();
+    let numbering = body.uint8().ok_or(Field::Numbering)?;
+    let refresh = body.uint8().ok_or(Field::Refresh)?;
+    body.end().ok_or(Field::End)?;
+    Ok(ClientHello { version, random, session, suites, compressions, numbering, refresh })
+}
+
+/// What stands behind the header of a ClientHello, which must be as long as the header says.
+fn read_body(message: &[u8]) -> Option<Reader<'_>> {
     let mut message = Reader { left: message };
     if message.uint8()? != 1 {
         return None;
     }
-    let mut body = message.list16()?;
+    let body = message.list16()?;
     message.end()?;
-
-    let version = body.uint8()?;
-    let random = body.take(16)?.to_vec();
-    let session = body.list8(0, 8)?.left.to_vec();
-    walk_key_ids(body.list16()?)?;
-    walk_key_ids(body.list16()?)?;
-    let suites = read_suites(body.list8(2, 255)?)?;
-    let compressions = body.list8(1, 255)?.left.to_vec();
-    let numbering = body.uint8()?;
-    let refresh = body.uint8()?;
-    body.end()?;
-    Some(ClientHello { version, random, session, suites, compressions, numbering, refresh })
+    Some(body)
 }
 
 /// CipherSuite is two bytes, so the list's length is even (8.3).
@@ -85,18 +107,31 @@ fn walk_key_id(list: &mut Reader) -> Option<()> {
     Some(())
 }
 
+/// What an acceptable hello has, in the order in which it is asked for.
+#[derive(Clone, Copy, PartialEq, Eq, Debug)]
+pub enum Condition {
+    Version,
+    Session,
+    Pair,
+    Compression,
+    Numbering,
+}
+
 /// The MAC kind chosen for an acceptable hello: version 1, the planted session, the first pair of
-/// null cipher with SHA_80 or SHA, null compression, explicit numbering.
-pub fn choose(hello: &ClientHello, planted: &[u8]) -> Option<Kind> {
+/// null cipher with SHA_80 or SHA, null compression, explicit numbering. Else the first of these
+/// that fails.
+pub fn choose(hello: &ClientHello, planted: &[u8]) -> Result<Kind, Condition> {
     let kind = hello.suites.iter().find_map(|suite| match suite {
         [0, mac] => Kind::assigned(*mac),
         _ => None,
-    })?;
-    let acceptable = hello.version == 1
-        && hello.session == planted
-        && hello.compressions.contains(&0)
-        && hello.numbering == 2;
-    acceptable.then_some(kind)
+    });
+    let asked = |holds: bool, condition| holds.then_some(()).ok_or(condition);
+    asked(hello.version == 1, Condition::Version)?;
+    asked(hello.session == planted, Condition::Session)?;
+    let kind = kind.ok_or(Condition::Pair)?;
+    asked(hello.compressions.contains(&0), Condition::Compression)?;
+    asked(hello.numbering == 2, Condition::Numbering)?;
+    Ok(kind)
 }
 
 /// The ServerHello message that answers a resumption. The client key number is 0: 10.5.1.3 fixes
@@ -243,7 +278,7 @@ mod tests {
     }
 
     fn well_formed(ids: &[u8]) -> bool {
-        read(&message(1, &body(&[9; 8], ids, &[0, 2], &[0], 2))).is_some()
+        read(&message(1, &body(&[9; 8], ids, &[0, 2], &[0], 2))).is_ok()
     }
 
     #[test]
@@ -283,32 +318,67 @@ mod tests {
     #[test]
     fn bounds_of_the_lists() {
         let check = |session: &[u8], suites: &[u8], compressions: &[u8]| {
-            read(&message(1, &body(session, &[], suites, compressions, 2))).is_some()
+            read(&message(1, &body(session, &[], suites, compressions, 2))).map(|_| ())
         };
-        assert!(check(&[], &[0, 2], &[0]));
-        assert!(!check(&[9; 9], &[0, 2], &[0]));
-        assert!(!check(&[9; 8], &[], &[0]));
-        assert!(!check(&[9; 8], &[0, 2, 0], &[0]));
-        assert!(!check(&[9; 8], &[0, 2], &[]));
+        assert_eq!(check(&[], &[0, 2], &[0]), Ok(()));
+        assert_eq!(check(&[9; 9], &[0, 2], &[0]), Err(Field::Session));
+        assert_eq!(check(&[9; 8], &[], &[0]), Err(Field::Suites));
+        assert_eq!(check(&[9; 8], &[0, 2, 0], &[0]), Err(Field::Suites));
+        assert_eq!(check(&[9; 8], &[0, 2], &[]), Err(Field::Compressions));
+        assert_eq!(check(&[9; 9], &[], &[]), Err(Field::Session));
+    }
+
+    /// A body cut after so many bytes lacks the field that the cut goes through.
+    #[test]
+    fn the_first_field_at_fault() {
+        let ids = [5, 0, 0];
+        let whole = body(&[9; 8], &ids, &[0, 2], &[0], 2);
+        let fields = [
+            (Field::Version, 1),
+            (Field::Random, 16),
+            (Field::Session, 9),
+            (Field::ClientIds, 5),
+            (Field::TrustedIds, 2),
+            (Field::Suites, 3),
+            (Field::Compressions, 2),
+            (Field::Numbering, 1),
+            (Field::Refresh, 1),
+        ];
+        let mut cut = 0;
+        for (field, size) in fields {
+            for _ in 0..size {
+                assert_eq!(read(&message(1, &whole[..cut])), Err(field), "{cut}");
+                cut += 1;
+            }
+        }
+        assert_eq!(cut, whole.len());
+        assert_eq!(read(&message(1, &[&whole[..], &[0]].concat())), Err(Field::End));
+        assert_eq!(read(&message(1, &whole)[..40]), Err(Field::Header));
+        assert_eq!(read(&[1, 0]), Err(Field::Header));
+        assert_eq!(read(&[1; 257]), Err(Field::Size));
+        assert_eq!(read(&[1; 256]), Err(Field::Header));
+        let trusted = body(&[9; 8], &[], &[0, 2], &[0], 2);
+        let spoiled = [&trusted[..28], &[0, 1, 5], &trusted[30..]].concat();
+        assert_eq!(read(&message(1, &spoiled)), Err(Field::TrustedIds));
     }
 
     #[test]
     fn left_over_cut_and_too_long() {
         let whole = body(&[9; 8], &[], &[0, 2], &[0], 2);
         let message_of = |body: &[u8]| message(1, body);
-        assert!(read(&message_of(&[&whole[..], &[0]].concat())).is_none());
+        assert!(read(&message_of(&[&whole[..], &[0]].concat())).is_err());
         for cut in 0..whole.len() {
-            assert!(read(&message_of(&whole[..cut])).is_none());
-            assert!(read(&message_of(&whole)[..cut]).is_none());
+            assert!(read(&message_of(&whole[..cut])).is_err());
+            assert!(read(&message_of(&whole)[..cut]).is_err());
         }
-        assert!(read(&[message_of(&whole), vec![0]].concat()).is_none());
+        assert!(read(&[message_of(&whole), vec![0]].concat()).is_err());
         let padded = |extra: usize| {
             let ids = [vec![1, 255, 0, extra as u8], vec![0; extra], vec![0]].concat();
             message_of(&body(&[9; 8], &ids, &[0, 2], &[0], 2))
         };
         assert_eq!(padded(211).len(), 256);
-        assert!(read(&padded(211)).is_some());
-        assert!(read(&padded(212)).is_none());
+        assert!(read(&padded(211)).is_ok());
+        assert_eq!(read(&padded(212)), Err(Field::Size));
     }
 
     #[test]
@@ -338,12 +408,18 @@ mod tests {
             read(&message(1, &body(&[9; 8], &[], suites, compressions, numbering))).unwrap()
         };
         let chosen = |suites: &[u8]| choose(&hello(suites, &[0], 2), &[9; 8]);
-        assert_eq!(chosen(&[0, 2, 0, 3]), Some(Kind::Sha80));
-        assert_eq!(chosen(&[5, 2, 0, 1, 0, 3, 0, 2]), Some(Kind::Sha));
-        assert_eq!(chosen(&[0, 7]), None);
-        assert_eq!(choose(&hello(&[0, 2], &[4, 0], 2), &[9; 8]), Some(Kind::Sha80));
-        assert_eq!(choose(&hello(&[0, 2], &[4], 2), &[9; 8]), None);
-        assert_eq!(choose(&hello(&[0, 2], &[0], 1), &[9; 8]), None);
-        assert_eq!(choose(&hello(&[0, 2], &[0], 2), &[8; 8]), None);
+        let planted = [9; 8];
+        assert_eq!(chosen(&[0, 2, 0, 3]), Ok(Kind::Sha80));
+        assert_eq!(chosen(&[5, 2, 0, 1, 0, 3, 0, 2]), Ok(Kind::Sha));
+        assert_eq!(chosen(&[0, 7]), Err(Condition::Pair));
+        assert_eq!(choose(&hello(&[0, 2], &[4, 0], 2), &planted), Ok(Kind::Sha80));
+        assert_eq!(choose(&hello(&[0, 2], &[4], 2), &planted), Err(Condition::Compression));
+        assert_eq!(choose(&hello(&[0, 2], &[0], 1), &planted), Err(Condition::Numbering));
+        assert_eq!(choose(&hello(&[0, 2], &[0], 2), &[8; 8]), Err(Condition::Session));
+        assert_eq!(choose(&hello(&[0, 7], &[4], 1), &[8; 8]), Err(Condition::Session));
+        assert_eq!(choose(&hello(&[0, 7], &[4], 1), &planted), Err(Condition::Pair));
+        assert_eq!(choose(&hello(&[0, 2], &[4], 1), &planted), Err(Condition::Compression));
+        let later = ClientHello { version: 2, ..hello(&[0, 7], &[4], 1) };
+        assert_eq!(choose(&later, &[8; 8]), Err(Condition::Version));
     }
 }

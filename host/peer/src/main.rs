@@ -5,7 +5,7 @@ use std::process::ExitCode;
 
 use peer::{
     capture, console, dayconsole, dayfiles, days, handshakes, links, lists, parts, rng, rows,
-    setlines, shipconsole, shipcover, shipstored, stored, wire,
+    setlines, shipconsole, shipcover, shipstored, stored, whycover, wire,
 };
 
 const USAGE: &str = "\
@@ -26,6 +26,11 @@ peer days --seed S --calls N [--spent K] [--keep FILE] --console PROGRAM [ARGUME
                                    random days through PROGRAM, each line compared; K days on
                                    which sending numbers run out (else 3 to each 200,000 calls);
                                    FILE gets the few lines that make a difference
+peer whys --seed S --calls N [--spent K] [--keep FILE] --console PROGRAM [ARGUMENT ..]
+                                   the same for days on which each receive is preceded by `why`
+                                   for each record of the datagram
+peer whycover --seed S --calls N   how often each reason and each of its facts occurs on such days,
+                                   each held to the receive that follows; 1 if one is missing or wrong
 peer rows --seed S --days N          how often random days meet each row of Open; 1 if one is missing
 peer shipdays --seed S --calls N [--spent K] [--keep FILE] --console PROGRAM [ARGUMENT ..]
                                    the same for the ship's console
@@ -61,6 +66,10 @@ fn main() -> ExitCode {
         ["daycuts", "--seed", seed, "--count", count] => day_files(seed, count, dayfiles::cuts),
         ["setlines", "--seed", seed, "--count", count] => set_lines(seed, count),
         ["days", ..] => return run_days::<days::Ashore>(&words[1..]),
+        ["whys", ..] => return run_days::<days::Asking>(&words[1..]),
+        ["whycover", "--seed", seed, "--calls", calls] => {
+            return run_why_cover(seed.parse().ok(), calls.parse().ok())
+        }
         ["shipdays", ..] => return run_days::<days::Aboard>(&words[1..]),
         ["shiplines", "--seed", seed, "--calls", calls] => ship_lines(seed, calls),
         ["shipcover", "--seed", seed, "--calls", calls] => ship_cover(seed, calls),
@@ -227,4 +236,14 @@ fn run_rows(seed: Option<u64>, days: Option<u64>) -> ExitCode {
     let rows = rows::of_days(seed, days);
     print!("{rows}");
     ExitCode::from(u8::from(!rows.missing().is_empty()))
+}
+
+fn run_why_cover(seed: Option<u64>, calls: Option<u64>) -> ExitCode {
+    let (Some(seed), Some(calls)) = (seed, calls) else {
+        eprint!("{USAGE}");
+        return ExitCode::from(2);
+    };
+    let cover = whycover::of_days(seed, calls);
+    print!("{cover}");
+    ExitCode::from(u8::from(!cover.missing().is_empty() || !cover.wrong.is_empty()))
 }

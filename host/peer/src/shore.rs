@@ -220,6 +220,11 @@ impl Shore {
         self.state
     }
 
+    /// The planted session's identifier.
+    pub fn identifier(&self) -> &[u8] {
+        &self.identifier
+    }
+
     /// The only handshake, or in Open the open one.
     pub fn handshake(&self) -> &Handshake {
         &self.handshake
@@ -284,7 +289,13 @@ impl Shore {
 
 /// Judging a received record: 7; place and state (8); code and window; content.
 impl Shore {
-    fn judge(&mut self, datagram: &[u8], place: usize, record: &Record, random: &[u8]) -> Judged {
+    pub(crate) fn judge(
+        &mut self,
+        datagram: &[u8],
+        place: usize,
+        record: &Record,
+        random: &[u8],
+    ) -> Judged {
         if matches!(self.state, State::Closed | State::Barred) {
             return Err(Refusal::Closed);
         }
@@ -323,8 +334,8 @@ impl Shore {
         if let Some(reply) = self.reply_to(message) {
             return Ok(Answer::Resent(reply.len()));
         }
-        let hello = hello::read(message).ok_or(Refusal::Malformed)?;
-        let kind = hello::choose(&hello, &self.identifier).ok_or(Refusal::NotAcceptable)?;
+        let hello = hello::read(message).map_err(|_| Refusal::Malformed)?;
+        let kind = hello::choose(&hello, &self.identifier).map_err(|_| Refusal::NotAcceptable)?;
         let keys = Keys {
             secret: self.secret.clone(),
             server_random: random.to_vec(),

@@ -14,6 +14,7 @@ use crate::script::Script;
 use crate::shore::{Received, Shore, Tally};
 use crate::storedreboots;
 use crate::storedsets;
+use crate::storedwhys;
 use crate::unit::{Hello, Identifier, KeyId, Parameters};
 use crate::wire::{self, Content};
 
@@ -48,6 +49,7 @@ pub fn written() -> Script {
     barred(&mut day);
     storedsets::hellos(&mut day);
     storedreboots::lines(&mut day);
+    storedwhys::lines(&mut day);
     day
 }
 

@@ -207,7 +207,7 @@ impl Unit {
     /// ServerHello of a resumption: it repeats the session, chooses a pair that was offered, and
     /// repeats the key refresh.
     fn read_server_hello(&self, message: &[u8]) -> Result<Keys, String> {
-        let hello = hello::read(&self.hello).ok_or("no sound hello was said")?;
+        let hello = hello::read(&self.hello).map_err(|_| "no sound hello was said")?;
         if message.len() != 35 {
             return Err("a ServerHello of another length".to_string());
         }

@@ -47,7 +47,7 @@ fn the_stored_day_has_everything_but_spent_numbers_and_18() {
     }
     assert!(!kinds.contains("refused 18"));
     let lines = day.input().lines().count();
-    assert!((150..=1000).contains(&lines), "{lines} lines");
+    assert!((150..=1200).contains(&lines), "{lines} lines");
 }
 
 #[test]

@@ -133,7 +133,7 @@ impl Day<'_> {
             }),
         }
         let message = hello.message();
-        debug_assert!(hello::read(&message).is_some());
+        debug_assert!(hello::read(&message).is_ok());
         self.hellos.push(message.clone());
         let datagram = self.unit.say_hello(&message);
         self.receive_with(&datagram, &server_random, 128);

@@ -1,0 +1,3 @@
+-- What the words of a line say.
+pub mod Call
+pub mod Short

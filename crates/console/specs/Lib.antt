@@ -1,3 +1,0 @@
--- What the words of a line say.
-pub mod Call
-pub mod Gathering
