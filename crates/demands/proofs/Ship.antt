@@ -1,0 +1,3 @@
+-- The demands at the shipboard end, proved.
+pub mod Genuine
+pub mod Table
