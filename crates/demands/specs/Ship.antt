@@ -3,5 +3,6 @@ pub mod Genuine
 pub mod Table
 pub mod Runs
 pub mod Events
+pub mod Changes
 pub mod Course
 pub mod HandedOut
