@@ -3,3 +3,5 @@ pub mod Genuine
 pub mod Table
 pub mod Changes
 pub mod HandedOut
+pub mod ServerHello
+pub mod ExactlyRecord

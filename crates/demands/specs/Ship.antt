@@ -6,3 +6,4 @@ pub mod Events
 pub mod Changes
 pub mod Course
 pub mod HandedOut
+pub mod ExactlyRecord

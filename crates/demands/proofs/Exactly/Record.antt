@@ -449,7 +449,7 @@ module _ (h : Handshake) (sent : SentRecords) (numbers random : List ℕ) (windo
 
 -- ---- a record of a soundly framed datagram
 
-lies-in : (d : List ℕ) (r : Record) → RecordOf d r → Lies d r
+pub lies-in : (d : List ℕ) (r : Record) → RecordOf d r → Lies d r
 lies-in d r o =
     let rs : List Record = o .before ++ (r ∷ o .behind) in
     let size : length rs ≡ length (o .before) + length (r ∷ o .behind) = length-append (o .before) (r ∷ o .behind) in
@@ -473,7 +473,7 @@ unfolding kindOf
 content-of-byte byte = refl
 
 -- its fields are what its bytes say
-seen-is : (d : List ℕ) (r : Record) → RecordOf d r
+pub seen-is : (d : List ℕ) (r : Record) → RecordOf d r
     → seenOf (r .byte) (r .protected) (r .content) (r .number) (fragmentOf d r) (r .start) ≡ seenAt d (r .start)
 seen-is d r o =
     let at : ℕ = r .start in

@@ -106,7 +106,7 @@ guards-not-over s K.ProtectedHandshake o (up-handshake x) = up-not-over s x o
 guards-not-over s K.ProtectedData o (up-data x) = up-not-over s x o
 
 -- in Opening and Open what is not allowed is clear
-up-rule : (s : State) (k : Kind) → Up s → ruleOf s k ≡ openedRule k
+pub up-rule : (s : State) (k : Kind) → Up s → ruleOf s k ≡ openedRule k
 up-rule s k (inl e) = ap (λ x. ruleOf x k) e
 up-rule s k (inr e) = ap (λ x. ruleOf x k) e
 
@@ -461,7 +461,7 @@ handed-part k d r c some s =
     part-is d (r .start + r .head) (r .size) c (codeBy (hmac (shoreKey k (r .number))) (sizeOf (k .mac)) (r .number) (r .byte) c) some (s .is-coded)
 
 -- in Opening and Open every protected kind is opened
-up-opens : (s : State) (c : Content) (first : ℕ) → Up s → ruleOf s (kindOf c true first) ≡ T.Unprotect
+pub up-opens : (s : State) (c : Content) (first : ℕ) → Up s → ruleOf s (kindOf c true first) ≡ T.Unprotect
 up-opens s C.ChangeCipherSpec first o = up-rule s K.ProtectedChange o
 up-opens s C.Alert first o = up-rule s K.ProtectedAlert o
 up-opens s C.Handshake first o = up-rule s K.ProtectedHandshake o
