@@ -5,3 +5,4 @@ pub mod Changes
 pub mod HandedOut
 pub mod ServerHello
 pub mod ExactlyRecord
+pub mod ExactlyCalls

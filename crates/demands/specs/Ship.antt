@@ -7,3 +7,4 @@ pub mod Changes
 pub mod Course
 pub mod HandedOut
 pub mod ExactlyRecord
+pub mod ExactlyCalls

@@ -51,7 +51,7 @@ start-at (r ∷ rs) (suc i) n d c h =
     let one-on : suc n + i ≡ n + suc i = omega arith in
     start-at rs i (suc n) d (subst (λ k. CoversFrom d k rs) next (c .1 .1)) (omega arith) ∙ ap (startOf d) one-on
 
-starts : (d : List ℕ) (rs : List Record) → framingOf d ≡ framed rs → (i : ℕ) → i < length rs
+pub starts : (d : List ℕ) (rs : List Record) → framingOf d ≡ framed rs → (i : ℕ) → i < length rs
     → getD rs i blank .start ≡ startOf d i
 unfolding startOf
 starts d rs f i h = let z : 0 + i ≡ i = omega arith in start-at rs i 0 d (covers d rs f .0) h ∙ ap (startOf d) z
@@ -78,7 +78,7 @@ slot-at l i h =
     (omega (arith, length-map l slot)) ∙ slot-map l i h)
 
 -- a record of the datagram
-in-place : (d : List ℕ) (rs : List Record) → framingOf d ≡ framed rs → (i : ℕ) → i < length rs
+pub in-place : (d : List ℕ) (rs : List Record) → framingOf d ≡ framed rs → (i : ℕ) → i < length rs
     → RecordOf d (getD rs i blank)
 in-place d rs f i h =
     record { before = take i rs; behind = drop (suc i) rs; framing = f ∙ ap framed (split-at rs i blank h) }

@@ -160,7 +160,7 @@ module _ (d : List ℕ) where
       ∙ through-fault n (suc room) f at (omega arith) (h .sound)
       (ap (walk (suc room)) (sym (h .here)) ∙ step-fault room at f (h .begins) e)
 
-  faulty-because : (f : Fault) (at : ℕ) → WhyFaulty d f at → framingOf d ≡ faulty f at
+  pub faulty-because : (f : Fault) (at : ℕ) → WhyFaulty d f at → framingOf d ≡ faulty f at
   faulty-because F.Size at (e, w) = size-fault w ∙ ap (faulty F.Size) (sym e)
   faulty-because F.Ninth at h =
       whole-walk (h .fits)
@@ -170,7 +170,7 @@ module _ (d : List ℕ) where
   faulty-because F.Fragment at (n, few, h, r, l, w) = here-fault n at F.Fragment few h
       (read-fragment d at (h .begins) r l w)
 
-  framed-because : (n : ℕ) → SoundlyFramed d n → (rs : List Record) × (framingOf d ≡ framed rs) × (length rs ≡ n)
+  pub framed-because : (n : ℕ) → SoundlyFramed d n → (rs : List Record) × (framingOf d ≡ framed rs) × (length rs ≡ n)
   framed-because n h =
       let few : n ≤ 8 = h .few in
       let (rs, f, l) = through-framed n (8 - n) [] (omega arith) (h .sound)
@@ -178,7 +178,7 @@ module _ (d : List ℕ) where
       (rs, whole-walk (h .fits) ∙ f, omega arith)
 
   -- what the framing of a datagram says, its bytes say
-  abbrev Says : Framing → Type 0
+  abbrev pub Says : Framing → Type 0
   Says (framed rs) = SoundlyFramed d (length rs)
   Says (faulty f at) = WhyFaulty d f at
 
@@ -199,7 +199,7 @@ module _ (d : List ℕ) where
       })
   says-of fits (faulty f at) w = w
 
-  framing-says : Says (framingOf d)
+  pub framing-says : Says (framingOf d)
   framing-says =
       decide (eqb (length d) 0) (λ e. let w = inl (eqb-true (length d) 0 e) in subst Says (sym (size-fault w))
       (refl, w))
