@@ -34,6 +34,7 @@ pub mod InRuns
 pub mod SentHistory
 pub mod Replaced
 pub mod Fatal
+pub mod Ship
 pub mod Demands
 pub mod Messages
 pub mod Facts

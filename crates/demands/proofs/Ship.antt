@@ -1,0 +1,8 @@
+-- The demands at the shipboard end, proved.
+pub mod Genuine
+pub mod Table
+pub mod Changes
+pub mod HandedOut
+pub mod ServerHello
+pub mod ExactlyRecord
+pub mod ExactlyCalls
