@@ -1,0 +1,8 @@
+-- The proofs about both ends.
+pub mod Flight
+pub mod Greeting
+pub mod Aboard
+pub mod Ashore
+pub mod Reports
+pub mod InOrder
+pub mod Instances

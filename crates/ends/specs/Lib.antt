@@ -1,0 +1,4 @@
+-- Both ends of one connection, over the definitions that the contracts of either cite.
+pub mod Sides
+pub mod InOrder
+pub mod Instances
