@@ -77,28 +77,28 @@ module _ (width : ℕ) (held : Held width) (numbers : List ℕ) (s : ℕ) where
   pub by-history : acceptOf (windowOf width numbers) s ≡ judgedOf width numbers s
   by-history = meaning width held numbers s
 
-  new-facts : (w : Window) (n : ℕ) → acceptOf (windowOf width numbers) s ≡ A.New w n
+  pub new-facts : (w : Window) (n : ℕ) → acceptOf (windowOf width numbers) s ≡ A.New w n
       → (highestOf numbers < s + width) × (accepted numbers s ≡ false)
   new-facts w n e = let q = new-means width numbers s w n (sym by-history ∙ e) in (q .0, q .1)
 
-  is-new : highestOf numbers < s + width → accepted numbers s ≡ false → isNew width numbers s ≡ true
+  pub is-new : highestOf numbers < s + width → accepted numbers s ≡ false → isNew width numbers s ≡ true
   is-new l a = ap₂ (λ (o b : Bool). pick o false (pick b false true)) (lt-leb (s + width) (highestOf numbers) l) a
 
-  new-is : (w : Window) (n : ℕ) → acceptOf (windowOf width numbers) s ≡ A.New w n → isNew width numbers s ≡ true
+  pub new-is : (w : Window) (n : ℕ) → acceptOf (windowOf width numbers) s ≡ A.New w n → isNew width numbers s ≡ true
   new-is w n e = let q = new-facts w n e in is-new (q .0) (q .1)
 
-  old-is : acceptOf (windowOf width numbers) s ≡ A.TooOld → isNew width numbers s ≡ false
+  pub old-is : acceptOf (windowOf width numbers) s ≡ A.TooOld → isNew width numbers s ≡ false
   old-is e =
       ap (λ (o : Bool). pick o false (pick (accepted numbers s) false true))
       (le-leb (s + width) (highestOf numbers) (old-means width numbers s (sym by-history ∙ e)))
 
-  repeated-is : acceptOf (windowOf width numbers) s ≡ A.Repeated → isNew width numbers s ≡ false
+  pub repeated-is : acceptOf (windowOf width numbers) s ≡ A.Repeated → isNew width numbers s ≡ false
   repeated-is e =
       let q = repeated-means width numbers s (sym by-history ∙ e) in
       ap₂ (λ (o b : Bool). pick o false (pick b false true)) (lt-leb (s + width) (highestOf numbers) (q .0)) (q .1)
 
   -- a number that is due is below all that were accepted, and new to the window
-  due-below : ((n : ℕ) → accepted numbers n ≡ true → n < s + width) → highestOf numbers < s + width
+  pub due-below : ((n : ℕ) → accepted numbers n ≡ true → n < s + width) → highestOf numbers < s + width
   due-below b = below-all width (held-some width held) numbers s b
 
   pub due-new : accepted numbers s ≡ false → ((n : ℕ) → accepted numbers n ≡ true → n < s + width)
@@ -373,7 +373,7 @@ module _ (d : List ℕ) (at size : ℕ) (c code : List ℕ) (some : 0 < length c
       ∙ ap (take (length c)) f
       ∙ take-at c code (length c) refl
 
-  part-is : partAt d at (length c) ≡ c
+  pub part-is : partAt d at (length c) ≡ c
   part-is =
       let a : at ≤ length d = by-sizes (length d) at size (length c) (length code) some sizes .0 in
       let b : length c ≤ length d - at = by-sizes (length d) at size (length c) (length code) some sizes .1 in
@@ -523,7 +523,7 @@ handed-out id secret width held acts sound is-open later n go random d r at = ha
 
 module _ (k : Keys) (expected : List ℕ) (n : ℕ) where
   -- a number that was used up stays so
-  grows-by : (course more : Course) (b g e : Bool) → accepted (course .numbers) n ≡ true → accepted (more .numbers) n ≡ true
+  pub grows-by : (course more : Course) (b g e : Bool) → accepted (course .numbers) n ≡ true → accepted (more .numbers) n ≡ true
       → accepted (pick b course (pick g (pick e more course) course) .numbers) n ≡ true
   grows-by course more true g e x y = x
   grows-by course more false true true x y = y
@@ -545,7 +545,7 @@ module _ (k : Keys) (expected : List ℕ) (n : ℕ) where
   grows (starting ∷ es) course x = grows es course x
 
 -- the width stays
-width-by : (course more : Course) (b g e : Bool) → more .width ≡ course .width
+pub width-by : (course more : Course) (b g e : Bool) → more .width ≡ course .width
     → pick b course (pick g (pick e more course) course) .width ≡ course .width
 width-by course more true g e x = refl
 width-by course more false true true x = x

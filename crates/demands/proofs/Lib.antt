@@ -32,5 +32,6 @@ pub mod InRuns
 pub mod SentHistory
 pub mod Replaced
 pub mod Fatal
+pub mod Ship
 pub mod Demands
 pub mod Messages

@@ -33,4 +33,5 @@ pub mod Instances
 pub mod Cases
 pub mod Exactly
 pub mod Messages
+pub mod Ship
 pub mod Demands
