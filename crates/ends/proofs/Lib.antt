@@ -5,4 +5,5 @@ pub mod Aboard
 pub mod Ashore
 pub mod Reports
 pub mod InOrder
+pub mod Courses
 pub mod Instances
