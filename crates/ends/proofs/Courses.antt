@@ -44,13 +44,13 @@ accepted-cases s h n e =
     (λ f. inr (sym (accepted-other s n h (λ z. true-false (eqb s n) (eq-eqb s n z) f)) ∙ e))
 
 -- one record in a datagram of one
-in-one : (before : List Record) (r : Record) (behind : List Record) (q : Record) → before ++ (r ∷ behind) ≡ q ∷ [] → r ≡ q
+pub in-one : (before : List Record) (r : Record) (behind : List Record) (q : Record) → before ++ (r ∷ behind) ≡ q ∷ [] → r ≡ q
 in-one [] r behind q e = cc
 in-one (x ∷ before) r behind q e =
     let z : length (before ++ (r ∷ behind)) ≡ 0 = let rest : before ++ (r ∷ behind) ≡ [] = cc in ap length rest in
     absurd (omega (arith, length-append before (r ∷ behind)))
 
-same-records : (rs qs : List Record) (f : Framing) → f ≡ framed rs → f ≡ framed qs → rs ≡ qs
+pub same-records : (rs qs : List Record) (f : Framing) → f ≡ framed rs → f ≡ framed qs → rs ≡ qs
 same-records rs qs f e g = cc
 
 not-faulty : {P : Type 0} (rs : List Record) (fault : Fault) (at : ℕ) (f : Framing) → f ≡ framed rs → f ≡ faulty fault at → P
@@ -152,6 +152,17 @@ module _ (k : Keys) (sense : Sense) (expected : List ℕ) where
         → Taken d (stepFor course d r) rs out end → Taken d course (r ∷ rs) (handed (r .number) c ∷ out) end
     passes : {course end : Course} {r : Record} {rs : List Record} {out : List Handed} → RecordOf d r
         → ((c : List ℕ) → DueFor course d r c → ⊥) → Taken d (stepFor course d r) rs out end → Taken d course (r ∷ rs) out end
+
+  -- a course that is shut stays so
+  shut-step : (course : Course) (d : List ℕ) (r : Record) → course .shut ≡ true → stepFor course d r .shut ≡ true
+  shut-step course d r z =
+      ap (λ (b : Bool). pick b course (pick (testFor d r) (pick (isNew (course .width) (course .numbers) (r .number)) (usedFor course r (contentFor d r)) course) course) .shut) z ∙ z
+
+  pub stays-shut : (d : List ℕ) {course end : Course} {rs : List Record} {out : List Handed} → Taken d course rs out end → course .shut ≡ true
+      → end .shut ≡ true
+  stays-shut d nothing z = z
+  stays-shut d (hands {course = course} {r = r} c u more) z = stays-shut d more (shut-step course d r z)
+  stays-shut d (passes {course = course} {r = r} at no-due more) z = stays-shut d more (shut-step course d r z)
 
   -- ---- what was written
 
@@ -526,7 +537,7 @@ module _ (k : Keys) (sense : Sense) (expected : List ℕ) where
           (fault : Fault) (at : ℕ) → framingOf d ≡ faulty fault at → Runs written sent next course entries
           → Runs written sent next course (takes d [] ∷ entries)
 
-    faulty-none : (d : List ℕ) (fault : Fault) (at : ℕ) → framingOf d ≡ faulty fault at → NoneFor k sense d
+    pub faulty-none : (d : List ℕ) (fault : Fault) (at : ℕ) → framingOf d ≡ faulty fault at → NoneFor k sense d
     faulty-none d fault at f r c g =
         not-faulty (g .in-place .before ++ (r ∷ g .in-place .behind)) fault at (framingOf d) (g .in-place .framing) f
 

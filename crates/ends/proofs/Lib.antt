@@ -6,4 +6,9 @@ pub mod Ashore
 pub mod Reports
 pub mod InOrder
 pub mod Courses
+pub mod OnWire
+pub mod Onward
+pub mod AtShore
+pub mod AtShip
+pub mod BothEnds
 pub mod Instances
