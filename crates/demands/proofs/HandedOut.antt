@@ -312,7 +312,7 @@ module _ (k : Keys) (expected : List ℕ) (course : Course) (c : Connection) (a 
   other-along : (x : Act) → NoRecord x → (then : Course) → Along k expected then (next (c .handshake) (eventOf x)) → Along k expected then (leaves c x .handshake)
   other-along x n then y = subst (Along k expected then) (sym (act-next c x n)) y
 
-along-all : (k : Keys) (expected : List ℕ) (acts : List Act) (course : Course) (c : Connection) → Along k expected course (c .handshake) → Unreplaced c acts
+pub along-all : (k : Keys) (expected : List ℕ) (acts : List Act) (course : Course) (c : Connection) → Along k expected course (c .handshake) → Unreplaced c acts
     → Ongoing k expected course (map eventOf acts) → Along k expected (courseOf k expected course (map eventOf acts)) (behind c acts .handshake)
 unfolding courseOf behind stepOf Unreplaced
 along-all k expected [] course c a n go = a
