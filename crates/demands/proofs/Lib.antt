@@ -1,4 +1,5 @@
 -- The proofs of the demands.
+pub mod Coded
 pub mod Genuine
 pub mod States
 pub mod Rules

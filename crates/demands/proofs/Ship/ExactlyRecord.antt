@@ -11,7 +11,6 @@ use lib.Dec.{eqb}
 use borrow.Author.Tests.{eq-eqb, ne-eqb, eqb-true, eqb-false}
 use Rattle.digest.specs.Pick.{pick}
 use Rattle.digest.specs.Bytes.{wordAt}
-use Rattle.record.specs.Header.{numberOf}
 use Rattle.record.specs.Window.{acceptOf}
 use Rattle.record.specs.History.{accepted, highestOf, windowOf, arrivedOf, judgedOf as judgedBy}
 use Rattle.record.specs.declared.header.Content.{Content}
@@ -50,7 +49,8 @@ use Rattle.unit.specs.declared.answer.Answer.the-variants as W
 use Rattle.unit.specs.declared.agree.Judged.{Judged}
 use Rattle.unit.specs.declared.unit.Unit.{Unit as Ship}
 use Rattle.demands.specs.Genuine.{RecordOf}
-use Rattle.demands.specs.Exactly.Record.{Seen, seenAt, IsAlert, IsFinished, Bytes}
+use Rattle.demands.specs.Seen.{Seen, seenIn}
+use Rattle.demands.specs.Exactly.Record.{SeenInPlace, seenAt, IsAlert, IsFinished, Bytes}
 use Rattle.demands.specs.Ship.Genuine.{Protected}
 use Rattle.demands.specs.Ship.Table.{Midway, Up, Over, Ruled, New, Stays, Shuts, Marked, Row}
 use Rattle.demands.specs.Ship.Table as Z
@@ -64,8 +64,7 @@ use Rattle.demands.proofs.Genuine.{true-false}
 use Rattle.demands.proofs.Exactly.Reasons.{clash, decide}
 use Rattle.demands.proofs.Exactly.Content.{change-is, change-not, not-change, AlertHolds, alert-holds, not-alert, is-alert, FinishedHolds, finished-holds, not-finished, wrong-finished as wrong-when}
 use Rattle.demands.proofs.Exactly.Hello.{bytes-take, bytes-drop}
-use Rattle.demands.proofs.Exactly.Rules.{seenOf, number-one, number-two, number-three, number-four}
-use Rattle.demands.proofs.Exactly.Record.{seen-is}
+use Rattle.demands.proofs.Exactly.Record.{seen-in-place}
 use Rattle.demands.proofs.Ship.ServerHello.{AgreementHolds, agreement-holds, not-hello, not-acceptable}
 use Rattle.demands.proofs.Ship.Table.{Live, Guards, spec-alert, spec-handshake, up-change, up-alert, up-handshake, up-data, Says, ruled-says, ruled-protected, row-of, row-is}
 use Rattle.demands.proofs.Ship.HandedOut.{up-rule, up-opens}
@@ -101,18 +100,18 @@ request-not s e f = true-false (isRequest s) (is-request s f) e
 
 -- ---- the kind of a record, by its bytes
 
-abbrev KindSeen : Kind → Bool → ℕ → ℕ → Type 0
-KindSeen K.ClearHello p n first = (p ≡ false) × (n ≡ 3) × (first ≡ 2)
-KindSeen K.ClearRequest p n first = (p ≡ false) × (n ≡ 3) × (first ≡ 0)
-KindSeen K.ClearChange p n first = (p ≡ false) × (n ≡ 1)
-KindSeen K.ClearAlert p n first = (p ≡ false) × (n ≡ 2)
+abbrev KindSeen : Kind → Bool → Content → ℕ → Type 0
+KindSeen K.ClearHello p n first = (p ≡ false) × (n ≡ C.Handshake) × (first ≡ 2)
+KindSeen K.ClearRequest p n first = (p ≡ false) × (n ≡ C.Handshake) × (first ≡ 0)
+KindSeen K.ClearChange p n first = (p ≡ false) × (n ≡ C.ChangeCipherSpec)
+KindSeen K.ClearAlert p n first = (p ≡ false) × (n ≡ C.Alert)
 KindSeen K.OtherClear p n first = p ≡ false
-KindSeen K.ProtectedChange p n first = (p ≡ true) × (n ≡ 1)
-KindSeen K.ProtectedAlert p n first = (p ≡ true) × (n ≡ 2)
-KindSeen K.ProtectedHandshake p n first = (p ≡ true) × (n ≡ 3)
-KindSeen K.ProtectedData p n first = (p ≡ true) × (n ≡ 4)
+KindSeen K.ProtectedChange p n first = (p ≡ true) × (n ≡ C.ChangeCipherSpec)
+KindSeen K.ProtectedAlert p n first = (p ≡ true) × (n ≡ C.Alert)
+KindSeen K.ProtectedHandshake p n first = (p ≡ true) × (n ≡ C.Handshake)
+KindSeen K.ProtectedData p n first = (p ≡ true) × (n ≡ C.Data)
 
-kind-seen : (c : Content) (p : Bool) (first : ℕ) → KindSeen (kindOf c p first) p (numberOf c) first
+kind-seen : (c : Content) (p : Bool) (first : ℕ) → KindSeen (kindOf c p first) p c first
 kind-seen C.ChangeCipherSpec false first = (refl, refl)
 kind-seen C.ChangeCipherSpec true first = (refl, refl)
 kind-seen C.Alert false first = (refl, refl)
@@ -124,11 +123,11 @@ kind-seen C.Handshake true first = (refl, refl)
 kind-seen C.Data false first = refl
 kind-seen C.Data true first = (refl, refl)
 
-hello-kind : (c : Content) (p : Bool) (first : ℕ) → p ≡ false → numberOf c ≡ 3 → first ≡ 2 → kindOf c p first ≡ K.ClearHello
-hello-kind c p first ep ec ef = (λ i. kindOf (number-three c ec i) (ep i) (ef i))
+hello-kind : (c : Content) (p : Bool) (first : ℕ) → p ≡ false → c ≡ C.Handshake → first ≡ 2 → kindOf c p first ≡ K.ClearHello
+hello-kind c p first ep ec ef = (λ i. kindOf (ec i) (ep i) (ef i))
 
-request-kind : (c : Content) (p : Bool) (first : ℕ) → p ≡ false → numberOf c ≡ 3 → first ≡ 0 → kindOf c p first ≡ K.ClearRequest
-request-kind c p first ep ec ef = (λ i. kindOf (number-three c ec i) (ep i) (ef i))
+request-kind : (c : Content) (p : Bool) (first : ℕ) → p ≡ false → c ≡ C.Handshake → first ≡ 0 → kindOf c p first ≡ K.ClearRequest
+request-kind c p first ep ec ef = (λ i. kindOf (ec i) (ep i) (ef i))
 
 -- ---- the rules, by state and kind
 
@@ -140,7 +139,7 @@ module _ (u : Ship) (numbers d : List ℕ) (r : Record) (bytes : Bytes (fragment
   first = getD f 0 0
 
   abbrev q : Seen
-  q = seenOf (r .byte) (r .protected) (r .content) (r .number) f (r .start)
+  q = seenIn d r
 
   abbrev width : ℕ
   width = u .protection .window .width
@@ -148,8 +147,8 @@ module _ (u : Ship) (numbers d : List ℕ) (r : Record) (bytes : Bytes (fragment
   abbrev Why : Refusal → Type 0
   Why = WhyRecord u numbers q
 
-  seen-kind : (k : Kind) → kindIn d r ≡ k → KindSeen k (r .protected) (numberOf (r .content)) first
-  seen-kind k e = subst (λ x. KindSeen x (r .protected) (numberOf (r .content)) first) e (kind-seen (r .content) (r .protected) first)
+  seen-kind : (k : Kind) → kindIn d r ≡ k → KindSeen k (r .protected) (r .content) first
+  seen-kind k e = subst (λ x. KindSeen x (r .protected) (r .content) first) e (kind-seen (r .content) (r .protected) first)
 
   is-hello : kindIn d r ≡ K.ClearHello → IsHello q
   is-hello e = let s = seen-kind K.ClearHello e in record { clear = s .0; handshake = s .1; begins = s .2 }
@@ -166,11 +165,11 @@ module _ (u : Ship) (numbers d : List ℕ) (r : Record) (bytes : Bytes (fragment
   hello-rule : Midway (u .state) → IsHello q → Ruled u d r T.Agree
   hello-rule m i = midway-rule K.ClearHello T.Agree refl refl refl (hello-kind (r .content) (r .protected) first (i .clear) (i .handshake) (i .begins)) m
 
-  alert-rule : Midway (u .state) → r .protected ≡ false → numberOf (r .content) ≡ 2 → Ruled u d r T.Hear
-  alert-rule m p n = midway-rule K.ClearAlert T.Hear refl refl refl (λ i. kindOf (number-two (r .content) n i) (p i) first) m
+  alert-rule : Midway (u .state) → r .protected ≡ false → r .content ≡ C.Alert → Ruled u d r T.Hear
+  alert-rule m p n = midway-rule K.ClearAlert T.Hear refl refl refl (λ i. kindOf (n i) (p i) first) m
 
-  change-rule : u .state ≡ S.Replied → r .protected ≡ false → numberOf (r .content) ≡ 1 → Ruled u d r T.Change
-  change-rule s p n = λ i. ruleOf (s i) (kindOf (number-one (r .content) n i) (p i) first)
+  change-rule : u .state ≡ S.Replied → r .protected ≡ false → r .content ≡ C.ChangeCipherSpec → Ruled u d r T.Change
+  change-rule s p n = λ i. ruleOf (s i) (kindOf (n i) (p i) first)
 
   request-in : (s : State) → (Over s → ⊥) → ruleOf s K.ClearRequest ≡ T.Request
   request-in S.Idle n = refl
@@ -193,13 +192,13 @@ module _ (u : Ship) (numbers d : List ℕ) (r : Record) (bytes : Bytes (fragment
   guarded-rule : GuardedAs (u .state) q → Ruled u d r T.Unprotect
   guarded-rule g = go (g .kind)
     where
-      go : ((u .state ≡ S.Spec) × ((numberOf (r .content) ≡ 2) ⊎ (numberOf (r .content) ≡ 3))) ⊎ Up (u .state) → Ruled u d r T.Unprotect
-      go (inl (e, inl n)) = λ i. ruleOf (e i) (kindOf (number-two (r .content) n i) (g .protection i) first)
-      go (inl (e, inr n)) = λ i. ruleOf (e i) (kindOf (number-three (r .content) n i) (g .protection i) first)
+      go : ((u .state ≡ S.Spec) × ((r .content ≡ C.Alert) ⊎ (r .content ≡ C.Handshake))) ⊎ Up (u .state) → Ruled u d r T.Unprotect
+      go (inl (e, inl n)) = λ i. ruleOf (e i) (kindOf (n i) (g .protection i) first)
+      go (inl (e, inr n)) = λ i. ruleOf (e i) (kindOf (n i) (g .protection i) first)
       go (inr o) = ap (λ p. ruleOf (u .state) (kindOf (r .content) p first)) (g .protection) ∙ up-opens (u .state) (r .content) first o
 
-  guards-as : (s : State) (k : Kind) → Guards s k → (p : Bool) (n : ℕ) → KindSeen k p n first
-      → (p ≡ true) × (((s ≡ S.Spec) × ((n ≡ 2) ⊎ (n ≡ 3))) ⊎ Up s)
+  guards-as : (s : State) (k : Kind) → Guards s k → (p : Bool) (n : Content) → KindSeen k p n first
+      → (p ≡ true) × (((s ≡ S.Spec) × ((n ≡ C.Alert) ⊎ (n ≡ C.Handshake))) ⊎ Up s)
   guards-as S.Spec K.ProtectedAlert spec-alert p n (a, b) = (a, inl (refl, inl b))
   guards-as S.Spec K.ProtectedHandshake spec-handshake p n (a, b) = (a, inl (refl, inr b))
   guards-as s K.ProtectedChange (up-change o) p n (a, b) = (a, inr o)
@@ -209,7 +208,7 @@ module _ (u : Ship) (numbers d : List ℕ) (r : Record) (bytes : Bytes (fragment
 
   guarded-as : Ruled u d r T.Unprotect → GuardedAs (u .state) q
   guarded-as e =
-      let g = guards-as (u .state) (kindIn d r) (ruled-says u d r T.Unprotect e) (r .protected) (numberOf (r .content)) (seen-kind (kindIn d r) refl) in
+      let g = guards-as (u .state) (kindIn d r) (ruled-says u d r T.Unprotect e) (r .protected) (r .content) (seen-kind (kindIn d r) refl) in
       record { protection = g .0; kind = g .1 }
 
   coded-as : (c : List ℕ) → Protected (u .protection .keys) d r c → CodedAs (u .protection .keys) q c
@@ -384,11 +383,11 @@ module _ (u : Ship) (numbers d : List ℕ) (r : Record) (bytes : Bytes (fragment
   malformed-by (Y.bad-request n i y) = answer-stays (Z.bad-request (request-rule n i) (not-request f y))
   malformed-by (Y.bad-change s p k y) = answer-stays (Z.bad-change (change-rule s p k) (not-change f y))
   malformed-by (Y.bad-alert m p k y) = answer-stays (Z.bad-alert (alert-rule m p k) (not-alert f y))
-  malformed-by (Y.bad-protected-change c n k) = answer-marked c n (no-change (content-kind c n C.ChangeCipherSpec (number-one (r .content) k)))
-  malformed-by (Y.bad-protected-alert c n k y) = answer-marked c n (no-alert (content-kind c n C.Alert (number-two (r .content) k)) (not-alert c y))
+  malformed-by (Y.bad-protected-change c n k) = answer-marked c n (no-change (content-kind c n C.ChangeCipherSpec k))
+  malformed-by (Y.bad-protected-alert c n k y) = answer-marked c n (no-alert (content-kind c n C.Alert k) (not-alert c y))
   malformed-by (Y.bad-message c n k y v) =
-      answer-marked c n (no-message (content-kind c n C.Handshake (number-three (r .content) k)) (not-request c y) (not-finished c (u .expected) v))
-  malformed-by (Y.empty-data c n k z) = answer-marked c n (no-data (content-kind c n C.Data (number-four (r .content) k)) z)
+      answer-marked c n (no-message (content-kind c n C.Handshake k) (not-request c y) (not-finished c (u .expected) v))
+  malformed-by (Y.empty-data c n k z) = answer-marked c n (no-data (content-kind c n C.Data k) z)
 
   -- a Finished is no HelloRequest
   finished-no-request : (c : List ℕ) → IsFinished c → c ≢ requestBytes
@@ -410,7 +409,7 @@ module _ (u : Ship) (numbers d : List ℕ) (r : Record) (bytes : Bytes (fragment
       answer-stays (checksum (t .0) (alert-rule m p k) (t .1) (ap (matchesOf (u .sent)) (t .2) ∙ n))
   because X.WrongFinished (c, n, k, i, y) =
       answer-marked c n
-      (wrong-finished (content-kind c n C.Handshake (number-three (r .content) k)) (not-request c (finished-no-request c i)) (wrong-when c (u .expected) i y))
+      (wrong-finished (content-kind c n C.Handshake k) (not-request c (finished-no-request c i)) (wrong-when c (u .expected) i y))
   because (X.Framing fault) w = absurd w
   because X.Room w = absurd w
   because X.Spent w = absurd w
@@ -420,10 +419,10 @@ module _ (u : Ship) (numbers d : List ℕ) (r : Record) (bytes : Bytes (fragment
   exactly x = (λ e. subst AnswerHolds e (row-holds (row-of u d r)), because x)
 
 pub exactly-record : ExactlyRecord
-unfolding ExactlyRecord
+unfolding ExactlyRecord SeenInPlace
 exactly-record u numbers d r all o holds x =
     let bytes : Bytes (fragmentOf d r) = bytes-take (r .size) (drop (r .start + r .head) d) (bytes-drop (r .start + r .head) d all) in
     let t = exactly u numbers d r bytes holds x in (
-      λ e. subst (λ s. WhyRecord u numbers s x) (seen-is d r o) (t .0 e),
-      λ w. t .1 (subst (λ s. WhyRecord u numbers s x) (sym (seen-is d r o)) w),
+      λ e. subst (λ s. WhyRecord u numbers s x) (seen-in-place d r o) (t .0 e),
+      λ w. t .1 (subst (λ s. WhyRecord u numbers s x) (sym (seen-in-place d r o)) w),
     )

@@ -19,7 +19,7 @@ use Rattle.record.proofs.ProtectedBytes.{genuine-made, protected-genuine}
 use Rattle.connection.specs.Judge.{fragmentOf}
 use Rattle.demands.specs.Ship.Genuine.{shoreKey, Protected, genuineBytes, contentBytes}
 use Rattle.demands.proofs.Genuine.{true-false}
-use Rattle.demands.proofs.Exactly.Coded.{content-before}
+use Rattle.demands.proofs.Coded.{content-before}
 
 module _ (k : Keys) (d : List ℕ) (r : Record) where
   pub protected-right : (c : List ℕ) → Protected k d r c → genuineUnder k FromShore (r .number) (r .byte) (fragmentOf d r) ≡ true

@@ -13,6 +13,7 @@ use Rattle.digest.specs.Mac.{sizeOf}
 use Rattle.digest.specs.declared.mac.Mac.the-variants.{Sha80, Sha}
 use Rattle.record.specs.Code.{fragmentBy}
 use Rattle.record.specs.History.{accepted, highestOf}
+use Rattle.record.specs.declared.header.Content.the-variants as C
 use Rattle.record.specs.declared.keys.Keys.{Keys}
 use Rattle.record.specs.declared.reader.Record.{Record}
 use Rattle.message.specs.Offer.{offers}
@@ -28,7 +29,8 @@ use Rattle.unit.specs.declared.state.State.{State}
 use Rattle.unit.specs.declared.state.State.the-variants.{Replied, Spec}
 use Rattle.unit.specs.declared.unit.Unit.{Unit as Ship}
 use Rattle.demands.specs.Genuine.{RecordOf}
-use Rattle.demands.specs.Exactly.Record.{Seen, seenAt, IsAlert, IsFinished, Bytes}
+use Rattle.demands.specs.Seen.{Seen}
+use Rattle.demands.specs.Exactly.Record.{seenAt, IsAlert, IsFinished, Bytes}
 use Rattle.demands.specs.Ship.Genuine.{shoreKey}
 use Rattle.demands.specs.Ship.Table.{Midway, Up, Over}
 use Rattle.demands.specs.Ship.Course.{HoldsNumbers}
@@ -38,7 +40,7 @@ use Rattle.demands.specs.Ship.Course.{HoldsNumbers}
 -- a clear handshake record that begins so: "ServerHello (clear, content 3, first byte 2)", "HelloRequest (first byte 0 ..)"
 pub record Begins (first : ℕ) (q : Seen) : Type 0 where
   pub clear : q .protected ≡ false
-  pub handshake : q .content ≡ 3
+  pub handshake : q .content ≡ C.Handshake
   pub begins : getD (q .fragment) 0 0 ≡ first
 
 abbrev pub IsHello : Seen → Type 0
@@ -54,15 +56,15 @@ requestBytes = 0 ∷ 0 ∷ 0 ∷ []
 -- a protected record of an allowed kind: alerts and handshake records in Spec, all four in Opening and Open
 pub record GuardedAs (state : State) (q : Seen) : Type 0 where
   pub protection : q .protected ≡ true
-  pub kind : ((state ≡ Spec) × ((q .content ≡ 2) ⊎ (q .content ≡ 3))) ⊎ Up state
+  pub kind : ((state ≡ Spec) × ((q .content ≡ C.Alert) ⊎ (q .content ≡ C.Handshake))) ⊎ Up state
 
 -- what is allowed: a ServerHello "first in its datagram, in Sent, Replied and Spec"; a HelloRequest in any place and state;
 -- "Clear change cipher spec: Replied only"; "Clear alert received in Sent, Replied, Spec"; and the protected ones
 pub data Allowed (state : State) (q : Seen) : Type 0 where
   hello : Midway state → IsHello q → q .at ≡ 0 → Allowed state q
   request : IsRequest q → Allowed state q
-  change : state ≡ Replied → q .protected ≡ false → q .content ≡ 1 → Allowed state q
-  alert : Midway state → q .protected ≡ false → q .content ≡ 2 → Allowed state q
+  change : state ≡ Replied → q .protected ≡ false → q .content ≡ C.ChangeCipherSpec → Allowed state q
+  alert : Midway state → q .protected ≡ false → q .content ≡ C.Alert → Allowed state q
   guarded : GuardedAs state q → Allowed state q
 
 -- ---- code and window
@@ -106,12 +108,12 @@ pub record Acceptable (v : ServerValues) (id : List ℕ) (offer : Offer) : Type 
 pub data WhyMalformed (u : Ship) (numbers : List ℕ) (q : Seen) : Type 0 where
   bad-hello : Midway (u .state) → IsHello q → q .at ≡ 0 → (WellFormedHello (q .fragment) → ⊥) → WhyMalformed u numbers q
   bad-request : (Over (u .state) → ⊥) → IsRequest q → q .fragment ≢ requestBytes → WhyMalformed u numbers q
-  bad-change : u .state ≡ Replied → q .protected ≡ false → q .content ≡ 1 → q .fragment ≢ 1 ∷ [] → WhyMalformed u numbers q
-  bad-alert : Midway (u .state) → q .protected ≡ false → q .content ≡ 2 → (IsAlert (q .fragment) → ⊥) → WhyMalformed u numbers q
-  bad-protected-change : (c : List ℕ) → NewAs u numbers q c → q .content ≡ 1 → WhyMalformed u numbers q
-  bad-protected-alert : (c : List ℕ) → NewAs u numbers q c → q .content ≡ 2 → (IsAlert c → ⊥) → WhyMalformed u numbers q
-  bad-message : (c : List ℕ) → NewAs u numbers q c → q .content ≡ 3 → c ≢ requestBytes → (IsFinished c → ⊥) → WhyMalformed u numbers q
-  empty-data : (c : List ℕ) → NewAs u numbers q c → q .content ≡ 4 → length c ≡ 0 → WhyMalformed u numbers q
+  bad-change : u .state ≡ Replied → q .protected ≡ false → q .content ≡ C.ChangeCipherSpec → q .fragment ≢ 1 ∷ [] → WhyMalformed u numbers q
+  bad-alert : Midway (u .state) → q .protected ≡ false → q .content ≡ C.Alert → (IsAlert (q .fragment) → ⊥) → WhyMalformed u numbers q
+  bad-protected-change : (c : List ℕ) → NewAs u numbers q c → q .content ≡ C.ChangeCipherSpec → WhyMalformed u numbers q
+  bad-protected-alert : (c : List ℕ) → NewAs u numbers q c → q .content ≡ C.Alert → (IsAlert c → ⊥) → WhyMalformed u numbers q
+  bad-message : (c : List ℕ) → NewAs u numbers q c → q .content ≡ C.Handshake → c ≢ requestBytes → (IsFinished c → ⊥) → WhyMalformed u numbers q
+  empty-data : (c : List ℕ) → NewAs u numbers q c → q .content ≡ C.Data → length c ≡ 0 → WhyMalformed u numbers q
 
 -- ---- the reasons
 
@@ -138,11 +140,11 @@ WhyRecord u numbers q X.Unacceptable =
     ((w : WellFormedHello (q .fragment)) × (Acceptable (w .values) (u .id) (u .offer) → ⊥))
 -- 14: "clear alert with another checksum"
 WhyRecord u numbers q X.Checksum =
-    Midway (u .state) × (q .protected ≡ false) × (q .content ≡ 2) × IsAlert (q .fragment) ×
+    Midway (u .state) × (q .protected ≡ false) × (q .content ≡ C.Alert) × IsAlert (q .fragment) ×
     (matchesOf (u .sent) (wordAt (q .fragment) 2) ≡ false)
 -- 17: "genuine Finished with wrong contents"
 WhyRecord u numbers q X.WrongFinished =
-    (c : List ℕ) × NewAs u numbers q c × (q .content ≡ 3) × IsFinished c × (drop 3 c ≢ u .expected)
+    (c : List ℕ) × NewAs u numbers q c × (q .content ≡ C.Handshake) × IsFinished c × (drop 3 c ≢ u .expected)
 -- no other
 WhyRecord u numbers q (X.Framing fault) = ⊥
 WhyRecord u numbers q X.Room = ⊥
