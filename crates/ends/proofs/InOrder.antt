@@ -136,15 +136,15 @@ module _ (s : Setting) (ls : ListedSetting s) where
   m : List ℕ
   m = offerHello (s .client) (s .id) offer
 
-  sh : List ℕ
+  pub sh : List ℕ
   sh = serverHelloOf (s .server) (s .id) plan
 
-  sh-size : length sh ≡ 35
+  pub sh-size : length sh ≡ 35
   unfolding sh
   sh-size = length-server (s .server) (s .id) plan ∙ omega (arith, ls .server-size, ls .id-size)
 
   -- the keys, as both will hold them
-  k : Keys
+  pub k : Keys
   k = record { secret = s .secret; server = s .server; client = s .client; mac = plan .mac; refresh = s .refresh }
 
   -- ---- the unit's hello
@@ -152,7 +152,7 @@ module _ (s : Setting) (ls : ListedSetting s) where
   abbrev u₀ : ShipsUnit
   u₀ = B.newUnit (s .id) (s .secret) (s .unit-width) Z.Idle
 
-  hello : List ℕ
+  pub hello : List ℕ
   hello = helloDatagram (s .id) (s .client) offer
 
   u₁ : ShipsUnit
@@ -194,10 +194,10 @@ module _ (s : Setting) (ls : ListedSetting s) where
   abbrev h₀ : Handshake
   h₀ = freshWith (s .id) (s .secret) (s .shore-width)
 
-  abbrev c₀ : Connection
+  abbrev pub c₀ : Connection
   c₀ = freshOne (s .id) (s .secret) (s .shore-width)
 
-  reply : List ℕ
+  pub reply : List ℕ
   reply = replyTo session (s .server) m plan
 
   h₁ : Handshake
@@ -206,10 +206,10 @@ module _ (s : Setting) (ls : ListedSetting s) where
   sent₁ : SentRecords
   sent₁ = sentAfter noRecords (h₁ .kept) (W.Reply (length reply))
 
-  c₁ : Connection
+  pub c₁ : Connection
   c₁ = connectionOf h₁ noneStarted sent₁
 
-  r₁ : Record
+  pub r₁ : Record
   r₁ = readBack false false C.Handshake 0 (length m)
 
   m-size : (38 ≤ length m) × (length m ≤ 42)
@@ -217,7 +217,7 @@ module _ (s : Setting) (ls : ListedSetting s) where
   m-size =
       (omega (arith, hello-size (s .client) (s .id) offer (ls .client-size) (ls .id-size)), hello-most (s .client) (s .id) offer (ls .client-size) (ls .id-size))
 
-  hello-framed : framingOf hello ≡ framed (r₁ ∷ [])
+  pub hello-framed : framingOf hello ≡ framed (r₁ ∷ [])
   unfolding hello helloDatagram r₁ m
   hello-framed = clear-framed C.Handshake 0 (omega arith) m (omega (arith, m-size .0)) (omega (arith, m-size .1))
 
@@ -260,7 +260,7 @@ module _ (s : Setting) (ls : ListedSetting s) where
     came₁ : Shore.Took c₀ hello (s .server) out (r₁ ∷ []) (W.Reply (length reply) ∷ []) c₁ (ls .server-size) room hello-framed (chain-more told₁ chain-end)
     came₁ = Shore.took c₀ hello (s .server) out (r₁ ∷ []) (W.Reply (length reply) ∷ []) c₁ (ls .server-size) room hello-framed (chain-more told₁ chain-end)
 
-    replies : Ashore.receivedOf c₀ hello (s .server) (length out)
+    pub replies : Ashore.receivedOf c₀ hello (s .server) (length out)
         ≡ record { taken = T.Records 1; answers = Ashore.slotsOf (W.Reply (length reply) ∷ []); written = length reply; connection = c₁ }
     replies =
         came₁ .gives
@@ -271,14 +271,14 @@ module _ (s : Setting) (ls : ListedSetting s) where
 
   -- ---- the unit opens
 
-  theirs : List ℕ
+  pub theirs : List ℕ
   theirs = finishedOf (serverVerify (s .secret) m sh)
 
-  theirs-size : length theirs ≡ 15
+  pub theirs-size : length theirs ≡ 15
   unfolding theirs
   theirs-size = fifteen (serverVerify (s .secret) m sh) (server-size (s .secret) m sh)
 
-  reply-is : reply ≡ replied k FromShore theirs theirs-size sh sh-size
+  pub reply-is : reply ≡ replied k FromShore theirs theirs-size sh sh-size
   unfolding reply replyTo flightOf finishedRecord recordUnder ourHello ourFinished theirs k sh m
   reply-is =
       λ i. helloRecord sh ++ (changeRecord ++ protectedBy (hmac (macSecret (s .secret) serverExpansion (sym (key-zero (s .refresh)) i) (s .server)
@@ -293,7 +293,7 @@ module _ (s : Setting) (ls : ListedSetting s) where
   u-spec : ShipsUnit
   u-spec = B.withState (B.withWindow u-agreed (emptied (u-agreed .protection .window))) Z.Spec
 
-  u₂ : ShipsUnit
+  pub u₂ : ShipsUnit
   u₂ = B.opened (B.withWindow u-spec (windowOf (s .unit-width) (0 ∷ [])))
 
   keys-aboard : agreedKeys u₁ sh plan ≡ k
@@ -350,14 +350,14 @@ module _ (s : Setting) (ls : ListedSetting s) where
 
   -- ---- the flight
 
-  ours : List ℕ
+  pub ours : List ℕ
   ours = finishedOf (expectedOf session (s .server) m plan)
 
-  ours-size : length ours ≡ 15
+  pub ours-size : length ours ≡ 15
   unfolding ours
   ours-size = fifteen (expectedOf session (s .server) m plan) (expected-size session (s .server) m plan)
 
-  abbrev flight : List ℕ
+  abbrev pub flight : List ℕ
   flight = flown k FromUnit ours ours-size
 
   ours-same : finishedOf (unitVerify u₁ sh) ≡ ours
@@ -402,7 +402,7 @@ module _ (s : Setting) (ls : ListedSetting s) where
   h₃ : Handshake
   h₃ = withState (withWindow h₂ (windowOf (s .shore-width) (0 ∷ []))) S.Open
 
-  c₂ : Connection
+  pub c₂ : Connection
   c₂ = connectionOf h₃ noneStarted sent₁
 
   replied-not : h₁ .state ≡ S.Open → ⊥
@@ -471,7 +471,7 @@ module _ (s : Setting) (ls : ListedSetting s) where
         no-reply c₁ random flight (changeFirst k FromUnit ours ours-size) (finishedAt k FromUnit ours ours-size 6 ∷ [])
         (ap (λ (t : Told). replySize (t .answer)) (tells-is c₁ random flight (changeFirst k FromUnit ours ours-size) (told₂ random)))
 
-    opens-ashore : Ashore.receivedOf c₁ flight random (length out)
+    pub opens-ashore : Ashore.receivedOf c₁ flight random (length out)
         ≡ record { taken = T.Records 2; answers = Ashore.slotsOf (W.Spec ∷ W.Open ∷ []); written = 0; connection = c₂ }
     opens-ashore =
         came₃ .gives
@@ -482,7 +482,7 @@ module _ (s : Setting) (ls : ListedSetting s) where
 
   -- ---- together
 
-  together : Together (s .unit-width) (s .shore-width) (endsOf u₂ c₂)
+  pub together : Together (s .unit-width) (s .shore-width) (endsOf u₂ c₂)
   unfolding u₂ B.opened u-spec u-agreed agreedWith c₂ h₃ h₂ h₁ answeredWith
   together =
       record {
@@ -497,11 +497,27 @@ module _ (s : Setting) (ls : ListedSetting s) where
         aboard-below = first-highest;
       }
 
-  next-aboard : u₂ .protection .protected ≡ 1
+  pub unit-keys : u₂ .protection .keys ≡ k
+  unfolding u₂ B.opened u-spec u-agreed agreedWith
+  unit-keys = keys-aboard
+
+  pub unit-window : u₂ .protection .window ≡ windowOf (s .unit-width) (0 ∷ [])
+  unfolding u₂ B.opened u-spec
+  unit-window = refl
+
+  pub shore-window : c₂ .handshake .protection .window ≡ windowOf (s .shore-width) (0 ∷ [])
+  unfolding c₂ h₃ h₂
+  shore-window = refl
+
+  pub hello-clear : r₁ .protected ≡ false
+  unfolding r₁
+  hello-clear = refl
+
+  pub next-aboard : u₂ .protection .protected ≡ 1
   unfolding u₂ B.opened
   next-aboard = refl
 
-  next-ashore : c₂ .handshake .protection .protected ≡ 1
+  pub next-ashore : c₂ .handshake .protection .protected ≡ 1
   unfolding c₂ h₃ h₂ h₁ answeredWith
   next-ashore = refl
 

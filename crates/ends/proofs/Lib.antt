@@ -11,4 +11,6 @@ pub mod Onward
 pub mod AtShore
 pub mod AtShip
 pub mod BothEnds
+pub mod JustOpen
+pub mod Needed
 pub mod Instances

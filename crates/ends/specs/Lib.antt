@@ -3,4 +3,5 @@ pub mod Sides
 pub mod InOrder
 pub mod Link
 pub mod BothEnds
+pub mod Needed
 pub mod Instances
