@@ -36,4 +36,5 @@ pub mod Exactly
 pub mod Messages
 pub mod Facts
 pub mod Why
+pub mod Named
 pub mod Demands
