@@ -47,6 +47,8 @@ use Rattle.connection.proofs.asked.under_way as asked-under-way
 use Rattle.connection.proofs.connection.alone as connection-alone
 use Rattle.connection.proofs.handshake.newcomer as handshake-newcomer
 use Rattle.connection.proofs.handshake.none_started as handshake-none-started
+use Rattle.connection.proofs.point.point_at as point-point-at
+use Rattle.connection.proofs.point.asked_at as point-asked-at
 
 pub calls-fresh-one : OneOutcome calls-fresh.ended calls-fresh.Reads.Learnt
 calls-fresh-one κs a x y s u e f = (e ∙ sym f, refl)
@@ -168,3 +170,9 @@ connection-alone-one κs a x y s u e f = (e ∙ sym f, refl)
 
 pub asked-under-way-one : OneOutcome asked-under-way.ended asked-under-way.Reads.Learnt
 asked-under-way-one κs a x y s u e f = (e ∙ sym f, refl)
+
+pub point-point-at-one : OneOutcome point-point-at.ended point-point-at.Reads.Learnt
+point-point-at-one κs a x y s u e f = (e .0 ∙ sym (f .0), refl)
+
+pub point-asked-at-one : OneOutcome point-asked-at.ended point-asked-at.Reads.Learnt
+point-asked-at-one κs a x y s u e f = (e ∙ sym f, refl)

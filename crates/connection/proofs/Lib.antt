@@ -3,6 +3,7 @@ pub mod Recorded
 pub mod OpeningRecords
 pub mod Asking
 pub mod Running
+pub mod Pointing
 pub mod Filling
 pub mod Sending
 pub mod Replying

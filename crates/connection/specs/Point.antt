@@ -19,7 +19,7 @@ use Rattle.connection.specs.declared.receive.Taken.the-variants.{Records
 use Rattle.connection.specs.declared.point.Point.{Point}
 
 -- no such record: the connection as it was, a blank record and no answer
-unfoldable pub nowhere : Connection → Taken → Point
+abbrev pub nowhere : Connection → Taken → Point
 nowhere c taken = record { taken = taken; connection = c; whom = Only; found = blank; answer = Nothing }
 
 -- a record in the connection that those before it left: whom it is for, and the answer that receive gives to it

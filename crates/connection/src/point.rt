@@ -5,7 +5,7 @@ ghost use lib.ListN.{length, take};
 ghost use Rattle.record.specs.Datagram.{walkOf};
 ghost use Rattle.connection.specs.Asked.{askedOf};
 ghost use Rattle.connection.specs.Receive.{endOf};
-ghost use Rattle.connection.specs.Point.{pointOf, pointAmong, pointAt, nowhere};
+ghost use Rattle.connection.specs.Point.{pointOf, pointAmong, nowhere};
 use crate::answer::Answer;
 use crate::asked::Whom;
 use crate::asked::asked;
@@ -86,7 +86,7 @@ fn among(c: Connection, d: &[u8], ours: [u8; 16], walk: Walk, index: usize) -> P
 // The connection that the records before an index leave.
 fn before(c: Connection, d: &[u8], ours: [u8; 16], walk: Walk, index: usize) -> Connection
     requires { ⌜ (length ours ≡ 16) × ((walk ≡ walkOf (now d)) × (index < walk .count)) ⌝ }
-    ensures { λ r. ⌜ r ≡ endOf c ours (now (d .entry)) (take index (take (walk .count) (walk .records))) ⌝ }
+    ensures { λ r. ⌜ r ≡ endOf c ours (now (d .entry)) (take index (walk .records)) ⌝ }
 {
     let records = walk.records;
     let mut left = c;
