@@ -22,7 +22,7 @@ use Rattle.message.specs.Keys.{specifierEnd, identifierEnd, entryEnd, entriesFr
 use Rattle.message.specs.declared.acceptance.Condition.the-variants as N
 use Rattle.message.specs.declared.acceptance.Heard.the-variants as H
 use Rattle.connection.specs.Answer.{refusing}
-use Rattle.connection.specs.Asked.{askedOf}
+use Rattle.connection.specs.Asked.{askedOf, whomOf}
 use Rattle.connection.specs.Connection.{alone}
 use Rattle.connection.specs.Handshake.{withWindow}
 use Rattle.connection.specs.Judge.{judgedRecord}
@@ -61,7 +61,7 @@ only-reason : (c : Connection) (d : List ℕ) (r : Record) {w : Whom} → framin
     → whyOf 2 c d exampleRandom 0 .reason ≡ reasonBy (askedOf c w) w c r d (r .start) x
 unfolding endOf pointOn
 only-reason c d r {w = w} f asks x e =
-    let is : _ ≡ w = asks-is c d r asks in
+    let is : whomOf c d r ≡ w = asks-is c d r asks in
     ap (λ y. y .reason) (at-record 2 c d exampleRandom 0 refl refl (r ∷ []) f (lit< tt))
     ∙ ap (answerReason (pointOn c exampleRandom d 1 r) d) (ap (λ t. t .answer) (told-by c exampleRandom d r w is) ∙ e)
     ∙ ap (λ v. reasonBy (askedOf c v) v c r d (r .start) x) is

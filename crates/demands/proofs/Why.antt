@@ -20,7 +20,7 @@ use Rattle.connection.specs.Answer.{answerNumber}
 use Rattle.connection.specs.Asked.{askedOf, whomOf}
 use Rattle.connection.specs.Calls.{sessionOf}
 use Rattle.connection.specs.Judge.{judgedRecord, fragmentOf, kindIn}
-use Rattle.connection.specs.Point.{nowhere, pointOn, pointAt, pointAmong, pointOf}
+use Rattle.connection.specs.Point.{pointOn, pointAt, pointAmong, pointOf}
 use Rattle.connection.specs.Receive.{endOf}
 use Rattle.connection.specs.Refusal.{refusalNumber}
 use Rattle.connection.specs.Told.{toldRecord}
@@ -93,16 +93,16 @@ module _ (edition : ℕ) (c : Connection) (d random : List ℕ) (i : ℕ) where
   unknown-edition e = rw e refl
 
   wrong-random : isEdition edition ≡ true → length random ≢ 16 → why ≡ whyWhole c R.Argument
-  unfolding whyOf pointOf nowhere reasonBy
+  unfolding whyOf pointOf reasonBy
   wrong-random e n = rw (e, ne-eqb (length random) 16 n) refl
 
   module _ (known : isEdition edition ≡ true) (sixteen : length random ≡ 16) where
     pub at-fault : (fault : Fault) (at : ℕ) → framingOf d ≡ faulty fault at → why ≡ whyWhole c (faultReason d at fault)
-    unfolding whyOf pointOf nowhere reasonBy
+    unfolding whyOf pointOf reasonBy
     at-fault fault at f = rw (known, eq-eqb (length random) 16 sixteen, f) refl
 
     past-last : (rs : List Record) → framingOf d ≡ framed rs → length rs ≤ i → why ≡ whyWhole c R.Argument
-    unfolding whyOf pointOf pointAmong nowhere reasonBy
+    unfolding whyOf pointOf pointAmong reasonBy
     past-last rs f l = rw (known, eq-eqb (length random) 16 sixteen, f, le-ltb i (length rs) l) refl
 
     module _ (rs : List Record) (f : framingOf d ≡ framed rs) (l : i < length rs) where
