@@ -87,8 +87,11 @@ open-with w mac e =
 abbrev w : Walk exampleId exampleSecret exampleWidth exampleRandom exampleData
 w = example-walk
 
-abbrev h : Handshake
+abbrev pub h : Handshake
 h = w .h₃
+
+pub open-is : h .state ≡ S.Open
+open-is = w .open-is
 
 abbrev k : Keys
 k = keysOf h
@@ -125,20 +128,20 @@ module _ (es : List Event) (x : Handshake) (sound : AllSound es) (leaves : after
 -- ---- data of the unit, under a number
 
 module _ (s : ℕ) (inside : s ≤ 65535) where
-  abbrev data-with : List ℕ
+  abbrev pub data-with : List ℕ
   data-with = lastProtected k C.Data s exampleData
 
-  abbrev data-record : Record
+  abbrev pub data-record : Record
   data-record = single k C.Data s inside exampleData
 
-  data-framed : framingOf data-with ≡ framed (data-record ∷ [])
+  pub data-framed : framingOf data-with ≡ framed (data-record ∷ [])
   data-framed = single-framed k C.Data s inside exampleData (lit≤ tt)
 
   data-whole : sizeOf (k .mac) ≤ data-record .size
   unfolding single
   data-whole = omega arith
 
-  data-protected : data-record .protected ≡ true
+  pub data-protected : data-record .protected ≡ true
   unfolding single
   data-protected = refl
 
@@ -154,24 +157,24 @@ module _ (s : ℕ) (inside : s ≤ 65535) where
     handed-row y n e =
         row-data exampleData y (record { guarded = guarded; coded = single-protected k C.Data s inside exampleData; arrived = n; accepted = e }) refl (lit≤ tt)
 
-    old-row : acceptOf x s ≡ A.TooOld → Row (withWindow h x) noRecords exampleRandom data-with data-record (refusing X.TooOld (withWindow h x))
+    pub old-row : acceptOf x s ≡ A.TooOld → Row (withWindow h x) noRecords exampleRandom data-with data-record (refusing X.TooOld (withWindow h x))
     unfolding single
     old-row e = row-old exampleData guarded (single-protected k C.Data s inside exampleData) e
 
-    repeated-row : acceptOf x s ≡ A.Repeated → Row (withWindow h x) noRecords exampleRandom data-with data-record (refusing X.Repeated (withWindow h x))
+    pub repeated-row : acceptOf x s ≡ A.Repeated → Row (withWindow h x) noRecords exampleRandom data-with data-record (refusing X.Repeated (withWindow h x))
     unfolding single
     repeated-row e = row-repeated exampleData guarded (single-protected k C.Data s inside exampleData) e
 
   -- the run with this data behind it
-  run-with : List Event
+  pub run-with : List Event
   run-with = run ++ (took noRecords exampleRandom data-with data-record ∷ [])
 
-  with-sound : AllSound run-with
+  pub with-sound : AllSound run-with
   unfolding run-with
   with-sound =
       sound-more run (took noRecords exampleRandom data-with data-record) run-sound (refl, record { before = []; behind = []; framing = data-framed })
 
-  with-leaves : (y : Window) (n : ℕ) → acceptOf (w₀ exampleWidth) s ≡ A.New y n → after exampleFresh run-with ≡ withWindow h y
+  pub with-leaves : (y : Window) (n : ℕ) → acceptOf (w₀ exampleWidth) s ≡ A.New y n → after exampleFresh run-with ≡ withWindow h y
   unfolding run-with after w₀
   with-leaves y n e =
       after-more exampleFresh run (took noRecords exampleRandom data-with data-record)
@@ -183,7 +186,7 @@ module _ (s : ℕ) (inside : s ≤ 65535) where
 
 -- ---- the windows
 
-unfoldable w₈₀ : Window
+unfoldable pub w₈₀ : Window
 w₈₀ = record { width = exampleWidth; highest = 80; marks = 1 }
 
 unfoldable w₉ : Window
@@ -192,19 +195,19 @@ w₉ = record { width = exampleWidth; highest = 9; marks = 513 }
 unfoldable w₉₇ : Window
 w₉₇ = record { width = exampleWidth; highest = 9; marks = 517 }
 
-takes-80 : acceptOf (w₀ exampleWidth) 80 ≡ A.New w₈₀ 1
+pub takes-80 : acceptOf (w₀ exampleWidth) 80 ≡ A.New w₈₀ 1
 unfolding w₀ w₈₀ acceptBy heldWidth ones marksFrom markOf highestOf accepted
 takes-80 = refl
 
-old-7 : acceptOf w₈₀ 7 ≡ A.TooOld
+pub old-7 : acceptOf w₈₀ 7 ≡ A.TooOld
 unfolding w₈₀ acceptBy heldWidth ones
 old-7 = refl
 
-takes-7 : acceptOf (w₀ exampleWidth) 7 ≡ A.New (w₇ exampleWidth) 2
+pub takes-7 : acceptOf (w₀ exampleWidth) 7 ≡ A.New (w₇ exampleWidth) 2
 unfolding w₀ w₇ acceptBy heldWidth ones marksFrom markOf highestOf accepted
 takes-7 = refl
 
-again-7 : acceptOf (w₇ exampleWidth) 7 ≡ A.Repeated
+pub again-7 : acceptOf (w₇ exampleWidth) 7 ≡ A.Repeated
 unfolding w₇ acceptBy heldWidth ones marksFrom markOf highestOf accepted
 again-7 = refl
 
@@ -216,13 +219,13 @@ late-7 : acceptOf w₉ 7 ≡ A.New w₉₇ 3
 unfolding w₉ w₉₇ acceptBy heldWidth ones
 late-7 = refl
 
-seven : 7 ≤ 65535
+pub seven : 7 ≤ 65535
 seven = lit≤ tt
 
 nine : 9 ≤ 65535
 nine = lit≤ tt
 
-eighty : 80 ≤ 65535
+pub eighty : 80 ≤ 65535
 eighty = lit≤ tt
 
 -- ---- too old, repeated, late

@@ -4,6 +4,8 @@ use Rattle.message.proofs.Saying.{heard-as-said}
 use Rattle.demands.specs.Demands.{First, Second, Third, Demands}
 use Rattle.demands.proofs.Exactly.Record.{seen-in-place}
 use Rattle.demands.proofs.Table.{table-holds}
+use Rattle.demands.proofs.Why.{why-answers}
+use Rattle.demands.proofs.Named.{named-cases}
 use Rattle.demands.proofs.RefusedRecords.{refused-record-in}
 use Rattle.demands.proofs.Changes.{record-changes-only, refused-record, close-changes-only, start-changes-only}
 use Rattle.demands.proofs.Calls.{calls-hold, fresh-holds}
@@ -109,6 +111,8 @@ demands =
       cases = cases;
       runs-are-acts = runs-are-acts;
       answers-in-place = answers-in-place;
+      why = why-answers;
+      named = named-cases;
       meets-2 = meets-2;
       meets-3 = meets-3;
       rows-are-table = demand-2-table;

@@ -40,3 +40,4 @@ pub mod Demands
 pub mod Messages
 pub mod Facts
 pub mod Why
+pub mod Named

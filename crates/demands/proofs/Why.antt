@@ -20,7 +20,7 @@ use Rattle.connection.specs.Answer.{answerNumber}
 use Rattle.connection.specs.Asked.{askedOf, whomOf}
 use Rattle.connection.specs.Calls.{sessionOf}
 use Rattle.connection.specs.Judge.{judgedRecord, fragmentOf, kindIn}
-use Rattle.connection.specs.Point.{nowhere, pointOn, pointAt, pointAmong, pointOf}
+use Rattle.connection.specs.Point.{pointOn, pointAt, pointAmong, pointOf}
 use Rattle.connection.specs.Receive.{endOf}
 use Rattle.connection.specs.Refusal.{refusalNumber}
 use Rattle.connection.specs.Told.{toldRecord}
@@ -97,7 +97,7 @@ module _ (edition : ℕ) (c : Connection) (d random : List ℕ) (i : ℕ) where
   wrong-random e n = rw (e, ne-eqb (length random) 16 n) refl
 
   module _ (known : isEdition edition ≡ true) (sixteen : length random ≡ 16) where
-    at-fault : (fault : Fault) (at : ℕ) → framingOf d ≡ faulty fault at → why ≡ whyWhole c (faultReason d at fault)
+    pub at-fault : (fault : Fault) (at : ℕ) → framingOf d ≡ faulty fault at → why ≡ whyWhole c (faultReason d at fault)
     unfolding whyOf pointOf reasonBy
     at-fault fault at f = rw (known, eq-eqb (length random) 16 sixteen, f) refl
 
@@ -115,7 +115,7 @@ module _ (edition : ℕ) (c : Connection) (d random : List ℕ) (i : ℕ) where
       abbrev there : Point
       there = pointOn here random d (length rs) found
 
-      at-record : why ≡ whyRecord there d i
+      pub at-record : why ≡ whyRecord there d i
       unfolding whyOf pointOf pointAmong pointAt pointOn
       at-record = rw (known, eq-eqb (length random) 16 sixteen, f, lt-ltb i (length rs) l) refl
 

@@ -28,14 +28,14 @@ use Rattle.message.specs.Acceptance.{heardOf, heardAs}
 use Rattle.message.specs.Hello.{readOf}
 use Rattle.message.specs.Handshake.{fills, clientHello}
 use Rattle.message.specs.Change.{changeBytes, isChange}
-use Rattle.message.specs.Finished.{finishedOf, clientVerify, clientLabel}
+use Rattle.message.specs.Finished.{finishedOf, clientVerify, clientLabel, judgedOf}
 use Rattle.message.specs.declared.acceptance.Plan.{Plan}
 use Rattle.message.specs.declared.acceptance.Heard.the-variants as H
 use Rattle.message.specs.declared.hello.Reading.the-variants as Q
 use Rattle.message.specs.declared.hello.Field.the-variants as E
 use Rattle.message.proofs.Hearing.{accepted-size}
 use Rattle.message.proofs.Written.{filled}
-use Rattle.message.proofs.FinishedLaws.{finished-right}
+use Rattle.message.proofs.FinishedLaws.{finished-right, finished-judged}
 use Rattle.connection.specs.Answer.{judged, handedOf, replySize}
 use Rattle.connection.specs.Calls.{sessionOf}
 use Rattle.connection.specs.Handshake.{withState, withWindow, planted, keptHello, keptReply, newcomerTo, newHandshake, noneStarted}
@@ -51,11 +51,21 @@ use Rattle.connection.specs.declared.answer.Judged.{Judged}
 use Rattle.connection.specs.declared.connection.Connection.{Connection}
 use Rattle.connection.specs.declared.handshake.Handshake.{Handshake}
 use Rattle.connection.specs.declared.handshake.Session.{Session}
+use Rattle.digest.proofs.Same.{differ-same}
+use Rattle.digest.specs.Pick.{pick}
+use Rattle.connection.specs.Send.{clearSender}
+use Rattle.demands.proofs.Exactly.Sends.{exactly-alert}
+use lib.Dec.{lit≤}
+use Rattle.message.specs.declared.finished.Verified.the-variants as F
+use Rattle.connection.specs.declared.refusal.Refusal.the-variants as X
+use Rattle.connection.specs.declared.calls.Outcome.the-variants as O
+use Rattle.demands.specs.Exactly.Numbers.{isAmong}
+use Rattle.demands.specs.Exactly.Sends.{AlertGoes, alertNumberOf, alertCodeOf}
 use Rattle.demands.specs.Seen.{seenIn}
-use Rattle.demands.specs.Runs.{receive, stepOf}
+use Rattle.demands.specs.Runs.{receive, send-alert, sent, stepOf}
 use Rattle.record.specs.declared.keys.Keys.{Keys}
 use Rattle.demands.specs.Genuine.{Protected, keysOf, unitKey}
-use Rattle.demands.specs.Table.{Row, New, IsHello, Hears, row-reply, row-change, row-open, row-data}
+use Rattle.demands.specs.Table.{Row, New, IsHello, Hears, row-reply, row-change, row-open, row-data, row-wrong-finished}
 use Rattle.demands.specs.Calls.{chain-end, chain-more, taken}
 use Rattle.demands.specs.Runs.{freshWith}
 use Rattle.demands.specs.Works.{clearDatagram, protectedDatagram, keysAfter, oneAnswer, Worked, Works, Rebooted, Reboots}
@@ -70,7 +80,7 @@ use Rattle.connection.specs.declared.sent.SentRecords.{SentRecords}
 use Rattle.connection.specs.declared.handshake.Kept.{Kept}
 use Rattle.connection.specs.declared.told.Told.{Told}
 use Rattle.connection.specs.declared.asked.Whom.the-variants as Y
-use Rattle.demands.specs.Asked.{RightBeside, Tells, tells, asks-only, asks-new-hello, asks-clear, asks-right, asks-protected, left-only, left-greeted, left-started, left-replaced}
+use Rattle.demands.specs.Asked.{RightBeside, Tells, tells, asks-only, asks-new-hello, asks-clear, asks-right, asks-protected, left-only, left-greeted, left-started, left-replaced, left-dropped}
 
 -- ---- a datagram of one record
 
@@ -299,6 +309,35 @@ module _ (id secret : List ℕ) (width : ℕ) (held : Held width) (m random out 
       (protected-framed C.Handshake 0 (omega arith) (unitKey k 0) (plan .mac) (finishedOf expected) (omega (arith, size-most (plan .mac), expected-size session random m plan))) told (ap replySize ea)
       ∙ λ i. record { result = oneAnswer (ea i) 0; output = out; connection = x .connection }
 
+  -- a Finished with other contents
+  module _ (wrong : List ℕ) (lw : length wrong ≡ 12) (differs : wrong ≢ expected) where
+    d₅ : List ℕ
+    d₅ = protectedDatagram k C.Handshake 0 (finishedOf wrong)
+
+    r₅ : Record
+    r₅ = readBack false true C.Handshake 0 (length (finishedOf wrong) + sizeOf (plan .mac))
+
+    protected₅ : Protected k d₅ r₅ (finishedOf wrong)
+    unfolding d₅ r₅
+    protected₅ =
+        record { is-protected = refl; is-coded = protected-fragment C.Handshake 0 (omega arith) (unitKey k 0) (plan .mac) (finishedOf wrong) }
+
+    judged₅ : judgedOf (finishedOf wrong) expected ≡ F.Wrong
+    judged₅ = finished-judged wrong lw expected ∙ ap (λ b. pick b F.Right F.Wrong) (differ-same wrong expected differs)
+
+    row₅ : (s : SentRecords) → Row h₂ s random d₅ r₅ (judged (W.Refused X.WrongFinished) (withState (withWindow h₂ w₃) S.Closed))
+    unfolding h₁ answeredWith h₂ r₅ w₃
+    row₅ s =
+        row-wrong-finished (finishedOf wrong) w₃
+        (record { guarded = record { protection = refl; kind = inl (refl, inr refl) }; coded = protected₅; arrived = arrivedOf width (0 ∷ []); accepted = takes-0 width held }) refl judged₅
+
+    wrong-step : (c : Connection) (x : Told) → Tells c random d₅ r₅ x → replySize (x .answer) ≡ 0
+        → stepOf c (receive (protectedDatagram k C.Handshake 0 (finishedOf wrong)) random out) ≡ record { result = oneAnswer (x .answer) 0; output = out; connection = x .connection }
+    unfolding d₅ r₅
+    wrong-step c x told ea =
+        one-silent c d₅ random out r₅ x lr lo
+        (protected-framed C.Handshake 0 (omega arith) (unitKey k 0) (plan .mac) (finishedOf wrong) (omega (arith, size-most (plan .mac)))) told ea
+
   -- data
   d₄ : List ℕ
   d₄ = protectedDatagram k C.Data 1 bytes
@@ -461,6 +500,35 @@ module _ (id secret : List ℕ) (width : ℕ) (held : Held width) (m random out 
     unfolding h₃
     told₃ = tells (asks-right right₃) (row₃ (list (c .sent))) (left-replaced refl)
 
+    right₅ : (wrong : List ℕ) (lw : length wrong ≡ 12) (differs : wrong ≢ expected) → RightBeside e₂ (d₅ wrong lw differs) (r₅ wrong lw differs)
+    unfolding r₅ h₂
+    right₅ wrong lw differs =
+        record {
+          is-open = o;
+          in-spec = refl;
+          handshake = refl;
+          content = finishedOf wrong;
+          coded = subst (λ x. Protected x (d₅ wrong lw differs) (r₅ wrong lw differs) (finishedOf wrong)) (sym keys₂) (protected₅ wrong lw differs);
+        }
+
+    drops₅ : (wrong : List ℕ) → length wrong ≡ 12 → wrong ≢ expected
+        → stepOf e₂ (receive (protectedDatagram k C.Handshake 0 (finishedOf wrong)) random out)
+        ≡ record { result = oneAnswer (W.Refused X.WrongFinished) 0; output = out; connection = connectionOf (c .handshake) noneStarted (list (c .sent)) }
+    drops₅ wrong lw differs =
+        wrong-step wrong lw differs e₂ (record { answer = W.Refused X.WrongFinished; connection = connectionOf (c .handshake) noneStarted (list (c .sent)); beside = true })
+        (tells (asks-right (right₅ wrong lw differs)) (row₅ wrong lw differs (list (c .sent))) (left-dropped (inl refl))) refl
+
+    clear₁ : h₁ .protection .clear ≡ 2
+    unfolding h₁ answeredWith
+    clear₁ = refl
+
+    goes₁ : stepOf e₁ (send-alert false 1 0 [] out) .result ≡ sent O.Done 9
+    unfolding isAmong
+    goes₁ =
+        exactly-alert .goes e₁ false 1 0 [] out .1
+        (subst (λ s. AlertGoes false (s .state) 1 0 0 (alertNumberOf false s) (alertCodeOf false s) (length out)) (sym (ap (clearSender e₁) o))
+        ((lit≤ tt, lit≤ tt, refl, lit≤ tt), inl replied-state, omega (arith, clear₁), omega arith))
+
     keys₃ : keysOf h₃ ≡ k
     unfolding h₁ answeredWith h₂ h₃
     keys₃ = refl
@@ -485,6 +553,8 @@ module _ (id secret : List ℕ) (width : ℕ) (held : Held width) (m random out 
           opened = finished-step e₂ (record { answer = W.Open; connection = connectionOf h₃ noneStarted (list (c .sent)); beside = true }) told₃ refl;
           handed = data-step (list (c .sent));
           open-kept = (refl, refl);
+          alert-goes = goes₁;
+          wrong-drops = drops₅;
           replaced = (keys₃, hello₃, reply₃, refl);
         }
 

@@ -29,6 +29,7 @@ use Rattle.demands.specs.Gateways.{Demand2, Demand3, Demand2IsTable, Dem
 use Rattle.demands.specs.Instances.{Instances}
 use Rattle.demands.specs.Cases.{Cases}
 use Rattle.demands.specs.Why.{WhyAnswers}
+use Rattle.demands.specs.Named.{NamedCases}
 
 -- "The gateway takes every datagram, of any content, and every order of calls, and always comes back. Bad input is
 -- refused with a number from the list. A refused call writes nothing into the output we lend, and the connection is as
@@ -117,6 +118,7 @@ pub record Demands : Type 0 where
   pub answers-in-place : AnswersInPlace
   -- 02, P5: the tool that names the reason of a refusal
   pub why : WhyAnswers stepOf
+  pub named : NamedCases
   -- demands 2 and 3 of any gateway; 01: "These must not pass"
   pub meets-2 : Demand2 stepOf
   pub meets-3 : Demand3 stepOf

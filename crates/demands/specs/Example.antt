@@ -14,12 +14,12 @@ exampleSecret = replicate 20 0x42
 abbrev pub exampleWidth : ℕ
 exampleWidth = 64
 
--- version 1, its random, the identifier, no keys, null cipher with one MAC kind, null compression, explicit numbering,
+-- a version, its random, the identifier, no keys, null cipher with one MAC kind, null compression, explicit numbering,
 -- refresh 3
-abbrev pub helloWith : ℕ → List ℕ
-helloWith mac =
+abbrev pub helloAs : ℕ → ℕ → List ℕ
+helloAs version mac =
     0x01 ∷ 0x00 ∷ 0x25
-    ∷ 0x01
+    ∷ version
     ∷ 0x10 ∷ 0x11 ∷ 0x12 ∷ 0x13 ∷ 0x14 ∷ 0x15 ∷ 0x16 ∷ 0x17 ∷ 0x18 ∷ 0x19 ∷ 0x1a ∷ 0x1b ∷ 0x1c ∷ 0x1d ∷ 0x1e ∷ 0x1f
     ∷ 0x08 ∷ 0xa0 ∷ 0xa1 ∷ 0xa2 ∷ 0xa3 ∷ 0xa4 ∷ 0xa5 ∷ 0xa6 ∷ 0xa7
     ∷ 0x00 ∷ 0x00
@@ -29,12 +29,12 @@ helloWith mac =
     ∷ 0x02
     ∷ 0x03 ∷ []
 
--- with SHA_80, and with SHA
+-- of version 1, with SHA_80, and with SHA
 abbrev pub exampleHello : List ℕ
-exampleHello = helloWith 2
+exampleHello = helloAs 1 2
 
 abbrev pub shaHello : List ℕ
-shaHello = helloWith 3
+shaHello = helloAs 1 3
 
 abbrev pub exampleRandom : List ℕ
 exampleRandom = replicate 16 0x80

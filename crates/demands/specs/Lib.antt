@@ -36,5 +36,6 @@ pub mod Exactly
 pub mod Messages
 pub mod Facts
 pub mod Why
+pub mod Named
 pub mod Ship
 pub mod Demands

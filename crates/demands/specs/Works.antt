@@ -3,10 +3,10 @@
 -- other statements is empty.
 use mathlib.Core.Path.{_≡_}
 use mathlib.Core.Logic.{_≢_}
-use mathlib.Core.Bool.{Bool, true, false}
+use mathlib.Core.Bool.{false}
 use mathlib.Core.List.{List, [], _∷_}
-use Prim.Native.Nat.{ℕ, _+_, _≤_, _<_}
-use lib.ListN.{length, take}
+use Prim.Native.Nat.{ℕ, _≤_}
+use lib.ListN.{length}
 use Rattle.digest.specs.Bytes.{laidOver}
 use Rattle.digest.specs.Hmac.{hmac}
 use Rattle.digest.specs.Mac.{sizeOf}
@@ -27,12 +27,14 @@ use Rattle.connection.specs.declared.answer.Answer.{Answer}
 use Rattle.connection.specs.declared.answer.Answer.the-variants as W
 use Rattle.connection.specs.declared.connection.Connection.{Connection}
 use Rattle.connection.specs.declared.receive.Taken.the-variants as T
-use Rattle.demands.specs.Runs.{Call, receive, Result, received, Step, Gateway, stepsOf}
+use Rattle.demands.specs.Runs.{receive, send-alert, Result, received, sent, Gateway}
 use Rattle.record.specs.declared.keys.Keys.{Keys}
 use Rattle.demands.specs.Genuine.{unitKey, keysOf}
 use Rattle.demands.specs.Runs.{freshWith}
 use Rattle.record.specs.Window.{Held}
-use Rattle.connection.specs.Connection.{alone}
+use Rattle.connection.specs.Connection.{alone, connectionOf}
+use Rattle.connection.specs.declared.calls.Outcome.the-variants.{Done}
+use Rattle.connection.specs.declared.refusal.Refusal.the-variants as X
 use Rattle.connection.specs.Handshake.{planted, keptHello, keptReply, noneStarted}
 use Rattle.connection.specs.declared.state.State.the-variants.{Open}
 use Rattle.connection.specs.declared.handshake.Session.{Session}
@@ -106,6 +108,16 @@ pub record Rebooted (g : Gateway) (secret : List ℕ) (c : Connection) (session 
   pub handed : g c₃ (receive (protectedDatagram (keysAfter secret random m plan) C.Data 1 bytes) random out)
       ≡ record { result = oneAnswer (W.Data 1 3 (length bytes)) 0; output = out; connection = c₄ }
   pub open-kept : (c₁ .handshake ≡ c .handshake) × (c₂ .handshake ≡ c .handshake)
+  -- meanwhile, in Open: "clear alerts on the started one"
+  pub alert-goes : g c₁ (send-alert false 1 0 [] out) .result ≡ sent Done 9
+  -- "17 under the started keys, drops just that"
+  pub wrong-drops : (wrong : List ℕ) → length wrong ≡ 12 → wrong ≢ expectedOf session random m plan
+      → g c₂ (receive (protectedDatagram (keysAfter secret random m plan) C.Handshake 0 (finishedOf wrong)) random out)
+      ≡ record {
+        result = oneAnswer (W.Refused X.WrongFinished) 0;
+        output = out;
+        connection = connectionOf (c .handshake) noneStarted (c₂ .sent);
+      }
   pub replaced : (keysOf (c₃ .handshake) ≡ keysAfter secret random m plan) × (keptHello (c₃ .handshake) ≡ m)
       × (keptReply (c₃ .handshake) ≡ replyTo session random m plan) × (c₃ .started ≡ noneStarted)
 
