@@ -6,3 +6,7 @@ pub mod HandedOut
 pub mod ServerHello
 pub mod ExactlyRecord
 pub mod ExactlyCalls
+pub mod ExactlyReceive
+pub mod Refusals
+pub mod LeftOut
+pub mod Barred

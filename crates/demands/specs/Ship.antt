@@ -8,3 +8,7 @@ pub mod Course
 pub mod HandedOut
 pub mod ExactlyRecord
 pub mod ExactlyCalls
+pub mod ExactlyReceive
+pub mod Refusals
+pub mod LeftOut
+pub mod Barred

@@ -561,3 +561,194 @@ exactly-hello =
           (helloSent u random macs refresh (length out)) (hello-sent-holds u id8 random macs refresh (length out))
           (hello-goes u id8 random macs refresh (length out));
     }
+
+-- ---- again
+
+module _ (u : Ship) (room : ℕ) where
+  abbrev AgainWhy : State → Refusal → Type 0
+  AgainWhy s = WhyAgain s (length (againBytes u s)) room
+
+  abbrev AgainGoes : State → Type 0
+  AgainGoes s = MayAgain s × (length (againBytes u s) ≤ room)
+
+  said-holds : (s : State) (bytes : List ℕ) → againBytes u s ≡ bytes → MayAgain s
+      → SentHolds (AgainWhy s) (AgainGoes s) (length (againBytes u s)) (saidAgain u bytes room)
+  unfolding saidAgain
+  said-holds s bytes e m =
+      let n = ap length e in
+      decide (leb (length bytes) room)
+      (λ f. rw f ((m, omega (arith, leb-true (length bytes) room f, n)), sym n))
+      (λ f. rw f (again-6 m (omega (arith, leb-false (length bytes) room f, n)), refl))
+
+  again-holds : (s : State) → SentHolds (AgainWhy s) (AgainGoes s) (length (againBytes u s)) (againIn u s room)
+  again-holds S.Idle = (again-8 (inl refl), refl)
+  again-holds S.Sent = said-holds S.Sent (helloSaid u) refl (inl (inl refl))
+  again-holds S.Replied = said-holds S.Replied (helloSaid u) refl (inl (inr (inl refl)))
+  again-holds S.Spec = said-holds S.Spec (helloSaid u) refl (inl (inr (inr refl)))
+  again-holds S.Opening = said-holds S.Opening (flightOf u) refl (inr refl)
+  again-holds S.Open = (again-8 (inr refl), refl)
+  again-holds S.Closed = (again-7 (inl refl), refl)
+  again-holds S.Barred = (again-7 (inr refl), refl)
+
+  said-room : (bytes : List ℕ) → room < length bytes → saidAgain u bytes room .outcome ≡ Refused X.Room
+  unfolding saidAgain
+  said-room bytes l = rw (lt-leb (length bytes) room l) refl
+
+  said-done : (bytes : List ℕ) → length bytes ≤ room → saidAgain u bytes room .outcome ≡ Done
+  unfolding saidAgain
+  said-done bytes l = rw (le-leb (length bytes) room l) refl
+
+  -- at a state that is known
+  again-at : (s t : State) → s ≡ t → (o : Outcome) → (againIn u t room .outcome ≡ o) → againIn u s room .outcome ≡ o
+  again-at s t e o h = ap (λ x. againIn u x room .outcome) e ∙ h
+
+  again-because : (s : State) (x : Refusal) → AgainWhy s x → againIn u s room .outcome ≡ Refused x
+  again-because s X.Ended (again-7 (inl e)) = again-at s S.Closed e (Refused X.Ended) refl
+  again-because s X.Ended (again-7 (inr e)) = again-at s S.Barred e (Refused X.Ended) refl
+  again-because s X.NotAllowed (again-8 (inl e)) = again-at s S.Idle e (Refused X.NotAllowed) refl
+  again-because s X.NotAllowed (again-8 (inr e)) = again-at s S.Open e (Refused X.NotAllowed) refl
+  again-because s X.Room (again-6 (inl (inl e)) l) =
+      again-at s S.Sent e (Refused X.Room) (said-room (helloSaid u) (subst (λ t. room < length (againBytes u t)) e l))
+  again-because s X.Room (again-6 (inl (inr (inl e))) l) =
+      again-at s S.Replied e (Refused X.Room) (said-room (helloSaid u) (subst (λ t. room < length (againBytes u t)) e l))
+  again-because s X.Room (again-6 (inl (inr (inr e))) l) =
+      again-at s S.Spec e (Refused X.Room) (said-room (helloSaid u) (subst (λ t. room < length (againBytes u t)) e l))
+  again-because s X.Room (again-6 (inr e) l) =
+      again-at s S.Opening e (Refused X.Room) (said-room (flightOf u) (subst (λ t. room < length (againBytes u t)) e l))
+
+  again-goes : (s : State) → AgainGoes s → againIn u s room .outcome ≡ Done
+  again-goes s (inl (inl e), l) = again-at s S.Sent e Done (said-done (helloSaid u) (subst (λ t. length (againBytes u t) ≤ room) e l))
+  again-goes s (inl (inr (inl e)), l) = again-at s S.Replied e Done (said-done (helloSaid u) (subst (λ t. length (againBytes u t) ≤ room) e l))
+  again-goes s (inl (inr (inr e)), l) = again-at s S.Spec e Done (said-done (helloSaid u) (subst (λ t. length (againBytes u t) ≤ room) e l))
+  again-goes s (inr e, l) = again-at s S.Opening e Done (said-done (flightOf u) (subst (λ t. length (againBytes u t) ≤ room) e l))
+
+pub exactly-again : ExactlyAgain stepOf
+unfolding stepOf
+exactly-again =
+    record {
+      refused = λ u out x.
+          refused-exactly (AgainWhy u (length out) (u .state)) (AgainGoes u (length out) (u .state)) (length (againBytes u (u .state)))
+          (againSent u (length out)) (again-holds u (length out) (u .state)) (again-because u (length out) (u .state)) x;
+      goes = λ u out.
+          goes-exactly (AgainWhy u (length out) (u .state)) (AgainGoes u (length out) (u .state)) (length (againBytes u (u .state)))
+          (againSent u (length out)) (again-holds u (length out) (u .state)) (again-goes u (length out) (u .state));
+    }
+
+-- ---- close, start again, fresh
+
+abbrev CallHolds : (Refusal → Type 0) → Type 0 → Outcome → Type 0
+CallHolds Why Goes Done = Goes
+CallHolds Why Goes (Refused x) = Why x
+
+called-refused : (Why : Refusal → Type 0) (Goes : Type 0) (o : Outcome) → CallHolds Why Goes o → ((x : Refusal) → Why x → o ≡ Refused x)
+    → (x : Refusal) → (called o ≡ called (Refused x)) ↔ Why x
+called-refused Why Goes o h b x = (λ e. subst (CallHolds Why Goes) (ap outcomeIn e) h, λ w. ap called (b x w))
+
+called-goes : (Why : Refusal → Type 0) (Goes : Type 0) (o : Outcome) → CallHolds Why Goes o → (Goes → o ≡ Done) → (called o ≡ called Done) ↔ Goes
+called-goes Why Goes o h b = (λ e. subst (CallHolds Why Goes) (ap outcomeIn e) h, λ w. ap called (b w))
+
+module _ (u : Ship) where
+  close-holds : (s : State) → CallHolds (WhyClose s) (s ≢ S.Barred) (closedIn u s .outcome)
+  close-holds S.Idle = λ e. let z : _≡_ {A = ℕ} 0 1 = cc in omega arith
+  close-holds S.Sent = λ e. let z : _≡_ {A = ℕ} 0 1 = cc in omega arith
+  close-holds S.Replied = λ e. let z : _≡_ {A = ℕ} 0 1 = cc in omega arith
+  close-holds S.Spec = λ e. let z : _≡_ {A = ℕ} 0 1 = cc in omega arith
+  close-holds S.Opening = λ e. let z : _≡_ {A = ℕ} 0 1 = cc in omega arith
+  close-holds S.Open = λ e. let z : _≡_ {A = ℕ} 0 1 = cc in omega arith
+  close-holds S.Closed = λ e. let z : _≡_ {A = ℕ} 0 1 = cc in omega arith
+  close-holds S.Barred = close-7 refl
+
+  close-because : (s : State) (x : Refusal) → WhyClose s x → closedIn u s .outcome ≡ Refused x
+  close-because s X.Ended (close-7 e) = ap (λ t. closedIn u t .outcome) e
+
+  close-goes : (s : State) → s ≢ S.Barred → closedIn u s .outcome ≡ Done
+  close-goes S.Idle n = refl
+  close-goes S.Sent n = refl
+  close-goes S.Replied n = refl
+  close-goes S.Spec n = refl
+  close-goes S.Opening n = refl
+  close-goes S.Open n = refl
+  close-goes S.Closed n = refl
+  close-goes S.Barred n = absurd (n refl)
+
+  start-holds : (s : State) → CallHolds (WhyStart s) (s ≡ S.Closed) (startedIn u s .outcome)
+  start-holds S.Idle = start-8 (inl (inl refl))
+  start-holds S.Sent = start-8 (inl (inr (inl refl)))
+  start-holds S.Replied = start-8 (inl (inr (inr (inl refl))))
+  start-holds S.Spec = start-8 (inl (inr (inr (inr refl))))
+  start-holds S.Opening = start-8 (inr (inl refl))
+  start-holds S.Open = start-8 (inr (inr refl))
+  start-holds S.Closed = refl
+  start-holds S.Barred = start-7 refl
+
+  start-because : (s : State) (x : Refusal) → WhyStart s x → startedIn u s .outcome ≡ Refused x
+  start-because s X.Ended (start-7 e) = ap (λ t. startedIn u t .outcome) e
+  start-because s X.NotAllowed (start-8 (inl (inl e))) = ap (λ t. startedIn u t .outcome) e
+  start-because s X.NotAllowed (start-8 (inl (inr (inl e)))) = ap (λ t. startedIn u t .outcome) e
+  start-because s X.NotAllowed (start-8 (inl (inr (inr (inl e))))) = ap (λ t. startedIn u t .outcome) e
+  start-because s X.NotAllowed (start-8 (inl (inr (inr (inr e))))) = ap (λ t. startedIn u t .outcome) e
+  start-because s X.NotAllowed (start-8 (inr (inl e))) = ap (λ t. startedIn u t .outcome) e
+  start-because s X.NotAllowed (start-8 (inr (inr e))) = ap (λ t. startedIn u t .outcome) e
+
+pub exactly-close : ExactlyClose stepOf
+unfolding stepOf
+exactly-close =
+    record {
+      refused = λ u x. called-refused (WhyClose (u .state)) (u .state ≢ S.Barred) (closedIn u (u .state) .outcome) (close-holds u (u .state)) (close-because u (u .state)) x;
+      goes = λ u. called-goes (WhyClose (u .state)) (u .state ≢ S.Barred) (closedIn u (u .state) .outcome) (close-holds u (u .state)) (close-goes u (u .state));
+    }
+
+pub exactly-start : ExactlyStart stepOf
+unfolding stepOf
+exactly-start =
+    record {
+      refused = λ u x. called-refused (WhyStart (u .state)) (u .state ≡ S.Closed) (startedIn u (u .state) .outcome) (start-holds u (u .state)) (start-because u (u .state)) x;
+      goes = λ u. called-goes (WhyStart (u .state)) (u .state ≡ S.Closed) (startedIn u (u .state) .outcome) (start-holds u (u .state)) (λ e. ap (λ t. startedIn u t .outcome) e);
+    }
+
+module _ (id secret : List ℕ) (width : ℕ) where
+  abbrev FreshGoes : Type 0
+  FreshGoes = (length id ≡ 8) × (length secret ≡ 20) × Held width
+
+  abbrev FreshWhy : Refusal → Type 0
+  FreshWhy = WhyFresh (length id) (length secret) width
+
+  fresh-holds : CallHolds FreshWhy FreshGoes (freshOf id secret width .outcome)
+  unfolding freshOf
+  fresh-holds =
+      decide (eqb (length id) 8)
+      (λ a. decide (eqb (length secret) 20)
+      (λ b. decide (ltb width 32)
+      (λ c. rw (a, b, c) (fresh-16 (inr (inr (inl (ltb-true width 32 c))))))
+      (λ c. decide (ltb 64 width)
+      (λ d. rw (a, b, c, d) (fresh-16 (inr (inr (inr (ltb-true 64 width d))))))
+      (λ d. rw (a, b, c, d) (eqb-true (length id) 8 a, eqb-true (length secret) 20 b, (ltb-false width 32 c, ltb-false 64 width d)))))
+      (λ b. rw (a, b) (fresh-16 (inr (inl (eqb-false (length secret) 20 b))))))
+      (λ a. rw a (fresh-16 (inl (eqb-false (length id) 8 a))))
+
+  fresh-clash : {P : Type 0} → FreshGoes → (length id ≢ 8) ⊎ (length secret ≢ 20) ⊎ (width < 32) ⊎ (64 < width) → P
+  fresh-clash (a, b, h) (inl n) = absurd (n a)
+  fresh-clash (a, b, h) (inr (inl n)) = absurd (n b)
+  fresh-clash (a, b, h) (inr (inr (inl l))) = absurd (omega (arith, h .0))
+  fresh-clash (a, b, h) (inr (inr (inr l))) = absurd (omega (arith, h .1))
+
+  fresh-because : (o : Outcome) → CallHolds FreshWhy FreshGoes o → (x : Refusal) → FreshWhy x → o ≡ Refused x
+  fresh-because Done h X.Argument (fresh-16 w) = fresh-clash h w
+  fresh-because (Refused X.Argument) h X.Argument (fresh-16 w) = refl
+
+  fresh-goes : (o : Outcome) → CallHolds FreshWhy FreshGoes o → FreshGoes → o ≡ Done
+  fresh-goes Done h w = refl
+  fresh-goes (Refused X.Argument) (fresh-16 v) w = fresh-clash w v
+
+pub exactly-fresh : ExactlyFresh
+exactly-fresh =
+    record {
+      refused = λ id secret width x. (
+        λ e. subst (CallHolds (FreshWhy id secret width) (FreshGoes id secret width)) e (fresh-holds id secret width),
+        fresh-because id secret width (freshOf id secret width .outcome) (fresh-holds id secret width) x,
+      );
+      goes = λ id secret width. (
+        λ e. subst (CallHolds (FreshWhy id secret width) (FreshGoes id secret width)) e (fresh-holds id secret width),
+        fresh-goes id secret width (freshOf id secret width .outcome) (fresh-holds id secret width),
+      );
+    }

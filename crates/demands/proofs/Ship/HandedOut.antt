@@ -413,7 +413,7 @@ request-silent S.Closed = refl
 request-silent S.Barred = refl
 
 module _ (u : Ship) (d : List ℕ) (r : Record) where
-  stays-silent : {x : Answer} → Stays u d r x → isData (asAshore x) ≡ false
+  pub stays-silent : {x : Answer} → Stays u d r x → isData (asAshore x) ≡ false
   stays-silent (at-end e) = refl
   stays-silent (not-allowed e) = refl
   stays-silent (not-first e y) = refl
