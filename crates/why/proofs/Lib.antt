@@ -1,1 +1,4 @@
 -- Laws that belong to no one function.
+pub mod Facts
+pub mod Places
+pub mod Coincide

@@ -69,6 +69,7 @@ fn whole(c: Connection, reason: Reason) -> Why
     let state = h.state;
     let s = c.started;
     let started = s.state;
+    let sent = c.sent;
     Why {
         reason,
         state,
@@ -77,7 +78,7 @@ fn whole(c: Connection, reason: Reason) -> Why
         protected: false,
         hello: false,
         place: 0,
-        sent: c.sent,
+        sent,
     }
 }
 
@@ -95,6 +96,7 @@ fn of_record(p: Point, d: &[u8], index: usize) -> Why
     let state = h.state;
     let s = c.started;
     let started = s.state;
+    let sent = c.sent;
     Why {
         reason,
         state,
@@ -103,7 +105,7 @@ fn of_record(p: Point, d: &[u8], index: usize) -> Why
         protected: r.protected,
         hello: is_hello(kind_in(d, r)),
         place: index,
-        sent: c.sent,
+        sent,
     }
 }
 
