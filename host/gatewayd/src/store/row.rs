@@ -78,7 +78,7 @@ impl Clocks {
 
 /// The row of a ship, one version on; of one whose row has the rest already, the connection and what goes with it.
 pub fn changed(ship: &Ship, writer: i64, clocks: Clocks) -> Row {
-    if ship.settled.is_none() || ship.settled != ship.settled() {
+    if ship.settled != Some(ship.settled()) {
         return of(ship, writer, clocks);
     }
     vec![
