@@ -453,6 +453,10 @@ fn a_ship_that_rebooted_twice() {
         assert_eq!((taken.reports.len(), taken.notes), (1, vec![Note::Opened, Note::Replaced]));
         assert_eq!(world.take(1, &second.data(2), 2).reports.len(), 1);
         assert_eq!(world.route(0), Some(address(1)));
+        // What began before it has ended, and opens no more.
+        assert!(world.fleet.ships[0].started.is_empty());
+        assert!(world.take(1, &first.unit.finished(true, 0).unwrap(), 2).reports.is_empty());
+        assert_eq!(world.fleet.ships[0].opening, if late { 3 } else { 2 });
         for before in [&unit, &first] {
             assert_eq!(refusals(&world.take(1, &before.data(9), 2)), [9]);
         }
@@ -600,6 +604,10 @@ fn records_behind_a_hello_beside_an_open_connection() {
         let taken = world.take(2, &behind(&[&change, &rebooted.alert(3, 40, 1)]), 0);
         assert_eq!((refusals(&taken), world.fleet.ships[0].barred), (vec![9], false));
         assert_eq!((world.state(0), world.fleet.ships[0].opening), (State::Open, 1));
+        // The Finished of the open connection once more is its own, and is warned of.
+        let taken = world.take(2, &behind(&[&unit.unit.finished(false, 0).unwrap()]), 0);
+        assert!(taken.notes.contains(&Note::Warned), "{:?}", taken.notes);
+        assert_eq!((refusals(&taken), taken.send.len()), (vec![11], 2));
         // And the datagram as a whole is refused where it is no datagram.
         let taken = world.take(2, &behind(&[&[0x13]]), 0);
         assert!(taken.send.is_empty() && !taken.changed);
