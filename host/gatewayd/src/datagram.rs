@@ -7,25 +7,36 @@ const HANDSHAKE: u8 = 3;
 const PROTECTED: u8 = 0x20;
 const PROTECTED_HANDSHAKE: u8 = 0x63;
 
-/// A hello at the front of a datagram: the session that it names, and the whole message.
+/// A hello at the front of a datagram: the session that it names, the whole message, and its record.
 pub struct Hello<'a> {
     pub session: Identifier,
     pub message: &'a [u8],
+    pub record: &'a [u8],
 }
 
 /// The hello of a datagram: first, a clear handshake record that begins with byte 1 and, behind its
 /// header, version and random, has an identifier of 8 bytes.
 pub fn hello(datagram: &[u8]) -> Option<Hello<'_>> {
-    let type_byte = *datagram.first()?;
-    if type_byte & !LENGTH != 0x40 + HANDSHAKE {
-        return None;
-    }
-    let message = first_record(datagram).get(header_size(type_byte)..)?;
-    if *message.first()? != 1 || *message.get(20)? != 8 {
+    let record = first_record(datagram);
+    let message = hello_message(record)?;
+    if *message.get(20)? != 8 {
         return None;
     }
     let session = message.get(21..29)?.try_into().ok()?;
-    Some(Hello { session, message })
+    Some(Hello { session, message, record })
+}
+
+/// Whether a record is a hello, whatever stands in it.
+pub fn is_hello(record: &[u8]) -> bool {
+    hello_message(record).is_some()
+}
+
+fn hello_message(record: &[u8]) -> Option<&[u8]> {
+    let type_byte = *record.first()?;
+    if type_byte & !LENGTH != 0x40 + HANDSHAKE {
+        return None;
+    }
+    record.get(header_size(type_byte)..).filter(|message| message.first() == Some(&1))
 }
 
 /// The records of a datagram that the library found soundly framed, each from its type byte to its

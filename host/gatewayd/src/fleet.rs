@@ -147,9 +147,34 @@ impl Fleet {
         let same = |handshake: &Handshake| handshake.hello == hello.message;
         let under_way = ship.started.iter().position(same);
         let is_of_open = ship.is_open() && ship.hello == hello.message;
+        let alone = hello.record.len() == arrival.datagram.len();
         if !self.may_answer(index, arrival) {
             return noted(Some(index), Note::HelloPassedOver);
         }
+        if is_of_open || alone || !self.ships[index].is_open() {
+            return self.answer(index, under_way, is_of_open, hello, arrival);
+        }
+        // Beside an open connection what stands behind the hello is not all for the handshake.
+        if let Err(whole) = arrival.tried_on(&self.ships[index], Target::Settled(index)) {
+            return noted(Some(index), refused_whole(whole));
+        }
+        let first = Arrival { datagram: hello.record, ..*arrival };
+        let mut taken = self.answer(index, under_way, false, hello, &first);
+        let started = self.ships[index].started.iter().find(|one| one.hello == hello.message);
+        let serial = started.map(|handshake| handshake.serial);
+        taken.add(self.each_beside_open(index, serial, arrival, 1));
+        taken
+    }
+
+    /// Answers the hello of a ship: the open connection's, one of a handshake under way, or a new one.
+    fn answer(
+        &mut self,
+        index: usize,
+        under_way: Option<usize>,
+        is_of_open: bool,
+        hello: &datagram::Hello,
+        arrival: &Arrival,
+    ) -> Taken {
         let taken = match under_way {
             _ if is_of_open => self.say_again(Target::Settled(index), arrival),
             Some(place) => self.say_again(Target::Started(index, place), arrival),
@@ -229,41 +254,67 @@ impl Fleet {
         let known =
             Known { ships: &self.ships, routes: &self.routes, handshakes: &self.handshakes };
         match search::find(&known, &mut self.trials, arrival) {
-            Found::Genuine(target, trial) | Found::Refused(target, trial) => {
-                let (target, trial) = self.beside_open(target, trial, arrival);
-                self.settle(target, trial, arrival)
-            }
+            Found::Genuine(target, trial) | Found::Refused(target, trial) => match target {
+                Target::Started(index, place) if self.ships[index].is_open() => {
+                    let serial = self.ships[index].started[place].serial;
+                    self.each_beside_open(index, Some(serial), arrival, 0)
+                }
+                _ => self.settle(target, trial, arrival),
+            },
             Found::RefusedWhole(ship, refused) => noted(ship, refused_whole(refused)),
             Found::Nobodys => self.pass_over(arrival),
         }
     }
 
-    /// Beside an open connection nothing counts under the keys of a handshake but its Finished: all
-    /// else that is protected is the open one's, and is counted as that finds it.
+    /// The records of a datagram for a handshake beside an open connection, from one on. Each is judged by itself, as the library does
+    /// it where both are in one connection (02, P6).
+    fn each_beside_open(
+        &mut self,
+        index: usize,
+        serial: Option<u64>,
+        arrival: &Arrival,
+        from: usize,
+    ) -> Taken {
+        let mut all = Taken { ship: Some(index), ..Taken::default() };
+        for (place, record) in datagram::records(arrival.datagram).enumerate().skip(from) {
+            let one = Arrival { datagram: record, ..*arrival };
+            let mut taken = match self.beside_open(index, serial, &one) {
+                _ if place > 0 && datagram::is_hello(record) => {
+                    let refusal = Refusal::NotAllowed;
+                    noted(Some(index), Note::Refused { refusal, record: 0 })
+                }
+                Ok((target, trial)) => self.settle(target, trial, &one),
+                Err(whole) => noted(Some(index), refused_whole(whole)),
+            };
+            taken.notes.iter_mut().for_each(|note| note.is_of(place));
+            all.add(taken);
+        }
+        all
+    }
+
+    /// Whose one record is. In the clear it is the handshake's. Protected it is the open connection's, but for a handshake record with
+    /// a right code under the keys of the handshake: the code decides.
     fn beside_open<'d>(
         &mut self,
-        target: Target,
-        mut trial: Trial<'d>,
-        arrival: &Arrival<'d>,
-    ) -> (Target, Trial<'d>) {
-        let ship = &self.ships[target.ship()];
-        let open = Target::Settled(target.ship());
-        let records = datagram::records(arrival.datagram);
-        let codes = records.filter(|record| datagram::is_protected(record)).count();
-        if target == open || !ship.is_open() || codes == 0 || trial.opens() {
-            return (target, trial);
+        index: usize,
+        serial: Option<u64>,
+        one: &Arrival<'d>,
+    ) -> Result<(Target, Trial<'d>), Refused> {
+        let ship = &self.ships[index];
+        let open = Target::Settled(index);
+        let protected = datagram::is_protected(one.datagram);
+        let place = serial.and_then(|serial| handshakes::place_of(ship, serial));
+        let started = place.map(|place| Target::Started(index, place));
+        let may = !protected || datagram::is_protected_handshake(one.datagram);
+        if let Some(started) = started.filter(|_| may) {
+            self.trials.count(u64::from(protected));
+            let trial = one.tried_on(ship, started)?;
+            if !protected || trial.worth != Worth::Nothing {
+                return Ok((started, trial));
+            }
         }
-        self.trials.made += 1;
-        self.trials.codes += codes as u64;
-        let Ok(found) = arrival.tried_on(ship, open) else { return (target, trial) };
-        let nobodys = trial.worth == Worth::Nothing;
-        if trial.hears_alert(arrival.datagram) || nobodys && found.worth != Worth::Nothing {
-            return (open, found);
-        }
-        if nobodys {
-            trial.tally = found.tally;
-        }
-        (target, trial)
+        self.trials.count(u64::from(protected));
+        Ok((open, one.tried_on(ship, open)?))
     }
 
     /// A change cipher spec alone in a datagram says nothing of whose it is: it is for all handshakes that were begun at this address
@@ -277,7 +328,7 @@ impl Fleet {
                 continue;
             }
             let target = Target::Started(index, place);
-            self.trials.made += 1;
+            self.trials.count(0);
             let Ok(trial) = arrival.tried_on(ship, target) else { continue };
             let taken = self.settle(target, trial, arrival);
             match &mut all {
@@ -335,7 +386,7 @@ impl Fleet {
         };
         taken.changed = moved || differs || !taken.reports.is_empty();
         self.put(target, &trial, &mut taken);
-        // Who is heard on the open connection has not rebooted: what strangers began beside it goes.
+        // Who is heard on the open connection long after a hello has not rebooted: what strangers began beside it goes.
         if matches!((target, trial.worth), (Target::Settled(_), Worth::New(_))) {
             self.handshakes.end_old_of(&mut self.ships, index, arrival.now);
         }
@@ -362,7 +413,7 @@ impl Fleet {
         let state = trial.connection.state();
         if let Target::Started(_, place) = target {
             if !trial.opens() && state != State::Barred {
-                self.ships[index].started[place].connection = trial.connection.clone();
+                self.ships[index].replace_started(place, &trial.connection);
                 if state == State::Closed {
                     self.handshakes.end(&mut self.ships, index, place);
                 }
@@ -378,9 +429,10 @@ impl Fleet {
         ship.connection = trial.connection.clone();
         match state {
             // A closed connection is of no use: the next hello is to find it started again. (From
-            // Closed, start again is never refused.)
+            // Closed, start again is never refused.) What was started beside it ends with it.
             State::Closed => {
                 let _ = ship.connection.start();
+                self.handshakes.end_all_of(&mut self.ships, index);
             }
             State::Barred => {
                 ship.barred = true;
@@ -428,6 +480,18 @@ impl Fleet {
         let ship = &self.ships[index];
         let route = ship.route.filter(|_| ship.is_open()).map(|route| (route, ship.newest));
         self.routes.set(index, route);
+    }
+}
+
+impl Taken {
+    /// What a later record of the same datagram did.
+    fn add(&mut self, later: Taken) {
+        self.also.extend(later.also);
+        self.changed |= later.changed;
+        self.before = self.before.or(later.before);
+        self.reports.extend(later.reports);
+        self.send.extend(later.send);
+        self.notes.extend(later.notes);
     }
 }
 

@@ -12,6 +12,8 @@ pub const OF_A_SHIP: usize = 8;
 pub const OF_ALL: usize = 4096;
 /// So long one is kept, whoever else says hello: some round trips of a slow link.
 pub const HOLD: Duration = Duration::from_secs(8);
+/// So long one is kept beside an open connection that is heard: records of before a reboot may come late, and the Finished, too.
+pub const BESIDE: Duration = Duration::from_secs(3600);
 
 /// Where the handshakes of all ships are to be found. They themselves are with their ships.
 #[derive(Default)]
@@ -86,11 +88,13 @@ impl Handshakes {
             self.note_sender(*sender, ship, serial);
         }
         ships[ship].started.push(Handshake { serial, ..newcomer });
+        ships[ship].turns += 1;
     }
 
     /// Somebody else said the hello of a handshake.
     pub fn said_again(&mut self, ships: &mut [Ship], ship: usize, place: usize, by: SocketAddr) {
         let home = ships[ship].route.map(way::host);
+        ships[ship].turns += u64::from(!ships[ship].started[place].senders.contains(&by));
         let pushed_out = ships[ship].started[place].add_sender(by, home);
         let serial = ships[ship].started[place].serial;
         self.note_sender(by, ship, serial);
@@ -102,6 +106,7 @@ impl Handshakes {
     /// Ends one.
     pub fn end(&mut self, ships: &mut [Ship], ship: usize, place: usize) -> Handshake {
         let ended = ships[ship].started.remove(place);
+        ships[ship].turns += 1;
         self.count -= 1;
         for sender in &ended.senders {
             self.forget_sender(*sender, &ships[ship], ship, ended.serial);
@@ -114,9 +119,10 @@ impl Handshakes {
         ended
     }
 
-    /// Ends those of a ship that have had their time.
+    /// Ends those of a ship that have had their time beside an open connection.
     pub fn end_old_of(&mut self, ships: &mut [Ship], ship: usize, now: Instant) {
-        while ships[ship].started.first().is_some_and(|first| is_held_no_more(first, now)) {
+        let is_old = |first: &Handshake| now.saturating_duration_since(first.at) >= BESIDE;
+        while ships[ship].started.first().is_some_and(is_old) {
             self.end(ships, ship, 0);
         }
     }

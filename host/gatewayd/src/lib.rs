@@ -29,3 +29,4 @@ pub mod throttle;
 pub mod trial;
 pub mod waiting;
 pub mod way;
+pub mod why;

@@ -4,7 +4,7 @@ use gatewayd::log;
 use gatewayd::options::{self, Command, HELP};
 use gatewayd::run::{self, Ended, Failure};
 use gatewayd::signals;
-use gatewayd::socket::Socket;
+use gatewayd::socket::{self, Socket};
 use gatewayd::store::setup;
 use std::ffi::OsStr;
 use std::os::unix::process::CommandExt;
@@ -19,7 +19,7 @@ fn main() -> ExitCode {
             let ended = run::run(&options);
             if let Err(failure) = ended.and_then(|ended| match ended {
                 Ended::ForGood => Ok(()),
-                Ended::WithSuccessor(socket) => Err(start_anew(socket)),
+                Ended::WithSuccessor(sockets) => Err(start_anew(sockets)),
             }) {
                 eprintln!("gatewayd: {}", failure.what);
                 return ExitCode::from(failure.status);
@@ -34,9 +34,9 @@ fn main() -> ExitCode {
 }
 
 /// The program as it now lies on the disk takes the place of this one, with the same words, but for
-/// those that are good for one start, and the same socket. Where it cannot be started (it is gone, or
+/// those that are good for one start, and the same sockets. Where it cannot be started (it is gone, or
 /// is no program), this one starts once more. Comes back only if that fails, too.
-fn start_anew(socket: Socket) -> Failure {
+fn start_anew(sockets: Vec<Socket>) -> Failure {
     let mut words = std::env::args_os();
     let program = words.next().unwrap_or_default();
     let words: Vec<_> = words.filter(|word| word != "--restored" && word != "--afresh").collect();
@@ -46,7 +46,7 @@ fn start_anew(socket: Socket) -> Failure {
         command
     };
     let mut new = command(&program);
-    let error = match socket.hand_over(&mut new) {
+    let error = match socket::hand_over(sockets, &mut new) {
         Ok(()) => {
             signals::ignore_new_start();
             let error = new.exec();

@@ -46,10 +46,18 @@ pub struct Shown {
 const MOST_RELAYS: usize = 1024;
 
 impl Messages {
-    pub fn open(address: SocketAddr, gather_for: Duration) -> io::Result<Messages> {
-        let socket = Socket::bind(address)?;
+    pub fn open(socket: Socket, gather_for: Duration) -> io::Result<Messages> {
         let inbox = Inbox::open(&socket)?;
         Ok(Messages { socket, inbox, is_closed: false, relays: Relays::new(gather_for) })
+    }
+
+    /// How many messages the system has dropped.
+    pub fn dropped(&self) -> u64 {
+        self.inbox.dropped()
+    }
+
+    pub fn into_socket(self) -> Socket {
+        self.socket
     }
 
     pub fn address(&self) -> io::Result<SocketAddr> {

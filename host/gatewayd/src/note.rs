@@ -67,6 +67,13 @@ pub enum Note {
 }
 
 impl Note {
+    /// Says it of the record with this index, if it is said of one.
+    pub fn is_of(&mut self, index: usize) {
+        if let Note::Refused { record, .. } = self {
+            *record = index;
+        }
+    }
+
     /// Notes of one kind share the limit of the log. A few dozen kinds, whatever comes.
     pub fn kind(&self) -> (u8, u8) {
         match *self {

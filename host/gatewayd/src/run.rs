@@ -10,7 +10,7 @@ use crate::randoms::Randoms;
 use crate::sessions;
 use crate::shore::{Shore, Told};
 use crate::signals::{self, Asked};
-use crate::socket::{Datagram, Socket};
+use crate::socket::{self, Datagram, Socket};
 use crate::store::engine::Fault;
 use crate::store::{Opened, Store};
 use crate::waiting::Waiting;
@@ -30,8 +30,8 @@ pub struct Failure {
 /// How it ended, if nothing failed.
 pub enum Ended {
     ForGood,
-    /// To be started anew, with the same socket.
-    WithSuccessor(Socket),
+    /// To be started anew, with the same sockets.
+    WithSuccessor(Vec<Socket>),
 }
 
 /// How many datagrams are saved at once, about.
@@ -68,9 +68,11 @@ pub fn run(options: &Options) -> Result<Ended, Failure> {
     let sessions = sessions::load(&options.sessions).map_err(failure(3))?;
     let listen =
         |error: io::Error| Failure { status: 5, what: format!("{}: {error}", options.listen) };
-    let socket = Socket::open(options.listen).map_err(listen)?;
+    let most = 1 + u32::from(options.listen_messages.is_some());
+    let mut given = socket::handed_over(most).map_err(listen)?.into_iter();
+    let socket = given.next().map_or_else(|| Socket::bind(options.listen), Ok).map_err(listen)?;
     let address = socket.address().map_err(listen)?;
-    let messages = open_messages(options)?;
+    let messages = open_messages(options, given.next())?;
     let randoms = Randoms::open().map_err(failure(6))?;
     let mut log = Log::new(options.log_every);
     let attempt = || match Store::open(&options.store, &sessions, options.start) {
@@ -230,7 +232,7 @@ impl Gateway {
     /// A line if the system has dropped more than was told.
     fn tell_dropped(&mut self) {
         let (told, _) = self.told_dropped;
-        let dropped = self.inbox.dropped();
+        let dropped = self.dropped();
         if dropped > told {
             let more = dropped - told;
             self.log.line(&format!("the system dropped {more} datagrams ({dropped} in all)"));
@@ -252,8 +254,13 @@ impl Gateway {
         }
     }
 
+    /// How many datagrams and messages the system has dropped.
+    fn dropped(&self) -> u64 {
+        self.inbox.dropped() + self.messages.as_ref().map_or(0, Messages::dropped)
+    }
+
     fn counts(&self) -> Progress {
-        let dropped = self.inbox.dropped();
+        let dropped = self.dropped();
         let (datagrams, not_sent) = (self.datagrams, self.not_sent);
         let mut counts = Progress { datagrams, dropped, not_sent, ..Progress::default() };
         for ship in &self.shore.fleet.ships {
@@ -268,16 +275,18 @@ impl Gateway {
     /// The clean end: everything is in the store, tallies too. The tally of each ship.
     fn end(self, asked: Asked) -> Ended {
         if asked == Asked::NewStart {
-            return Ended::WithSuccessor(self.socket);
+            let messages = self.messages.map(Messages::into_socket);
+            return Ended::WithSuccessor([self.socket].into_iter().chain(messages).collect());
         }
         say(Tallies(&self.shore.fleet).to_string());
         Ended::ForGood
     }
 }
 
-fn open_messages(options: &Options) -> Result<Option<Messages>, Failure> {
+fn open_messages(options: &Options, given: Option<Socket>) -> Result<Option<Messages>, Failure> {
     let Some(address) = options.listen_messages else { return Ok(None) };
-    let opened = Messages::open(address, options.gather_for);
+    let socket = given.map_or_else(|| Socket::bind(address), Ok);
+    let opened = socket.and_then(|socket| Messages::open(socket, options.gather_for));
     opened.map(Some).map_err(|error| Failure { status: 5, what: format!("{address}: {error}") })
 }
 

@@ -89,7 +89,7 @@ pub fn find<'d>(known: &Known, trials: &mut Trials, arrival: &Arrival<'d>) -> Fo
     // What is in the clear shows nothing about its sender: only who has to count it need see it.
     if spent.codes == 0 {
         let Some(target) = owner else { return Found::Nobodys };
-        trials.made += 1;
+        trials.count(0);
         return match arrival.tried_on(&known.ships[target.ship()], target) {
             Ok(trial) => Found::Refused(target, trial),
             Err(whole) => Found::RefusedWhole(Some(target.ship()), whole),
@@ -99,8 +99,7 @@ pub fn find<'d>(known: &Known, trials: &mut Trials, arrival: &Arrival<'d>) -> Fo
         if !trials.may(nearness, &mut spent, arrival) {
             break;
         }
-        trials.made += 1;
-        trials.codes += u64::from(spent.codes);
+        trials.count(spent.codes.into());
         match arrival.tried_on(&known.ships[target.ship()], target) {
             Err(whole) => return Found::RefusedWhole(owner.map(Target::ship), whole),
             Ok(trial) if trial.worth != Worth::Nothing => return Found::Genuine(target, trial),
@@ -132,6 +131,12 @@ impl Default for Trials {
 }
 
 impl Trials {
+    /// One more, in which so many codes are compared.
+    pub fn count(&mut self, codes: u64) {
+        self.made += 1;
+        self.codes += codes;
+    }
+
     fn may(&mut self, nearness: Nearness, spent: &mut Spent, arrival: &Arrival) -> bool {
         let host = way::host(arrival.way.sender);
         if nearness == Nearness::Here && spent.here < TRIED_AT_ONCE {

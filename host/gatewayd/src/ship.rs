@@ -16,8 +16,9 @@ pub struct Ship {
     pub connection: Connection,
     /// The hello from which the open connection came.
     pub hello: Vec<u8>,
-    /// Handshakes under way, the oldest first.
+    /// Handshakes under way, the oldest first; and how often one began, went on or ended.
     pub started: Vec<Handshake>,
+    pub turns: u64,
     pub tally: Tally,
     /// The tally as the store has it.
     pub saved: Tally,
@@ -46,9 +47,10 @@ pub struct Ship {
     pub hellos: Budget,
 }
 
-/// What of a ship changes seldom, with no handshake under way. (Its name, planting and hello change with these, or at a start.)
+/// What of a ship changes seldom. (Its name, planting and hello change with these, or at a start.)
 #[derive(Clone, Copy, PartialEq, Eq)]
 pub struct Settled {
+    turns: u64,
     opening: i64,
     mute: bool,
     barred: bool,
@@ -81,6 +83,7 @@ impl Ship {
             connection,
             hello: Vec::new(),
             started: Vec::new(),
+            turns: 0,
             tally: Tally::default(),
             saved: Tally::default(),
             version: 0,
@@ -101,15 +104,22 @@ impl Ship {
         !self.barred && self.connection.state() == State::Open
     }
 
-    pub fn settled(&self) -> Option<Settled> {
-        let Ship { opening, mute, barred, route, .. } = *self;
-        self.started.is_empty().then_some(Settled { opening, mute, barred, route })
+    pub fn settled(&self) -> Settled {
+        let Ship { turns, opening, mute, barred, route, .. } = *self;
+        Settled { turns, opening, mute, barred, route }
+    }
+
+    /// A handshake goes on.
+    pub fn replace_started(&mut self, place: usize, by: &Connection) {
+        self.turns += u64::from(self.started[place].connection != *by);
+        self.started[place].connection = by.clone();
     }
 
     /// Nothing more is sent before the next opening, which is a new one.
     pub fn fall_silent(&mut self) {
         self.mute = true;
         self.started.clear();
+        self.turns += 1;
     }
 
     /// Moves the route. Where it was stays known for a while: who relays a record before the ship's

@@ -35,23 +35,12 @@ pub const BATCH: usize = 64;
 const BUFFER: i32 = 8 << 20;
 /// A call that waits comes back after this, so that somebody can ask for the end.
 const WAIT: Duration = Duration::from_millis(50);
-/// Where a socket that was handed over is, by the convention of systemd.
+/// Where the first socket that was handed over is, by the convention of systemd; the others follow.
 const HANDED_OVER: RawFd = 3;
-/// How many dropped ones were counted before it was.
+/// How many dropped ones were counted before they were, of each.
 const COUNTED: &str = "GATEWAYD_COUNTED";
 
 impl Socket {
-    /// The socket that was handed over to us, if there is one; else a new one.
-    pub fn open(address: SocketAddr) -> io::Result<Socket> {
-        match handed_over()? {
-            Some(socket) => {
-                let counted = std::env::var(COUNTED).ok().and_then(|text| text.parse().ok());
-                Socket::over(socket, counted)
-            }
-            None => Socket::bind(address),
-        }
-    }
-
     /// A new one.
     pub fn bind(address: SocketAddr) -> io::Result<Socket> {
         Socket::over(UdpSocket::bind(address)?, None)
@@ -149,44 +138,55 @@ impl Socket {
         };
         check(unsafe { sendmsg(self.fd(), &raw const message, MSG_DONTWAIT) }).map(|_| ())
     }
-
-    /// Hands the socket over to the program that takes this one's place. What arrives meanwhile
-    /// waits in it.
-    pub fn hand_over(self, command: &mut std::process::Command) -> io::Result<()> {
-        let fd = self.fd();
-        let done = match fd == HANDED_OVER {
-            true => unsafe { fcntl(fd, F_SETFD, 0) },
-            false => unsafe { dup2(fd, HANDED_OVER) },
-        };
-        check(done as isize)?;
-        command.env("LISTEN_FDS", "1").env("LISTEN_PID", std::process::id().to_string());
-        command.env(COUNTED, self.counted.load(Ordering::Relaxed).to_string());
-        std::mem::forget(self);
-        Ok(())
-    }
 }
 
-/// By LISTEN_FDS and LISTEN_PID, as systemd does it; exactly one socket.
-fn handed_over() -> io::Result<Option<UdpSocket>> {
+/// Hands sockets over to the program that takes this one's place. What arrives meanwhile waits in them.
+pub fn hand_over(sockets: Vec<Socket>, command: &mut std::process::Command) -> io::Result<()> {
+    let count = sockets.len() as RawFd;
+    // Away from the places first: one may stand in the place of another.
+    let away = sockets.iter().map(|socket| {
+        let free = HANDED_OVER + count;
+        check(unsafe { fcntl(socket.fd(), F_DUPFD_CLOEXEC, free) } as isize).map(|fd| fd as RawFd)
+    });
+    let away = away.collect::<io::Result<Vec<RawFd>>>()?;
+    for (place, fd) in (HANDED_OVER..).zip(away) {
+        check(unsafe { dup2(fd, place) } as isize)?;
+    }
+    let counted = sockets.iter().map(|socket| socket.counted.load(Ordering::Relaxed).to_string());
+    command.env(COUNTED, counted.collect::<Vec<_>>().join(","));
+    command.env("LISTEN_FDS", count.to_string());
+    command.env("LISTEN_PID", std::process::id().to_string());
+    // Whatever their numbers were, others have them now.
+    sockets.into_iter().for_each(std::mem::forget);
+    Ok(())
+}
+
+/// Those that were handed over to us, by LISTEN_FDS and LISTEN_PID, as systemd does it; so many at most.
+pub fn handed_over(most: u32) -> io::Result<Vec<Socket>> {
     let number = |name| std::env::var(name).ok().and_then(|text| text.parse::<u32>().ok());
     if number("LISTEN_PID") != Some(std::process::id()) {
-        return Ok(None);
+        return Ok(Vec::new());
     }
-    match number("LISTEN_FDS") {
-        None | Some(0) => return Ok(None),
-        Some(1) => {}
-        Some(count) => {
-            return Err(io::Error::other(format!("{count} sockets were handed over, not one")));
-        }
+    let count = number("LISTEN_FDS").unwrap_or(0);
+    if count > most {
+        let what = format!("{count} sockets were handed over, and {most} asked for");
+        return Err(io::Error::other(what));
     }
-    check(unsafe { fcntl(HANDED_OVER, F_SETFD, FD_CLOEXEC) } as isize)?;
-    let socket = unsafe { UdpSocket::from_raw_fd(HANDED_OVER) };
+    let counted = std::env::var(COUNTED).unwrap_or_default();
+    let mut counted = counted.split(',').map(|text| text.parse().ok());
+    let places = HANDED_OVER..HANDED_OVER + count as RawFd;
+    places.map(|fd| Socket::over(given(fd)?, counted.next().flatten())).collect()
+}
+
+/// The socket for datagrams in this place.
+fn given(fd: RawFd) -> io::Result<UdpSocket> {
+    check(unsafe { fcntl(fd, F_SETFD, FD_CLOEXEC) } as isize)?;
+    let socket = unsafe { UdpSocket::from_raw_fd(fd) };
     let (mut kind, mut size) = (0_i32, size_of::<i32>() as u32);
     let to = (&raw mut kind).cast();
-    let done = unsafe { getsockopt(HANDED_OVER, SOL_SOCKET, SO_TYPE, to, &raw mut size) };
-    check(done as isize)?;
+    check(unsafe { getsockopt(fd, SOL_SOCKET, SO_TYPE, to, &raw mut size) } as isize)?;
     match kind {
-        SOCK_DGRAM => Ok(Some(socket)),
+        SOCK_DGRAM => Ok(socket),
         _ => Err(io::Error::other("what was handed over is no socket for datagrams")),
     }
 }
@@ -394,6 +394,7 @@ const IPV6_PKTINFO: i32 = 50;
 const MSG_DONTWAIT: i32 = 0x40;
 const MSG_WAITFORONE: i32 = 0x10000;
 const F_SETFD: i32 = 2;
+const F_DUPFD_CLOEXEC: i32 = 1030;
 const FD_CLOEXEC: i32 = 1;
 
 #[repr(C)]
@@ -452,7 +453,7 @@ mod tests {
     use super::*;
 
     fn any(text: &str) -> Socket {
-        Socket::open(text.parse().unwrap()).unwrap()
+        Socket::bind(text.parse().unwrap()).unwrap()
     }
 
     fn next(batch: &mut Batch, socket: &Socket) -> Vec<Datagram> {

@@ -62,15 +62,6 @@ impl Trial<'_> {
         matches!(self.answers.first(), Some(Answer::Reply(_) | Answer::Resent(_)))
     }
 
-    /// Whether an alert in it is right under the connection's keys.
-    pub fn hears_alert(&self, datagram: &[u8]) -> bool {
-        let is_alert = |(answer, record): (&Answer, &[u8])| {
-            use Answer::{Barred, Critical, Warning};
-            matches!(answer, Warning(_) | Critical(_) | Barred(_)) && datagram::is_protected(record)
-        };
-        self.answers.iter().zip(datagram::records(datagram)).any(is_alert)
-    }
-
     /// Whether a Finished opened the connection in it.
     pub fn opens(&self) -> bool {
         self.answers.contains(&Answer::Open)

@@ -183,6 +183,50 @@ fn leftovers_do_not_stay() {
     assert!(log.contains("refused 21") && log.contains("1 of 5 parts had waited"), "{log}");
 }
 
+/// SIGHUP while reports come by short messages, each sent once: the socket is handed over, and none is lost.
+#[test]
+fn new_starts_without_a_message_lost() {
+    let place = Place::new("messages-sighup");
+    place.plant(2);
+    let listen = free_address();
+    let address = listen.to_string();
+    let mut gatewayd = Gatewayd::start(&place, "127.0.0.1:0", &["--listen-messages", &address]);
+    let mut bearer = Bearer { ship: Ship::new(0, listen), rng: Rng::new(1), reference: 0 };
+    let mut plain = Ship::new(1, gatewayd.address);
+    let hello = bearer.ship.hello(1);
+    bearer.ship.send(&alone(0, &hello));
+    assert!(bearer.hear(Duration::from_secs(1)), "no reply");
+    plain.open(1);
+    bearer.ship.send(&alone(0, &bearer.ship.unit.flight().unwrap()));
+    let done = AtomicBool::new(false);
+    let sent: u16 = thread::scope(|scope| {
+        let sending = scope.spawn(|| {
+            let mut number = 0;
+            while !done.load(Ordering::Relaxed) {
+                number += 1;
+                bearer.ship.send(&alone(0, &bearer.ship.data(number)));
+                plain.send(&plain.data(number));
+                thread::sleep(Duration::from_millis(3));
+            }
+            number
+        });
+        let _ends = SetAtEnd(&done);
+        for _ in 0..6 {
+            thread::sleep(Duration::from_millis(100));
+            gatewayd.start_anew();
+        }
+        done.store(true, Ordering::Relaxed);
+        sending.join().unwrap()
+    });
+    for ship in 0..2 {
+        wait_for("all reports", || place.listed(ship).len() >= sent.into());
+        let expected: Vec<_> = (1..=sent).map(|number| (number, text(ship, number))).collect();
+        assert_eq!(place.listed(ship), expected);
+    }
+    gatewayd.end();
+    println!("{sent} reports of each of two ships over six new starts");
+}
+
 struct SetAtEnd<'a>(&'a AtomicBool);
 
 impl Drop for SetAtEnd<'_> {

@@ -3,7 +3,7 @@
 mod common;
 
 use common::{identifier, name, secret, Place, Ship};
-use gateway::State;
+use gateway::{Refusal, State};
 use gatewayd::clock::Moment;
 use gatewayd::fleet::{Fleet, Rules, Taken};
 use gatewayd::note::Note;
@@ -453,6 +453,10 @@ fn a_ship_that_rebooted_twice() {
         assert_eq!((taken.reports.len(), taken.notes), (1, vec![Note::Opened, Note::Replaced]));
         assert_eq!(world.take(1, &second.data(2), 2).reports.len(), 1);
         assert_eq!(world.route(0), Some(address(1)));
+        // What began before it has ended, and opens no more.
+        assert!(world.fleet.ships[0].started.is_empty());
+        assert!(world.take(1, &first.unit.finished(true, 0).unwrap(), 2).reports.is_empty());
+        assert_eq!(world.fleet.ships[0].opening, if late { 3 } else { 2 });
         for before in [&unit, &first] {
             assert_eq!(refusals(&world.take(1, &before.data(9), 2)), [9]);
         }
@@ -528,10 +532,10 @@ fn forged_records_beside_an_open_connection() {
         datagram
     };
     // Data of before; a flight whose change cipher spec counts, and neither Finished nor data.
-    assert_eq!(refusals(&world.take(1, &damaged(unit.data(1), 9), 0)), [8]);
+    assert_eq!(refusals(&world.take(1, &damaged(unit.data(1), 9), 0)), [9]);
     assert_eq!(forged(&world), 1);
     let flight = rebooted.data_behind_finished(1);
-    assert_eq!(refusals(&world.take(1, &damaged(flight.clone(), 20), 0)), [9, 8]);
+    assert_eq!(refusals(&world.take(1, &damaged(flight.clone(), 20), 0)), [9, 9]);
     assert_eq!(forged(&world), 3);
     assert_eq!(world.take(1, &unit.data(2), 0).reports.len(), 1);
     // Sound, it opens, and only its data is taken.
@@ -541,18 +545,107 @@ fn forged_records_beside_an_open_connection() {
     assert_eq!(world.take(1, &rebooted.data(2), 0).reports.len(), 1);
 }
 
-/// What was begun beside an open connection ends when that is heard, but not before its time.
+/// What was begun beside an open connection ends when that is heard, but not before its time: records of before a reboot, and the
+/// Finished, may come late.
 #[test]
 fn handshakes_beside_an_open_connection() {
-    let mut world = World::new(1);
-    let (mut unit, mut rebooted) = (ship(0), ship(0));
-    world.open(&mut unit, 1);
-    world.greet(&mut rebooted, 9, 2, 100);
-    for (second, left) in [(100, 1), (107, 1), (108, 0)] {
-        assert_eq!(world.take(1, &unit.data(second as u16), second).reports.len(), 1);
+    for (last, left) in [(3699, 1), (3700, 0)] {
+        let mut world = World::new(1);
+        let (mut unit, mut rebooted) = (ship(0), ship(0));
+        world.open(&mut unit, 1);
+        world.greet(&mut rebooted, 9, 2, 100);
+        for second in [100, 107, 108, 600, last] {
+            assert_eq!(world.take(1, &unit.data(second as u16), second).reports.len(), 1);
+        }
         assert_eq!(world.fleet.ships[0].started.len(), left);
+        let taken = world.take(2, &rebooted.data_behind_finished(1), last);
+        match left {
+            1 => assert_eq!((taken.reports.len(), world.route(0)), (1, Some(address(2)))),
+            _ => assert_eq!(taken.notes, [Note::Stranger]),
+        }
     }
-    assert_eq!(world.take(2, &rebooted.data_behind_finished(1), 108).notes, [Note::Stranger]);
+}
+
+/// Beside an open connection each record behind a hello is judged by itself, be the hello new or said again: clear ones are the
+/// handshake's, protected ones the open connection's, but for its Finished.
+#[test]
+fn records_behind_a_hello_beside_an_open_connection() {
+    for again in [false, true] {
+        let mut world = World::new(1);
+        let (mut unit, mut rebooted) = (ship(0), ship(0));
+        world.open(&mut unit, 1);
+        let hello = rebooted.hello(2);
+        let hello = peer::wire::write(0xc3, 0, &hello[3..]);
+        if again {
+            let reply = world.take(2, &hello, 0).send.remove(0).1;
+            rebooted.unit.hear_reply(&reply).unwrap();
+        }
+        let behind = |records: &[&[u8]]| [&hello[..], &records.concat()].concat();
+        let long =
+            |record: &[u8]| peer::wire::write(record[0] | 0x80, number_of(record), &record[3..]);
+        // A report of the open connection is handed out, and moves the route; the hello is answered.
+        let taken = world.take(2, &behind(&[&unit.data(1)]), 0);
+        assert_eq!((taken.reports.len(), taken.send.len(), taken.changed), (1, 1, true));
+        assert_eq!(taken.notes, [Note::Answered]);
+        assert_eq!((world.fleet.ships[0].started.len(), world.route(0)), (1, Some(address(2))));
+        let reply = &taken.send[0].1;
+        rebooted.unit.hear_reply(reply).unwrap();
+        // Damaged, it is forged, once; a second hello has no place there; what follows is still looked at.
+        let mut damaged = unit.data(2);
+        *damaged.last_mut().unwrap() ^= 1;
+        let taken = world.take(1, &behind(&[&hello, &long(&damaged), &unit.data(3)]), 0);
+        let refused = |refusal, record| Note::Refused { refusal, record };
+        let expected =
+            [Note::Answered, refused(Refusal::NotAllowed, 1), refused(Refusal::Forged, 2)];
+        assert_eq!((&taken.notes[..], taken.reports.len()), (&expected[..], 1));
+        assert_eq!((&taken.send[0].1, world.fleet.ships[0].tally.forged()), (reply, 1));
+        // An alert under the keys of the handshake is forged, also behind its change cipher spec.
+        let change = rebooted.unit.clear(Content::ChangeCipherSpec, true, 1, &[1]);
+        let taken = world.take(2, &behind(&[&change, &rebooted.alert(3, 40, 1)]), 0);
+        assert_eq!((refusals(&taken), world.fleet.ships[0].barred), (vec![9], false));
+        assert_eq!((world.state(0), world.fleet.ships[0].opening), (State::Open, 1));
+        // The Finished of the open connection once more is its own, and is warned of.
+        let taken = world.take(2, &behind(&[&unit.unit.finished(false, 0).unwrap()]), 0);
+        assert!(taken.notes.contains(&Note::Warned), "{:?}", taken.notes);
+        assert_eq!((refusals(&taken), taken.send.len()), (vec![11], 2));
+        // And the datagram as a whole is refused where it is no datagram.
+        let taken = world.take(2, &behind(&[&[0x13]]), 0);
+        assert!(taken.send.is_empty() && !taken.changed);
+        assert!(matches!(taken.notes[..], [Note::RefusedWhole { .. }]), "{:?}", taken.notes);
+        // The Finished behind the hello opens.
+        let finished = rebooted.unit.finished(true, 0).unwrap();
+        let taken = world.take(3, &behind(&[&finished, &rebooted.data(1)]), 0);
+        assert_eq!(taken.notes, [Note::Answered, Note::Opened, Note::Replaced]);
+        assert_eq!((taken.reports.len(), world.fleet.ships[0].opening), (1, 2));
+        assert_eq!(world.route(0), Some(address(3)));
+    }
+}
+
+fn number_of(record: &[u8]) -> u16 {
+    u16::from_be_bytes([record[1], record[2]])
+}
+
+/// What closes the open connection ends what was started beside it (02, P6).
+#[test]
+fn closing_ends_what_is_beside_it() {
+    for wrong_finished in [false, true] {
+        let mut world = World::new(1);
+        let (mut unit, mut rebooted) = (ship(0), ship(0));
+        world.open(&mut unit, 1);
+        world.greet(&mut rebooted, 2, 2, 0);
+        world.greet(&mut ship(0), 3, 3, 0);
+        let closing = match wrong_finished {
+            false => unit.alert(2, 0, 1),
+            true => {
+                let content = [&[20, 0, 12][..], &[7; 12]].concat();
+                unit.unit.protect(Content::Handshake, false, 1, &content).unwrap()
+            }
+        };
+        assert!(world.take(1, &closing, 0).changed);
+        assert_eq!((world.state(0), world.fleet.ships[0].started.len()), (State::Idle, 0));
+        assert_eq!(world.take(2, &rebooted.data_behind_finished(1), 0).notes, [Note::Stranger]);
+        world.open(&mut ship(0), 2);
+    }
 }
 
 /// A fleet behind one relay: each datagram finds its ship, and counts nothing for the others.

@@ -49,8 +49,6 @@ pub struct Words {
     pub bytes: &'static str,
     /// A column that counts up.
     pub serial: &'static str,
-    /// A table that is found by its key alone.
-    pub by_key: &'static str,
     /// The store's own clock, in milliseconds since 1970.
     pub now: &'static str,
     /// Holds the rows that were read until the end of the transaction.

@@ -204,6 +204,6 @@ fn written(outcome: &Outcome, ships: &mut [Ship]) {
         let ship = &mut ships[*index];
         ship.version += 1;
         ship.saved = ship.tally;
-        ship.settled = ship.settled();
+        ship.settled = Some(ship.settled());
     }
 }

@@ -14,7 +14,6 @@ pub struct Postgres {
 pub const WORDS: Words = Words {
     bytes: "BYTEA",
     serial: "BIGSERIAL PRIMARY KEY",
-    by_key: "",
     now: "CAST(EXTRACT(EPOCH FROM now()) * 1000 AS BIGINT)",
     lock: "FOR UPDATE",
     is_shared: true,

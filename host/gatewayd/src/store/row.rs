@@ -78,7 +78,7 @@ impl Clocks {
 
 /// The row of a ship, one version on; of one whose row has the rest already, the connection and what goes with it.
 pub fn changed(ship: &Ship, writer: i64, clocks: Clocks) -> Row {
-    if ship.settled.is_none() || ship.settled != ship.settled() {
+    if ship.settled != Some(ship.settled()) {
         return of(ship, writer, clocks);
     }
     vec![
@@ -232,4 +232,49 @@ fn by_counts(one: Tally, other: Tally, joined: fn(u32, u32) -> u32) -> Tally {
         bytes[at..at + 4].copy_from_slice(&count.to_be_bytes());
     }
     Tally::load(bytes)
+}
+
+#[cfg(test)]
+mod tests {
+    use super::*;
+    use crate::sessions::Session;
+    use std::time::Duration;
+
+    /// A report changes little of a row, also while handshakes are under way; what changes with one of these is the whole.
+    #[test]
+    fn what_is_written_of_a_row() {
+        let clocks = Clocks { time: Moment(1_000_000), now: Instant::now() };
+        let session = Session { id: [1; 8], secret: [2; 20], width: 32, ship: "A".to_string() };
+        let mut ship = Ship::fresh(session, clocks.now).unwrap();
+        let size = |ship: &Ship| changed(ship, 0, clocks).len();
+        let (whole, part) = (COLUMNS.split(',').count(), 6);
+        assert_eq!(size(&ship), whole);
+        ship.settled = Some(ship.settled());
+        assert_eq!(size(&ship), part);
+        let (senders, connection) = (vec![([192, 0, 2, 1], 1).into()], ship.connection.clone());
+        let mut handshakes = crate::handshakes::Handshakes::default();
+        let newcomer = Handshake { serial: 0, hello: vec![1], senders, connection, at: clocks.now };
+        let mut ships = [ship];
+        handshakes.add(&mut ships, 0, newcomer);
+        assert_eq!(size(&ships[0]), whole);
+        for newest in 1..4 {
+            ships[0].settled = Some(ships[0].settled());
+            ships[0].newest = newest;
+            assert_eq!(size(&ships[0]), part);
+        }
+        handshakes.said_again(&mut ships, 0, 0, ([192, 0, 2, 1], 1).into());
+        assert_eq!(size(&ships[0]), part);
+        handshakes.said_again(&mut ships, 0, 0, ([192, 0, 2, 2], 1).into());
+        assert_eq!(size(&ships[0]), whole);
+        ships[0].settled = Some(ships[0].settled());
+        let mut other = ships[0].connection.clone();
+        other.close().unwrap();
+        ships[0].replace_started(0, &other);
+        assert_eq!(size(&ships[0]), whole);
+        ships[0].settled = Some(ships[0].settled());
+        handshakes.end_old_of(&mut ships, 0, clocks.now + Duration::from_secs(3599));
+        assert_eq!(size(&ships[0]), part);
+        handshakes.end_old_of(&mut ships, 0, clocks.now + Duration::from_secs(3600));
+        assert_eq!((size(&ships[0]), ships[0].started.len()), (whole, 0));
+    }
 }

@@ -29,7 +29,7 @@ CREATE TABLE ships (
     version BIGINT NOT NULL,
     writer BIGINT NOT NULL,
     changed BIGINT NOT NULL
-) BYKEY;
+);
 
 CREATE TABLE reports (
     id SERIAL,
@@ -63,7 +63,7 @@ pub fn statements(words: &Words) -> Vec<String> {
         .map(|line| line.split("--").next().unwrap_or_default().trim_end().to_string() + "\n")
         .collect();
     let text = text.replace("BYTES", words.bytes).replace("SERIAL", words.serial);
-    let text = text.replace("BYKEY", words.by_key) + if words.is_shared { SHARED } else { "" };
+    let text = text + if words.is_shared { SHARED } else { "" };
     text.split(';').map(str::trim).filter(|sql| !sql.is_empty()).map(str::to_string).collect()
 }
 

@@ -12,17 +12,13 @@ pub struct Sqlite {
     connection: Connection,
 }
 
-const WORDS: Words = Words {
-    bytes: "BLOB",
-    serial: "INTEGER PRIMARY KEY",
-    by_key: "WITHOUT ROWID",
-    now: "0",
-    lock: "",
-    is_shared: false,
-};
+const WORDS: Words =
+    Words { bytes: "BLOB", serial: "INTEGER PRIMARY KEY", now: "0", lock: "", is_shared: false };
 /// Somebody else's lock is waited for so long; then the gateway looks at its signals.
 const PATIENCE: Duration = Duration::from_millis(200);
 const STATEMENTS: usize = 32;
+/// Pages that are kept in memory, in kB: the rows of some 20,000 ships. What is not there is read again for each report.
+const CACHE: i64 = 32 << 10;
 
 impl Sqlite {
     /// To write; the file is there.
@@ -37,6 +33,7 @@ impl Sqlite {
             return Err(Fault::Broken(format!("no write-ahead log here (journal mode {mode})")));
         }
         connection.pragma_update(None, "synchronous", "FULL").map_err(fault)?;
+        connection.pragma_update(None, "cache_size", -CACHE).map_err(fault)?;
         // The files of the log stay at the end: who may only read could not make them.
         connection
             .set_db_config(DbConfig::SQLITE_DBCONFIG_NO_CKPT_ON_CLOSE, true)
