@@ -1,0 +1,5 @@
+-- Laws that belong to no one function.
+pub mod Calling
+pub mod Reading
+pub mod Back
+pub mod Coincide
