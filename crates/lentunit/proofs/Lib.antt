@@ -2,4 +2,5 @@
 pub mod Calling
 pub mod Reading
 pub mod Back
+pub mod There
 pub mod Coincide
