@@ -1,33 +1,17 @@
-/* How deep a run of each call of the crate speed goes: each on a stack filled with a pattern, for many lengths, and then the
-   lowest byte that differs. Prints one line for each call, its name and its depth in bytes below the caller's frame,
-   return address included. Two patterns, since a call may store the one. */
-#include <stdint.h>
-#include <stdio.h>
-#include <string.h>
+/* How deep a run of each call of the crate speed goes, for many lengths: one line for each call, its name and its depth. Two
+   patterns, since a call may store the one. */
+#include "filled.h"
 
 void speed_sha1(void), speed_hmac(void), speed_codes(void), speed_prf(void);
 
-/* Calls f with twelve arguments, six of them on the stack that ends at top. x86-64, System V. */
-void call_on(void *top, void (*f)(void), const uint64_t *words);
-__asm__(".text\n.globl call_on\ncall_on:\n"
-        "push %rbp\nmov %rsp, %rbp\nmov %rdi, %rsp\nmov %rsi, %rax\nmov %rdx, %r10\n"
-        "push 88(%r10)\npush 80(%r10)\npush 72(%r10)\npush 64(%r10)\npush 56(%r10)\npush 48(%r10)\n"
-        "mov 40(%r10), %r9\nmov 32(%r10), %r8\nmov 24(%r10), %rcx\nmov 16(%r10), %rdx\nmov 8(%r10), %rsi\nmov (%r10), %rdi\n"
-        "call *%rax\nmov %rbp, %rsp\npop %rbp\nret\n");
-
-enum { SIZE = 65536, ARGUMENTS = 48, LONGEST = 300 };
-static uint8_t stack[SIZE] __attribute__((aligned(16)));
+enum { LONGEST = 300 };
 static uint8_t text[LONGEST], out[LONGEST];
 static size_t deepest;
 
 static void tried(void (*f)(void), const uint64_t *words) {
     static const uint8_t pattern[2] = {0xa5, 0x5a};
     for (int i = 0; i < 2; i++) {
-        size_t low = 0;
-        memset(stack, pattern[i], SIZE);
-        call_on(stack + SIZE, f, words);
-        while (low < SIZE && stack[low] == pattern[i]) low++;
-        size_t depth = SIZE - ARGUMENTS - low;
+        size_t depth = depth_on(pattern[i], f, words);
         if (depth > deepest) deepest = depth;
     }
 }
@@ -36,8 +20,6 @@ static void told(const char *name) {
     printf("%s %zu\n", name, deepest);
     deepest = 0;
 }
-
-#define AT(p) (uint64_t)(uintptr_t)(p)
 
 int main(void) {
     for (size_t i = 0; i < LONGEST; i++) text[i] = (uint8_t)(i * 7 + 1);

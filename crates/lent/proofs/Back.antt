@@ -115,12 +115,12 @@ state-most Open = refl
 state-most Closed = refl
 state-most Barred = refl
 
-mac-back : (mac : Mac) → macNumbered (numberOf mac) ≡ mac
+pub mac-back : (mac : Mac) → macNumbered (numberOf mac) ≡ mac
 unfolding macNumbered
 mac-back Sha80 = refl
 mac-back Sha = refl
 
-mac-one : (mac : Mac) → pick (eqb (numberOf mac) 2) true (eqb (numberOf mac) 3) ≡ true
+pub mac-one : (mac : Mac) → pick (eqb (numberOf mac) 2) true (eqb (numberOf mac) 3) ≡ true
 mac-one Sha80 = refl
 mac-one Sha = refl
 
@@ -206,7 +206,7 @@ connection-cut c r =
     cut-back (connectionFields c) connectionSizes 0 (joined (connectionFields c)) (connection-sized c r)
     (take-all 940 (joined (connectionFields c)) (omega (arith, sized-joined (connectionFields c) connectionSizes (connection-sized c r))))
 
-sent-back : (s : SentRecords) (b : List ℕ) → s .count < 4294967296 → length (s .checksums) ≡ 8 → ((i : ℕ) → getD (s .checksums) i 0 < 4294967296)
+pub sent-back : (s : SentRecords) (b : List ℕ) → s .count < 4294967296 → length (s .checksums) ≡ 8 → ((i : ℕ) → getD (s .checksums) i 0 < 4294967296)
     → bytesIn b 4 4 ≡ bytes4 (s .count)
     → ((k : ℕ) → k < 8 → bytesIn b (8 + 4 * k) 4 ≡ bytes4 (getD (s .checksums) k 0)) → sentIn b ≡ s
 unfolding sentIn

@@ -91,7 +91,7 @@ pub sense-same : (A : Type 0) (p : ℕ) (f : Bool → A) (other : A) → ((b : B
 sense-same A p f other h = either (eqb p 0) (h false) (either (eqb p 1) (h true) refl)
 
 -- no level and no description is above 255
-no-level-above : (n : ℕ) → 255 < n → levelOf n ≡ G.Unassigned
+pub no-level-above : (n : ℕ) → 255 < n → levelOf n ≡ G.Unassigned
 unfolding levelOf
 no-level-above n h =
     let a : eqb n 1 ≡ false = ne-eqb n 1 (λ e. omega arith) in
@@ -133,7 +133,7 @@ described-below K.InternalError = omega arith
 described-below K.UserCanceled = omega arith
 described-below K.NoRenegotiation = omega arith
 
-no-description-above : (ds : List Description) (n : ℕ) → 255 < n → among ds n ≡ D.Unassigned
+pub no-description-above : (ds : List Description) (n : ℕ) → 255 < n → among ds n ≡ D.Unassigned
 unfolding among
 no-description-above [] n h = refl
 no-description-above (d ∷ ds) n h =

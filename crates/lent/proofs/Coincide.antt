@@ -15,6 +15,17 @@ use Rattle.lent.proofs.width as width
 use Rattle.lent.proofs.mac as mac
 use Rattle.lent.proofs.load.lent_for as load-lent-for
 use Rattle.lent.proofs.result.result_of as result-result-of
+use Rattle.lent.proofs.bytes.two as bytes-two
+use Rattle.lent.proofs.bytes.four as bytes-four
+use Rattle.lent.proofs.bytes.eight as bytes-eight
+use Rattle.lent.proofs.bytes.two_within as bytes-two-within
+use Rattle.lent.proofs.bytes.four_within as bytes-four-within
+use Rattle.lent.proofs.bytes.eight_within as bytes-eight-within
+use Rattle.lent.proofs.counts.tally_within as counts-tally-within
+use Rattle.lent.proofs.counts.lay_tally as counts-lay-tally
+use Rattle.lent.proofs.report.lay_entry as report-lay-entry
+use Rattle.lent.proofs.load.sent_within as load-sent-within
+use Rattle.lent.proofs.save.lay_sent as save-lay-sent
 
 pub fresh-one : OneOutcome fresh.ended fresh.Reads.Learnt
 fresh-one κs a x y s u e f = (
@@ -72,3 +83,36 @@ load-lent-for-one κs a x y s u e f = (e ∙ sym f, refl)
 
 pub result-result-of-one : OneOutcome result-result-of.ended result-result-of.Reads.Learnt
 result-result-of-one κs a x y s u e f = (e ∙ sym f, refl)
+
+pub bytes-two-one : OneOutcome bytes-two.ended bytes-two.Reads.Learnt
+bytes-two-one κs a x y s u e f = (e ∙ sym f, refl)
+
+pub bytes-four-one : OneOutcome bytes-four.ended bytes-four.Reads.Learnt
+bytes-four-one κs a x y s u e f = (e ∙ sym f, refl)
+
+pub bytes-eight-one : OneOutcome bytes-eight.ended bytes-eight.Reads.Learnt
+bytes-eight-one κs a x y s u e f = (e ∙ sym f, refl)
+
+pub bytes-two-within-one : OneOutcome bytes-two-within.ended bytes-two-within.Reads.Learnt
+bytes-two-within-one κs a x y s u e f = (e ∙ sym f, refl)
+
+pub bytes-four-within-one : OneOutcome bytes-four-within.ended bytes-four-within.Reads.Learnt
+bytes-four-within-one κs a x y s u e f = (e ∙ sym f, refl)
+
+pub bytes-eight-within-one : OneOutcome bytes-eight-within.ended bytes-eight-within.Reads.Learnt
+bytes-eight-within-one κs a x y s u e f = (e ∙ sym f, refl)
+
+pub counts-tally-within-one : OneOutcome counts-tally-within.ended counts-tally-within.Reads.Learnt
+counts-tally-within-one κs a x y s u e f = (e ∙ sym f, refl)
+
+pub load-sent-within-one : OneOutcome load-sent-within.ended load-sent-within.Reads.Learnt
+load-sent-within-one κs a x y s u e f = (e ∙ sym f, refl)
+
+pub counts-lay-tally-one : OneOutcome counts-lay-tally.ended counts-lay-tally.Reads.Learnt
+counts-lay-tally-one κs a x y s u e f = (refl, λ i. ((e ∙ sym f) i, (tt, tt)))
+
+pub report-lay-entry-one : OneOutcome report-lay-entry.ended report-lay-entry.Reads.Learnt
+report-lay-entry-one κs a x y s u e f = (refl, λ i. ((e ∙ sym f) i, (tt, (tt, tt))))
+
+pub save-lay-sent-one : OneOutcome save-lay-sent.ended save-lay-sent.Reads.Learnt
+save-lay-sent-one κs a x y s u e f = (refl, λ i. ((e .0 ∙ sym (f .0)) i, (tt, tt)))

@@ -3,6 +3,7 @@ pub mod Laying
 pub mod Reading
 pub mod Calling
 pub mod Numbers
+pub mod Within
 pub mod Sums
 pub mod Back
 pub mod TallyHolds

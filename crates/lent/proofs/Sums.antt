@@ -1,14 +1,14 @@
 -- Eight checksums laid one behind the other.
 use mathlib.Core.Path.{_≡_, refl}
 use mathlib.Core.List.{List}
-use Prim.Native.Nat.{ℕ}
+use Prim.Native.Nat.{ℕ, _≤_}
 use native.Mathlib.Omega.{arith}
 use lib.ListN.{length, getD}
 use Rattle.digest.specs.Bytes.{bytes4, laidWithin}
-use Rattle.lent.specs.Saved.{stateSize, sumFields}
+use Rattle.lent.specs.Saved.{sumFields}
 use Rattle.lent.proofs.Laying.{Laid, laid-none, laid-more}
 
-pub sums-laid : (d sums e0 e1 e2 e3 e4 e5 e6 e7 f0 f1 f2 f3 f4 f5 f6 f7 : List ℕ) → length d ≡ stateSize
+pub sums-laid : (d sums e0 e1 e2 e3 e4 e5 e6 e7 f0 f1 f2 f3 f4 f5 f6 f7 : List ℕ) → 40 ≤ length d
     → f0 ≡ bytes4 (getD sums 0 0) → e0 ≡ laidWithin d 8 f0
     → f1 ≡ bytes4 (getD sums 1 0) → e1 ≡ laidWithin e0 12 f1
     → f2 ≡ bytes4 (getD sums 2 0) → e2 ≡ laidWithin e1 16 f2

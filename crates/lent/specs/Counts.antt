@@ -4,7 +4,10 @@ use mathlib.Core.Path.{_≡_}
 use mathlib.Core.List.{List, [], _∷_}
 use Prim.Native.Nat.{ℕ, _<_}
 use lib.ListN.{length}
+use lib.Dec.{eqb}
+use Rattle.digest.specs.Pick.{pick}
 use Rattle.digest.specs.Bytes.{bytes4, wordAt}
+use Rattle.connection.specs.Tally.{freshTally}
 use Rattle.connection.specs.declared.tally.Tally.{Tally}
 use Rattle.lent.specs.Fields.{joined}
 use Rattle.lent.specs.Saved.{Bytes}
@@ -14,6 +17,13 @@ tallyBytes t = joined (bytes4 (t .handed) ∷ bytes4 (t .forged) ∷ bytes4 (t .
 
 unfoldable pub tallyIn : List ℕ → Tally
 tallyIn b = record { handed = wordAt b 0; forged = wordAt b 4; old = wordAt b 8; repeated = wordAt b 12 }
+
+-- the tally of bytes of any size, and a tally laid over such bytes: only 16 of them hold one
+unfoldable pub tallyWithin : List ℕ → Tally
+tallyWithin b = pick (eqb (length b) 16) (tallyIn b) freshTally
+
+unfoldable pub tallyLaid : List ℕ → Tally → List ℕ
+tallyLaid d t = pick (eqb (length d) 16) (tallyBytes t) d
 
 -- A tally is what its type says: four counts of 32 bits each.
 pub record TallyRanged (t : Tally) : Type 0 where

@@ -1,7 +1,9 @@
 -- Bytes made of fields, one behind the other, and the fields read back from their places.
 use mathlib.Core.List.{List, [], _∷_, _++_}
 use Prim.Native.Nat.{ℕ, _+_, _*_}
-use lib.ListN.{getD, take, drop}
+use lib.ListN.{length, getD, take, drop}
+use lib.Dec.{ltb}
+use Rattle.digest.specs.Pick.{pick}
 use Rattle.digest.specs.Bytes.{wordAt}
 
 -- fields one behind the other
@@ -19,3 +21,13 @@ twoIn b at = getD b at 0 * 256 + getD b (at + 1) 0
 
 abbrev pub eightIn : List ℕ → ℕ → ℕ
 eightIn b at = wordAt b at * 4294967296 + wordAt b (at + 4)
+
+-- the same where all of these bytes stand there, else 0
+unfoldable pub twoWithin : List ℕ → ℕ → ℕ
+twoWithin b at = pick (ltb (length b) (at + 2)) 0 (twoIn b at)
+
+unfoldable pub fourWithin : List ℕ → ℕ → ℕ
+fourWithin b at = pick (ltb (length b) (at + 4)) 0 (wordAt b at)
+
+unfoldable pub eightWithin : List ℕ → ℕ → ℕ
+eightWithin b at = pick (ltb (length b) (at + 8)) 0 (eightIn b at)

@@ -10,9 +10,11 @@
 --         8      8  where in the datagram the data handed out begins; else 0
 --        16      8  the size of the data handed out, or of the reply that was written; else 0
 use mathlib.Core.List.{List, [], _∷_, _++_}
-use Prim.Native.Nat.{ℕ, zero, suc}
-use lib.ListN.{getD}
-use Rattle.digest.specs.Bytes.{bytes4, bytes8}
+use Prim.Native.Nat.{ℕ, zero, suc, _+_}
+use lib.ListN.{length, getD}
+use lib.Dec.{ltb}
+use Rattle.digest.specs.Pick.{pick}
+use Rattle.digest.specs.Bytes.{bytes4, bytes8, laidOver}
 use Rattle.message.specs.Alert.{descriptionNumber}
 use Rattle.connection.specs.Refusal.{refusalNumber}
 use Rattle.connection.specs.Receive.{slot}
@@ -48,6 +50,10 @@ entryFields e =
 
 unfoldable pub entryBytes : Entry → List ℕ
 entryBytes e = joined (entryFields e)
+
+-- an answer laid over bytes of any size, where it fits
+unfoldable pub entryLaid : List ℕ → ℕ → Entry → List ℕ
+entryLaid d at e = pick (ltb (length d) (at + 24)) d (laidOver d at (entryBytes e))
 
 -- the bytes of the first n of the answers of a receive, one behind the other
 unfoldable pub reportFirst : List Slot → ℕ → List (List ℕ)

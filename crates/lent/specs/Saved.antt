@@ -35,7 +35,7 @@ use Prim.Native.Nat.{ℕ, _<_}
 use lib.ListN.{length, getD}
 use lib.Dec.{eqb, ltb}
 use Rattle.digest.specs.Pick.{pick}
-use Rattle.digest.specs.Bytes.{bytes2, bytes4, bytes8, wordAt}
+use Rattle.digest.specs.Bytes.{bytes2, bytes4, bytes8, wordAt, laidOver}
 use Rattle.digest.specs.Mac.{numberOf}
 use Rattle.digest.specs.declared.mac.Mac.{Mac}
 use Rattle.digest.specs.declared.mac.Mac.the-variants.{Sha80, Sha}
@@ -43,6 +43,7 @@ use Rattle.record.specs.declared.keys.Keys.{Keys}
 use Rattle.record.specs.declared.protection.Protection.{Protection}
 use Rattle.record.specs.declared.window.Window.{Window}
 use Rattle.connection.specs.Handshake.{planted}
+use Rattle.connection.specs.Sent.{noRecords}
 use Rattle.connection.specs.declared.state.State.{State}
 use Rattle.connection.specs.declared.state.State.the-variants.{Idle, Replied, Spec, Open, Closed, Barred}
 use Rattle.connection.specs.declared.handshake.Session.{Session}
@@ -109,6 +110,13 @@ abbrev pub sumFields : List ℕ → List (List ℕ)
 sumFields sums =
     bytes4 (getD sums 0 0) ∷ bytes4 (getD sums 1 0) ∷ bytes4 (getD sums 2 0) ∷ bytes4 (getD sums 3 0)
     ∷ bytes4 (getD sums 4 0) ∷ bytes4 (getD sums 5 0) ∷ bytes4 (getD sums 6 0) ∷ bytes4 (getD sums 7 0) ∷ []
+
+-- the records sent, laid over bytes of any size behind a mark of four, where all of them fit
+abbrev pub sentFields : SentRecords → List (List ℕ)
+sentFields sent = bytes4 (sent .count) ∷ sumFields (sent .checksums)
+
+unfoldable pub sentLaid : List ℕ → SentRecords → List ℕ
+sentLaid d sent = pick (ltb (length d) 40) d (laidOver d 4 (joined (sentFields sent)))
 
 -- the mark, and how many records sent are kept
 abbrev pub headFields : ℕ → List (List ℕ)
@@ -186,6 +194,10 @@ sentIn b =
           wordAt b 8 ∷ wordAt b 12 ∷ wordAt b 16 ∷ wordAt b 20 ∷ wordAt b 24 ∷ wordAt b 28 ∷ wordAt b 32 ∷ wordAt b 36 ∷ [];
     }
 
+-- those of bytes of any size: none where they do not all stand there
+unfoldable pub sentWithin : List ℕ → SentRecords
+sentWithin b = pick (ltb (length b) 40) noRecords (sentIn b)
+
 abbrev pub connectionIn : List ℕ → Connection
 connectionIn b =
     record {
@@ -217,6 +229,11 @@ pub record RangedHandshake (h : Handshake) : Type 0 where
   pub marks : h .protection .window .marks < 18446744073709551616
   pub protected : h .protection .protected < 4294967296
   pub clear : h .protection .clear < 4294967296
+
+pub record SentRanged (s : SentRecords) : Type 0 where
+  pub count : s .count < 4294967296
+  pub sums : length (s .checksums) ≡ 8
+  pub sum : (i : ℕ) → getD (s .checksums) i 0 < 4294967296
 
 pub record Ranged (c : Connection) : Type 0 where
   pub handshake : RangedHandshake (c .handshake)

@@ -3,16 +3,16 @@ ghost use mathlib.Core.Path.{_≡_};
 ghost use Prim.Native.Nat.{_+_, _*_, _≤_};
 ghost use lib.ListN.{length};
 ghost use Rattle.digest.specs.Bytes.{bytes2, bytes4, bytes8, wordAt};
-ghost use Rattle.lent.specs.Fields.{twoIn, eightIn};
+ghost use Rattle.lent.specs.Fields.{twoIn, eightIn, twoWithin, fourWithin, eightWithin};
 
-pub(crate) fn two(x: u16) -> [u8; 2]
-    ensures { λ r. ⌜ r ≡ bytes2 x ⌝ }
+pub fn two(x: u16) -> [u8; 2]
+    ensures exact { λ r. ⌜ r ≡ bytes2 x ⌝ }
 {
     [(x / 256 % 256) as u8, (x % 256) as u8]
 }
 
-pub(crate) fn four(x: u32) -> [u8; 4]
-    ensures { λ r. ⌜ r ≡ bytes4 x ⌝ }
+pub fn four(x: u32) -> [u8; 4]
+    ensures exact { λ r. ⌜ r ≡ bytes4 x ⌝ }
 {
     [
         (x / 16777216 % 256) as u8,
@@ -22,8 +22,8 @@ pub(crate) fn four(x: u32) -> [u8; 4]
     ]
 }
 
-pub(crate) fn eight(x: u64) -> [u8; 8]
-    ensures { λ r. ⌜ r ≡ bytes8 x ⌝ }
+pub fn eight(x: u64) -> [u8; 8]
+    ensures exact { λ r. ⌜ r ≡ bytes8 x ⌝ }
 {
     let high = x / 4294967296;
     let low = x % 4294967296;
@@ -59,6 +59,43 @@ pub(crate) fn eight_in(b: &[u8], at: usize) -> u64
     ensures { λ r. ⌜ r ≡ eightIn (now (b .entry)) at ⌝ }
 {
     wide64(four_in(b, at)) * 4294967296 + wide64(four_in(b, at + 4))
+}
+
+// The numbers that two bytes, four and eight from a place on spell, for whoever has not tested that they all stand there; else 0.
+pub fn two_within(b: &[u8], at: usize) -> u16
+    ensures exact { λ r. ⌜ r ≡ twoWithin (now (b .entry)) at ⌝ }
+{
+    if b.len() < 2 {
+        return 0;
+    }
+    if b.len() - 2 < at {
+        return 0;
+    }
+    two_in(b, at)
+}
+
+pub fn four_within(b: &[u8], at: usize) -> u32
+    ensures exact { λ r. ⌜ r ≡ fourWithin (now (b .entry)) at ⌝ }
+{
+    if b.len() < 4 {
+        return 0;
+    }
+    if b.len() - 4 < at {
+        return 0;
+    }
+    four_in(b, at)
+}
+
+pub fn eight_within(b: &[u8], at: usize) -> u64
+    ensures exact { λ r. ⌜ r ≡ eightWithin (now (b .entry)) at ⌝ }
+{
+    if b.len() < 8 {
+        return 0;
+    }
+    if b.len() - 8 < at {
+        return 0;
+    }
+    eight_in(b, at)
 }
 
 fn wide16(x: u8) -> u16

@@ -1,11 +1,31 @@
 // The tally in its 16 bytes.
 ghost use mathlib.Core.Path.{_≡_};
 ghost use lib.ListN.{length};
-ghost use Rattle.lent.specs.Counts.{tallyBytes, tallyIn};
+ghost use Rattle.lent.specs.Counts.{tallyBytes, tallyIn, tallyWithin, tallyLaid};
 use crate::bytes::four;
 use crate::bytes::four_in;
 use connection::tally::Tally;
 use digest::put;
+
+// The tally of bytes of any size: a fresh one where they are not 16.
+pub fn tally_within(b: &[u8]) -> Tally
+    ensures exact { λ r. ⌜ r ≡ tallyWithin (now (b .entry)) ⌝ }
+{
+    if b.len() != 16 {
+        return Tally::fresh();
+    }
+    tally_in(b)
+}
+
+// A tally over all the bytes, where they are 16; else nothing is written.
+pub fn lay_tally(d: &mut [u8], tally: Tally)
+    ensures exact { λ _. ⌜ now (d .exit) ≡ tallyLaid (now (d .entry)) tally ⌝ }
+{
+    if d.len() != 16 {
+        return;
+    }
+    put_tally(d, tally);
+}
 
 pub(crate) fn tally_in(b: &[u8]) -> Tally
     requires { ⌜ length (now b) ≡ 16 ⌝ }

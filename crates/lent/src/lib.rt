@@ -20,9 +20,17 @@ mod report;
 mod result;
 mod save;
 
+pub use bytes::eight;
+pub use bytes::eight_within;
+pub use bytes::four;
+pub use bytes::four_within;
+pub use bytes::two;
+pub use bytes::two_within;
 use connection::calls;
 use connection::receive;
 use connection::send;
+pub use counts::lay_tally;
+pub use counts::tally_within;
 use digest::mac_named;
 use leave::leave_called;
 use leave::leave_received;
@@ -31,10 +39,14 @@ use load::connection_in;
 use load::is_saved;
 pub use load::lent_for;
 use load::open_window;
+pub use load::sent_within;
 use macs::leave_named;
+pub use report::Entry;
+pub use report::lay_entry;
 use result::not_taken;
 pub use result::result_of;
 use save::SIZE;
+pub use save::lay_sent;
 
 // A fresh connection of a planted session, with a window of this width, 32 to 64, in 940 bytes. Refusal: 16.
 pub fn fresh(id: &[u8], secret: &[u8], width: u32, state: &mut [u8]) -> u64

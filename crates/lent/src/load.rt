@@ -1,9 +1,10 @@
 // Loading: a connection from the bytes that hold it.
 ghost use mathlib.Core.Path.{_≡_};
 ghost use mathlib.Core.Bool.{true};
+ghost use Prim.Native.Nat.{_≤_};
 ghost use lib.ListN.{length};
 ghost use Rattle.lent.specs.Saved.{isSaved, isHandshake, stateSize, handshakeSize, stateNumbered, macNumbered, connectionIn};
-ghost use Rattle.lent.specs.Saved.{keysIn, keptIn, windowIn, protectionIn, handshakeIn, sentIn};
+ghost use Rattle.lent.specs.Saved.{keysIn, keptIn, windowIn, protectionIn, handshakeIn, sentIn, sentWithin};
 ghost use Rattle.lent.specs.Calls.{lentFor};
 ghost use Rattle.lent.specs.Fields.{bytesIn};
 use crate::bytes::eight_in;
@@ -206,8 +207,18 @@ fn protection_in(s: &[u8]) -> Protection
     }
 }
 
+// The records sent that bytes of any size hold behind a mark; none where they do not all stand there.
+pub fn sent_within(b: &[u8]) -> SentRecords
+    ensures exact { λ r. ⌜ r ≡ sentWithin (now (b .entry)) ⌝ }
+{
+    if b.len() < 40 {
+        return SentRecords::fresh();
+    }
+    sent_in(b)
+}
+
 fn sent_in(b: &[u8]) -> SentRecords
-    requires { ⌜ length (now b) ≡ stateSize ⌝ }
+    requires { ⌜ 40 ≤ length (now b) ⌝ }
     ensures { λ r. ⌜ r ≡ sentIn (now (b .entry)) ⌝ }
 {
     let count = four_in(b, 4);

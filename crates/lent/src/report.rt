@@ -3,7 +3,7 @@ ghost use mathlib.Core.Path.{_≡_};
 ghost use Prim.Native.Nat.{_+_, _≤_};
 ghost use lib.ListN.{length};
 ghost use Rattle.digest.specs.Bytes.{laidOver};
-ghost use Rattle.lent.specs.Report.{entry, entryOf, entryBytes, reportOf};
+ghost use Rattle.lent.specs.Report.{entry, entryOf, entryBytes, entryLaid, reportOf};
 use crate::bytes::eight;
 use crate::bytes::four;
 use connection::answer::Answer;
@@ -34,6 +34,19 @@ pub(crate) fn put_answers(d: &mut [u8], answers: [Slot; 8])
         put_entry(d, 24 * i, entry_of(answer));
         i += 1;
     }
+}
+
+// One answer, where its 24 bytes fit; else nothing is written.
+pub fn lay_entry(d: &mut [u8], at: usize, e: Entry)
+    ensures exact { λ _. ⌜ now (d .exit) ≡ entryLaid (now (d .entry)) at e ⌝ }
+{
+    if d.len() < 24 {
+        return;
+    }
+    if d.len() - 24 < at {
+        return;
+    }
+    put_entry(d, at, e);
 }
 
 fn put_entry(d: &mut [u8], at: usize, e: Entry)

@@ -1,12 +1,12 @@
 // Saving: a connection laid into its bytes.
 ghost use mathlib.Core.Path.{_≡_};
-ghost use Prim.Native.Nat.{ℕ, _<_};
+ghost use Prim.Native.Nat.{ℕ, _≤_, _<_};
 ghost use lib.ListN.{length, getD};
 ghost use Rattle.digest.specs.Bytes.{laidOver};
 ghost use Rattle.lent.specs.Fields.{joined};
 ghost use Rattle.lent.specs.Saved.{savedOf, savedHandshake, loaded, stateSize, handshakeSize, RangedHandshake, Is};
 ghost use Rattle.lent.specs.Saved.{stateNumber, headFields, sessionFields, agreedFields};
-ghost use Rattle.lent.specs.Saved.{keptFields, windowFields, sendingFields, sumFields};
+ghost use Rattle.lent.specs.Saved.{keptFields, windowFields, sendingFields, sumFields, sentLaid, SentRanged};
 use crate::bytes::eight;
 use crate::bytes::four;
 use crate::bytes::two;
@@ -14,6 +14,7 @@ use connection::connection::Connection;
 use connection::handshake::Handshake;
 use connection::handshake::Kept;
 use connection::handshake::Session;
+use connection::sent::SentRecords;
 use connection::state::State;
 use digest::put;
 use record::keys::Keys;
@@ -52,8 +53,22 @@ fn put_head(d: &mut [u8], count: u32)
     put(d, 4, &records);
 }
 
+// The records sent, behind a mark of four bytes, where all of them fit; else nothing is written.
+pub fn lay_sent(d: &mut [u8], sent: SentRecords)
+    ensures exact { λ _. ⌜ now (d .exit) ≡ sentLaid (now (d .entry)) sent ⌝ }
+    ensures ranged { λ _. ⌜ SentRanged sent ⌝ }
+{
+    let records = four(sent.count);
+    let sums = sent.checksums;
+    if d.len() < 40 {
+        return;
+    }
+    put(d, 4, &records);
+    put_sums(d, sums);
+}
+
 fn put_sums(d: &mut [u8], sums: [u32; 8])
-    requires { ⌜ length (now d) ≡ stateSize ⌝ }
+    requires { ⌜ 40 ≤ length (now d) ⌝ }
     ensures { λ _. ⌜ now (d .exit) ≡ laidOver (now (d .entry)) 8 (joined (sumFields sums)) ⌝ }
     ensures { λ _. ⌜ length (joined (sumFields sums)) ≡ 32 ⌝ }
     ensures { λ _. ⌜ (length sums ≡ 8) × ((i : ℕ) → getD sums i 0 < 4294967296) ⌝ }
