@@ -1,5 +1,6 @@
 //! `trials`: the exported library, held against the second implementation and tried where it could go wrong.
 
+mod both;
 mod damage;
 mod differ;
 mod laws;
@@ -21,6 +22,8 @@ trials messages                    the calls for short messages at their limits,
 trials laws [ROUNDS [SEED]]        the laws of the test bench over random traffic: joined
                                    stretches and swapped arrivals, as many rounds as said
                                    (default 2,000)
+trials both [LINKS [SEED]]         both proved ends on bad links: what each hands out, held to what
+                                   the other sent and what arrived in time (default 1,000)
 ";
 
 fn main() -> ExitCode {
@@ -46,6 +49,15 @@ fn main() -> ExitCode {
         },
         ["laws", count, seed] => match (count.parse(), seed.parse()) {
             (Ok(count), Ok(seed)) => laws::run(count, seed),
+            _ => return usage(),
+        },
+        ["both"] => both::run(1_000, 1),
+        ["both", count] => match count.parse() {
+            Ok(count) => both::run(count, 1),
+            Err(_) => return usage(),
+        },
+        ["both", count, seed] => match (count.parse(), seed.parse()) {
+            (Ok(count), Ok(seed)) => both::run(count, seed),
             _ => return usage(),
         },
         _ => return usage(),

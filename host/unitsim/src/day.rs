@@ -7,11 +7,14 @@ use crate::shore::Gateway;
 use peer::rng::Rng;
 use std::thread;
 use std::time::{Duration, Instant};
-use unitsim::ship::{Second, Ship};
+use unitsim::proved::Proved;
+use unitsim::ship::{Difference, Judged, Second, Ship};
 
 pub struct Day<'a> {
     options: &'a Options,
     ship: Box<dyn Ship>,
+    /// Where a ship of the day and its judge differed.
+    difference: Difference,
     /// Another ship of the same session that says hello, where it is in doubt whether the gateway has
     /// our Finished; it takes the ship's place once it is open.
     other: Option<Box<dyn Ship>>,
@@ -42,8 +45,10 @@ const CONNECTION_CLOSE_NOTIFY: u8 = 0;
 
 impl Day<'_> {
     pub fn new(options: &Options) -> Result<Day<'_>, String> {
+        let difference = Difference::default();
         Ok(Day {
-            ship: fresh(options)?,
+            ship: fresh(options, &difference)?,
+            difference,
             other: None,
             rng: Rng::new(options.seed),
             out: Link::new(options.rates, options.seed + 1),
@@ -59,6 +64,11 @@ impl Day<'_> {
     }
 
     pub fn run(&mut self) -> Result<(), String> {
+        self.sail()?;
+        self.difference.take().map_or(Ok(()), Err)
+    }
+
+    fn sail(&mut self) -> Result<(), String> {
         self.shake_hands()?;
         for index in 0..self.options.reports {
             if self.loses_power_before(index) {
@@ -99,7 +109,7 @@ impl Day<'_> {
     /// Keys and numbers are gone, and so are the hellos that the modem still held. Reports that are
     /// on their way arrive.
     fn lose_power(&mut self) -> Result<(), String> {
-        (self.ship, self.other, self.unconfirmed) = (fresh(self.options)?, None, 0);
+        (self.ship, self.other, self.unconfirmed) = (self.fresh()?, None, 0);
         self.out.drop_those(|datagram| datagram[0] == CLEAR_HELLO);
         thread::sleep(BOOT);
         Ok(())
@@ -110,7 +120,7 @@ impl Day<'_> {
         for said in 0..MOST_HELLOS {
             // A reply that was changed on its way may have closed the ship.
             if said % SAME_HELLOS == 0 || self.ship.again().is_err() {
-                self.ship = fresh(self.options)?;
+                self.ship = self.fresh()?;
                 let hello = self.hello()?;
                 self.send(hello)?;
             } else {
@@ -131,11 +141,15 @@ impl Day<'_> {
         for _ in 0..self.options.strangers {
             let random = self.rng.bytes(16);
             let macs = [self.options.kind.number()];
-            let mut other = fresh(self.options)?;
+            let mut other = self.fresh()?;
             let hello = other.hello(&random, &macs, self.options.refresh).map_err(refused)?;
             self.gateway.strange(&hello)?;
         }
         Ok(())
+    }
+
+    fn fresh(&self) -> Result<Box<dyn Ship>, String> {
+        fresh(self.options, &self.difference)
     }
 
     fn hello(&mut self) -> Result<Vec<u8>, String> {
@@ -175,7 +189,7 @@ impl Day<'_> {
     fn doubt(&mut self) -> Result<(), String> {
         let since = self.unconfirmed % DOUBT_AFTER;
         if since == DOUBT_AFTER - 1 {
-            let mut other = fresh(self.options)?;
+            let mut other = self.fresh()?;
             let random = self.rng.bytes(16);
             let macs = [self.options.kind.number()];
             let hello = other.hello(&random, &macs, self.options.refresh).map_err(refused)?;
@@ -264,9 +278,12 @@ impl Day<'_> {
     }
 }
 
-/// The ship of the second implementation, today the only one.
-fn fresh(options: &Options) -> Result<Box<dyn Ship>, String> {
-    Ok(Box::new(Second::fresh(&options.session, &options.secret, options.width)?))
+/// The proved ship, the second implementation's beside it as its judge.
+fn fresh(options: &Options, difference: &Difference) -> Result<Box<dyn Ship>, String> {
+    let Options { session, secret, width, .. } = options;
+    let ship = Proved::fresh(session, secret, *width)?;
+    let judge = Second::fresh(session, secret, *width)?;
+    Ok(Box::new(Judged { ship, judge, difference: difference.clone() }))
 }
 
 fn refused(number: u8) -> String {

@@ -36,9 +36,11 @@ unitsim: a ship's unit behind a bad link, for trying a gateway.
     --close              ends the day with a protected close notice
     --help
 
-Every datagram that the link delivers also goes through the shore's rules as `peer` has them, so what
-the gateway must hand out is known to the byte. Each reply of the gateway is compared, too.
-Exit status: 0 done, 1 the gateway answered wrongly or not at all, 2 wrong command line.
+The ship is the proved unit (crates/shipboard); each call is made on the second implementation's ship
+(`peer`), too, and both must answer the same. Every datagram that the link delivers also goes through
+the shore's rules as `peer` has them, so what the gateway must hand out is known to the byte. Each
+reply of the gateway is compared, too.
+Exit status: 0 done, 1 the gateway or the ship answered wrongly or not at all, 2 wrong command line.
 ";
 
 pub struct Options {

@@ -1,9 +1,11 @@
-//! The ship that a day is about, as the simulator knows one: the calls of a shipboard end. Today it is
-//! the second implementation's; another one is put beside it by `Judged`, which makes each call on
-//! both and wants the same outcome.
+//! The ship that a day is about, as the simulator knows one: the calls of a shipboard end. It is the
+//! proved one (`proved`), and the second implementation's is put beside it by `Judged`, which makes
+//! each call on both and wants the same outcome.
 
 use peer::ship;
 use peer::shore::Tally;
+use std::cell::RefCell;
+use std::rc::Rc;
 
 /// A shipboard end. A refusal is its number.
 pub trait Ship {
@@ -89,18 +91,21 @@ impl Ship for Second {
     }
 }
 
+/// The first call whose outcomes differ, of all the ships of a day.
+pub type Difference = Rc<RefCell<Option<String>>>;
+
 /// A ship and its judge: each call is made on both.
 pub struct Judged<S, J> {
     pub ship: S,
     pub judge: J,
-    /// The first call whose outcomes differ.
-    pub difference: Option<String>,
+    pub difference: Difference,
 }
 
 impl<S: Ship, J: Ship> Judged<S, J> {
     fn same<T: PartialEq + std::fmt::Debug>(&mut self, call: &str, got: T, wanted: T) -> T {
-        if got != wanted && self.difference.is_none() {
-            self.difference = Some(format!("{call}: the ship {got:?}, its judge {wanted:?}"));
+        if got != wanted {
+            let told = || format!("{call}: the ship {got:?}, its judge {wanted:?}");
+            self.difference.borrow_mut().get_or_insert_with(told);
         }
         got
     }
@@ -138,6 +143,7 @@ impl<S: Ship, J: Ship> Ship for Judged<S, J> {
 #[cfg(test)]
 mod tests {
     use super::*;
+    use crate::proved::Proved;
     use peer::shore::{Received, Shore};
 
     const SESSION: [u8; 8] = [5; 8];
@@ -179,16 +185,26 @@ mod tests {
 
     #[test]
     fn a_ship_and_its_judge_agree() {
-        let mut ship = Judged { ship: fresh(32), judge: fresh(32), difference: None };
+        let mut ship =
+            Judged { ship: fresh(32), judge: fresh(32), difference: Difference::default() };
         day(&mut ship);
-        assert_eq!(ship.difference, None);
+        assert_eq!(*ship.difference.borrow(), None);
+    }
+
+    #[test]
+    fn the_proved_ship_and_its_judge_agree() {
+        let proved = Proved::fresh(&SESSION, &SECRET, 32).unwrap();
+        let mut ship = Judged { ship: proved, judge: fresh(32), difference: Difference::default() };
+        day(&mut ship);
+        assert_eq!(*ship.difference.borrow(), None);
     }
 
     #[test]
     fn a_judge_of_another_width_does_not() {
-        let mut ship = Judged { ship: fresh(32), judge: fresh(64), difference: None };
+        let mut ship =
+            Judged { ship: fresh(32), judge: fresh(64), difference: Difference::default() };
         day(&mut ship);
-        let difference = ship.difference.unwrap();
+        let difference = ship.difference.take().unwrap();
         assert!(
             difference.starts_with("receive: the ship Records { answers: [Err(10)]"),
             "{difference}"
