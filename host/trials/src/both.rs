@@ -8,7 +8,7 @@ use gateway::Connection;
 use peer::rng::Rng;
 use shipboard::Unit;
 
-const STEPS: usize = 150;
+const STEPS: usize = 300;
 const SHORT: usize = 40;
 const WARNING: u32 = 1;
 const USER_CANCELED: u32 = 90;
@@ -274,8 +274,9 @@ impl Ends {
 
 fn one(rng: &mut Rng, seen: &mut Seen) -> Result<(), String> {
     let mut ends = Ends::open(rng)?;
-    // How much of what is written arrives at all, and how far back the link reaches.
-    let (kept, reach) = (rng.between(30, 100), rng.pick(&[3, 20, 100, 1000]));
+    // How much of what is written arrives at all, how much of it the link holds back, and how far it then reaches.
+    let (kept, held, reach) =
+        (rng.between(30, 100), rng.between(0, 90), rng.pick(&[3, 20, 100, 1000]));
     let mut waiting: Vec<(bool, Vec<u8>)> = Vec::new();
     for _ in 0..STEPS {
         let before = (ends.ashore.written.len(), ends.aboard.written.len());
@@ -296,6 +297,7 @@ fn one(rng: &mut Rng, seen: &mut Seen) -> Result<(), String> {
                     return Err(format!("a strange datagram gave {given:?}"));
                 }
             }
+            _ if rng.percent(held) => {}
             _ => deliver(&mut ends, &mut waiting, reach, rng, seen)?,
         }
         for datagram in ends.ashore.written[before.0..].iter().filter(|_| rng.percent(kept)) {
