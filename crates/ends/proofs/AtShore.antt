@@ -51,7 +51,7 @@ use Rattle.demands.specs.Past.{isData}
 use Rattle.demands.specs.Runs as Runs
 use Rattle.demands.specs.Runs.{Result, received, sent, called, Step, stepOf}
 use Rattle.demands.specs.Table.{Row}
-use Rattle.demands.specs.Table.{row-ended, row-returned, row-not-allowed, row-not-first, row-reply, row-hello-malformed, row-unacceptable, row-resent, row-change, row-change-malformed, row-clear-malformed, row-checksum, row-clear-warning, row-clear-critical, row-clear-fatal, row-forged, row-old, row-repeated, row-malformed, row-data, row-warning, row-critical, row-barred, row-open, row-again, row-wrong-finished}
+use Rattle.demands.specs.Table.{row-ended, row-returned, row-not-allowed, row-reply, row-hello-malformed, row-unacceptable, row-resent, row-change, row-change-malformed, row-clear-malformed, row-checksum, row-clear-warning, row-clear-critical, row-clear-fatal, row-forged, row-old, row-repeated, row-malformed, row-data, row-warning, row-critical, row-barred, row-open, row-again, row-wrong-finished}
 use Rattle.demands.proofs.Calls.{call-of, chain-of}
 use Rattle.demands.proofs.Genuine.{true-false}
 use Rattle.demands.proofs.HandedOut.{Along, along-all, told-exactly, told-handed, data-facts}
@@ -117,7 +117,6 @@ module _ (k : Keys) (expected : List ℕ) where
   number-kept h list random d r o (row-ended e) = refl
   number-kept h list random d r o (row-returned q) = refl
   number-kept h list random d r o (row-not-allowed e b n) = refl
-  number-kept h list random d r o (row-not-first b i y) = refl
   number-kept h list random d r o (row-reply plan g e) = greets-not-open (h .state) (g .another) o
   number-kept h list random d r o (row-hello-malformed fault g e) = refl
   number-kept h list random d r o (row-unacceptable condition g e) = refl

@@ -84,7 +84,8 @@ use Rattle.demands.specs.Asked.{tells, asks-only, left-only, Tells}
 use Rattle.demands.specs.Calls.{Chain, chain-end, chain-more, fresh-done}
 use Rattle.demands.specs.Genuine.{Protected, keysOf}
 use Rattle.demands.specs.Runs.{freshWith, freshOne}
-use Rattle.demands.specs.Table.{Row, New, row-reply, row-change, row-open, isHello}
+use Rattle.demands.specs.Seen.{seenIn}
+use Rattle.demands.specs.Table.{Row, New, row-reply, row-change, row-open, IsHello}
 use Rattle.demands.proofs.Asked.{tells-is}
 use Rattle.demands.proofs.Calls.{fresh-row}
 use Rattle.demands.proofs.Refusals.{no-reply, laid-nothing}
@@ -229,9 +230,9 @@ module _ (s : Setting) (ls : ListedSetting s) where
   unfolding m offerHello
   begins = refl
 
-  is-hello : isHello hello r₁ ≡ true
+  is-hello : IsHello (seenIn hello r₁)
   unfolding r₁
-  is-hello = ap (λ n. eqb n 1) (ap (λ f. getD f 0 0) hello-fragment ∙ begins)
+  is-hello = record { clear = refl; handshake = refl; begins = ap (λ f. getD f 0 0) hello-fragment ∙ begins }
 
   heard : heardOf m (s .id) ≡ H.Accepted plan
   unfolding m
@@ -447,7 +448,7 @@ module _ (s : Setting) (ls : ListedSetting s) where
   unfolding h₂ h₃
   row₃ random =
       row-open ours (windowOf (s .shore-width) (0 ∷ []))
-      (record { guarded = record { protection = refl; kind = refl }; coded = protected₃; arrived = arrivedOf (s .shore-width) (0 ∷ []); accepted = takes-0-ashore })
+      (record { guarded = record { protection = refl; kind = inl (refl, inr refl) }; coded = protected₃; arrived = arrivedOf (s .shore-width) (0 ∷ []); accepted = takes-0-ashore })
       refl refl right-ashore
 
   told₂ : (random : List ℕ) → Tells c₁ random flight (changeFirst k FromUnit ours ours-size) (record { answer = W.Spec; connection = connectionOf h₂ noneStarted sent₁; beside = false })

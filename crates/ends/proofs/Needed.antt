@@ -46,7 +46,7 @@ use Rattle.demands.specs.Acts.{actsIn, recordsIn}
 use Rattle.demands.specs.LeftOut.{Unreplaced}
 use Rattle.demands.specs.Runs as Shore
 use Rattle.demands.specs.Ship.Runs as ShipRuns
-use Rattle.demands.specs.Table.{Row, New, protectedAllowed, row-data, row-critical, row-old}
+use Rattle.demands.specs.Table.{Row, New, row-data, row-critical, row-old}
 use Rattle.ends.specs.Sides.{Ends, endsOf}
 use Rattle.ends.specs.InOrder.{Setting, ListedSetting}
 use Rattle.ends.specs.Link.{Doing, ashore, aboard, doneBy, Report, Handed, handed, Entry, sends, takes, outAshore, ifDone, traceOf, Linked, AllSentAs, Within}
@@ -87,10 +87,10 @@ module _ (k : Keys) (c : Connection) (is-open : c .handshake .state ≡ S.Open) 
     abbrev w : Window
     w = windowOf width (n ∷ numbers)
 
-    new : protectedAllowed S.Open content ≡ true → highestOf numbers < n → New (c .handshake) d r body w
-    new allowed l =
+    new : highestOf numbers < n → New (c .handshake) d r body w
+    new l =
         record {
-          guarded = record { protection = refl; kind = ap (λ s. protectedAllowed s content) is-open ∙ allowed };
+          guarded = record { protection = refl; kind = inr is-open };
           coded = coded;
           arrived = arrivedOf width (n ∷ numbers);
           accepted = ap (λ x. acceptOf x n) window ∙ takes-above width held numbers n l;
@@ -109,7 +109,7 @@ module _ (k : Keys) (c : Connection) (is-open : c .handshake .state ≡ S.Open) 
     unfolding left
     chain =
         chain-more
-        (tells (asks-protected is-open refl not-handshake) (row-data bytes (w C.Data n few bytes most) (new C.Data n few bytes most refl above) refl some) (left-open is-open))
+        (tells (asks-protected is-open refl not-handshake) (row-data bytes (w C.Data n few bytes most) (new C.Data n few bytes most above) refl some) (left-open is-open))
         chain-end
 
     pub data-gives : Ashore.receivedOf c (d C.Data n few bytes most) random (length out)
@@ -141,7 +141,7 @@ module _ (k : Keys) (c : Connection) (is-open : c .handshake .state ≡ S.Open) 
     old-chain =
         chain-more
         (tells (asks-protected is-open refl not-finished)
-        (row-old bytes (record { protection = refl; kind = ap (λ s. protectedAllowed s C.Data) is-open }) (coded C.Data n few bytes most)
+        (row-old bytes (record { protection = refl; kind = inr is-open }) (coded C.Data n few bytes most)
         (ap (λ x. acceptOf x n) window ∙ meaning width held numbers n ∙ old-when width numbers n old))
         (left-open is-open))
         chain-end
@@ -176,7 +176,7 @@ module _ (k : Keys) (c : Connection) (is-open : c .handshake .state ≡ S.Open) 
         chain-more
         (tells (asks-protected is-open refl not-message)
         (row-critical body (w C.Alert n few body few-bytes) (record { level = L.Critical; description = D.ConnectionCloseNotify; checksum = 0 })
-        (new C.Alert n few body few-bytes refl above) refl (alert-back L.Critical D.ConnectionCloseNotify 0 (omega arith)) refl)
+        (new C.Alert n few body few-bytes above) refl (alert-back L.Critical D.ConnectionCloseNotify 0 (omega arith)) refl)
         (left-ended closed-not))
         chain-end
 

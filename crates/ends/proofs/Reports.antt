@@ -53,7 +53,7 @@ use Rattle.unit.specs.declared.unit.Unit.{Unit as ShipsUnit}
 use Rattle.demands.specs.Asked.{RightBeside, tells, asks-protected, left-open}
 use Rattle.demands.specs.Calls.{Chain, chain-end, chain-more, GoodData}
 use Rattle.demands.specs.Genuine.{Protected, keysOf}
-use Rattle.demands.specs.Table.{New, protectedAllowed, row-data}
+use Rattle.demands.specs.Table.{New, row-data}
 use Rattle.demands.proofs.Wire.{protected-framed, protected-fragment}
 use Rattle.ends.specs.Sides.{Ends, endsOf, handedAshore, handedAboard, Turn, from-unit, from-shore, sentAboard, sentAshore, turned, sendOf, handedIn, reportIn, ListedTurn, ListedTurns, unitTurns, shoreTurns, AllHanded}
 use Rattle.ends.proofs.Aboard as Ship
@@ -165,7 +165,7 @@ module _ (uw sw : ℕ) (held-unit : Held uw) (held-shore : Held sw) (e : Ends) (
     new : New h d r bytes w
     new =
         record {
-          guarded = record { protection = refl; kind = ap (λ s. protectedAllowed s C.Data) (t .is-open) };
+          guarded = record { protection = refl; kind = inr (t .is-open) };
           coded = record { is-protected = refl; is-coded = reported-coded (keysOf h) FromUnit n few bytes some most };
           arrived = arrivedOf sw (n ∷ t .ashore);
           accepted = ap (λ x. acceptOf x n) (t .ashore-is) ∙ takes sw held-shore (t .ashore) n (t .ashore-below);
