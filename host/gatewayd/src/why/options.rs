@@ -31,7 +31,7 @@ pub enum Command {
     Ask(Options),
 }
 
-#[derive(PartialEq, Eq, Debug)]
+#[derive(Clone, PartialEq, Eq, Debug)]
 pub struct Options {
     pub store: Where,
     pub sessions: PathBuf,
