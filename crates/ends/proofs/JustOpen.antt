@@ -39,10 +39,10 @@ use Rattle.demands.proofs.HandedOut.{Along, along-run}
 use Rattle.demands.proofs.Places.{run-behind, run-sound}
 use Rattle.ends.specs.Sides.{Ends, endsOf}
 use Rattle.ends.specs.InOrder.{Setting, ListedSetting}
-use Rattle.ends.specs.Link.{GenuineFor, In}
+use Rattle.ends.specs.Link.{GenuineFor, OtherFor, In}
 use Rattle.ends.specs.BothEnds.{Quiet, Begun, JustOpen}
 use Rattle.ends.proofs.Courses.{same-records}
-use Rattle.ends.proofs.Flight.{finishedAt, changeFirst, flown-framed, helloFirst, changeNext, replied-framed}
+use Rattle.ends.proofs.Flight.{finishedAt, changeFirst, flown, flown-framed, replied, helloFirst, changeNext, replied-framed}
 use Rattle.ends.proofs.InOrder as P
 use Rattle.ends.proofs.Reports.{Together}
 
@@ -95,6 +95,32 @@ finished-quiet r x c e f n =
       finished = λ z. zero-is;
       numbered = omega arith;
     }
+
+-- ---- every reply and every flight, whatever keys it was made with, is one of the others
+
+module _ (used made : Keys) (body : List ℕ) (l : length body ≡ 15) where
+  finished-other : (r x : Record) → r ≡ x → x .content ≡ C.Handshake → x .number ≡ 0 → (r .content ≡ C.Handshake) × (r .number ≡ 0)
+  finished-other r x e f n = (ap (λ (y : Record). y .content) e ∙ f, ap (λ (y : Record). y .number) e ∙ n)
+
+  pub flight-other : OtherFor used FromUnit (flown made FromUnit body l)
+  flight-other r c g =
+      by (one-of-two (g .in-place .before) r (g .in-place .behind) (changeFirst made FromUnit body l) (finishedAt made FromUnit body l 6)
+      (same-records _ _ (framingOf (flown made FromUnit body l)) (g .in-place .framing) (flown-framed made FromUnit body l)))
+    where
+      by : (r ≡ changeFirst made FromUnit body l) ⊎ (r ≡ finishedAt made FromUnit body l 6) → (r .content ≡ C.Handshake) × (r .number ≡ 0)
+      by (inl z) = clear-not used FromUnit (flown made FromUnit body l) r (changeFirst made FromUnit body l) c g z refl
+      by (inr z) = finished-other r (finishedAt made FromUnit body l 6) z refl refl
+
+  pub reply-other : (m : List ℕ) (lm : length m ≡ 35) → OtherFor used FromShore (replied made FromShore body l m lm)
+  reply-other m lm r c g =
+      by (one-of-three (g .in-place .before) r (g .in-place .behind) (helloFirst made FromShore body l m lm) (changeNext made FromShore body l m lm) (finishedAt made FromShore body l 46)
+      (same-records _ _ (framingOf (replied made FromShore body l m lm)) (g .in-place .framing) (replied-framed made FromShore body l m lm)))
+    where
+      by : (r ≡ helloFirst made FromShore body l m lm) ⊎ (r ≡ changeNext made FromShore body l m lm) ⊎ (r ≡ finishedAt made FromShore body l 46)
+          → (r .content ≡ C.Handshake) × (r .number ≡ 0)
+      by (inl z) = clear-not used FromShore (replied made FromShore body l m lm) r (helloFirst made FromShore body l m lm) c g z refl
+      by (inr (inl z)) = clear-not used FromShore (replied made FromShore body l m lm) r (changeNext made FromShore body l m lm) c g z refl
+      by (inr (inr z)) = finished-other r (finishedAt made FromShore body l 46) z refl refl
 
 module _ (s : Setting) (ls : ListedSetting s) where
   abbrev kk : Keys
