@@ -514,6 +514,7 @@ begun-holds k sense expected before next width numbers held s =
       not-shut = refl;
       opened = s .opened;
       below = s .below;
+      first-some = let l = s .below 0 (s .opened) in omega arith;
       from-first = omega arith;
       fine = λ d i r c g. quiet-fine k sense expected next r c (s .quiet d i r c g);
       singles = λ report i. absurd i;

@@ -33,7 +33,7 @@ use Rattle.connection.specs.Judge.{fragmentOf}
 use Rattle.demands.specs.Genuine.{RecordOf}
 use Rattle.demands.specs.Course.{Course, isNew, alertShuts, contentShuts}
 use Rattle.demands.proofs.Genuine.{true-false}
-use Rattle.ends.specs.Link.{GenuineFor, NoneFor, Report, Handed, handed, Entry, sends, writes, takes, In, SentAs, AllSentAs, Within, NewIn, withAll, Once, HandedIn, AllBelow, Arrives, Exactly, Delivered}
+use Rattle.ends.specs.Link.{GenuineFor, NoneFor, OtherFor, Report, Handed, handed, Entry, sends, writes, takes, In, SentAs, AllSentAs, Within, NewIn, withAll, Once, HandedIn, AllBelow, Arrives, Exactly, Delivered}
 
 -- ---- small things
 
@@ -210,13 +210,14 @@ module _ (k : Keys) (sense : Sense) (expected : List ℕ) where
     pub not-shut : course .shut ≡ false
     pub opened : accepted (course .numbers) 0 ≡ true
     pub below : (n : ℕ) → accepted (course .numbers) n ≡ true → n < next
+    pub first-some : 1 ≤ first
     pub from-first : first ≤ next
     pub fine : (d : List ℕ) → In d written → (r : Record) (c : List ℕ) → GenuineFor k sense d r c → Fine sent next r c
     pub singles : (report : Report) → Sent report sent → Single report × (first ≤ report .number) × (report .number < next)
     pub unique : (report : Report) → Sent report sent → (d : List ℕ) → In d written → (r : Record) (c : List ℕ)
         → GenuineFor k sense d r c → r .number ≡ report .number → d ≡ report .datagram
     pub traced : (n : ℕ) → accepted (course .numbers) n ≡ true → (n < first) ⊎ Came seen n
-    pub ruled : (d : List ℕ) → In d seen → In d written ⊎ NoneFor k sense d
+    pub ruled : (d : List ℕ) → In d seen → In d written ⊎ OtherFor k sense d
 
   module _ (first width : ℕ) where
     abbrev State : List (List ℕ) → List Report → ℕ → List (List ℕ) → Course → Type 0
@@ -233,6 +234,7 @@ module _ (k : Keys) (sense : Sense) (expected : List ℕ) where
             not-shut = h .not-shut;
             opened = h .opened;
             below = λ n a. let q = h .below n a in omega arith;
+            first-some = h .first-some;
             from-first = let q = h .from-first in omega arith;
             fine = fine-more;
             singles = singles-more;
@@ -241,7 +243,7 @@ module _ (k : Keys) (sense : Sense) (expected : List ℕ) where
             ruled = λ d i. wider d (h .ruled d i);
           }
         where
-          wider : (d : List ℕ) → In d written ⊎ NoneFor k sense d → In d (report .datagram ∷ written) ⊎ NoneFor k sense d
+          wider : (d : List ℕ) → In d written ⊎ OtherFor k sense d → In d (report .datagram ∷ written) ⊎ OtherFor k sense d
           wider d (inl i) = inl (inr i)
           wider d (inr n) = inr n
 
@@ -294,6 +296,7 @@ module _ (k : Keys) (sense : Sense) (expected : List ℕ) where
             not-shut = h .not-shut;
             opened = h .opened;
             below = λ n a. let q = h .below n a in omega arith;
+            first-some = h .first-some;
             from-first = let q = h .from-first in omega arith;
             fine = fine-more;
             singles = λ x i. let q = h .singles x i in let l = q .2 in (q .0, q .1, omega arith);
@@ -302,7 +305,7 @@ module _ (k : Keys) (sense : Sense) (expected : List ℕ) where
             ruled = λ d i. wider d (h .ruled d i);
           }
         where
-          wider : (d : List ℕ) → In d written ⊎ NoneFor k sense d → In d (new ∷ written) ⊎ NoneFor k sense d
+          wider : (d : List ℕ) → In d written ⊎ OtherFor k sense d → In d (new ∷ written) ⊎ OtherFor k sense d
           wider d (inl i) = inl (inr i)
           wider d (inr n) = inr n
 
@@ -334,7 +337,7 @@ module _ (k : Keys) (sense : Sense) (expected : List ℕ) where
           unique-more x i d (inr j) r c g n = h .unique x i d j r c g n
 
       -- a datagram comes, by the link's rule
-      pub after-seen : (d : List ℕ) → In d written ⊎ NoneFor k sense d → State written sent next (d ∷ seen) course
+      pub after-seen : (d : List ℕ) → In d written ⊎ OtherFor k sense d → State written sent next (d ∷ seen) course
       after-seen d rule =
           record {
             width-is = h .width-is;
@@ -342,6 +345,7 @@ module _ (k : Keys) (sense : Sense) (expected : List ℕ) where
             not-shut = h .not-shut;
             opened = h .opened;
             below = h .below;
+            first-some = h .first-some;
             from-first = h .from-first;
             fine = h .fine;
             singles = h .singles;
@@ -354,8 +358,8 @@ module _ (k : Keys) (sense : Sense) (expected : List ℕ) where
           later n (inl l) = inl l
           later n (inr c) = inr (record { d = c .d; there = inr (c .there); r = c .r; c = c .c; genuine = c .genuine; number-is = c .number-is })
 
-          by : (x : List ℕ) → In x (d ∷ seen) → In x written ⊎ NoneFor k sense x
-          by x (inl i) = subst (λ y. In y written ⊎ NoneFor k sense y) (sym i) rule
+          by : (x : List ℕ) → In x (d ∷ seen) → In x written ⊎ OtherFor k sense x
+          by x (inl i) = subst (λ y. In y written ⊎ OtherFor k sense y) (sym i) rule
           by x (inr i) = h .ruled x i
 
       -- and a record of it is taken
@@ -363,8 +367,9 @@ module _ (k : Keys) (sense : Sense) (expected : List ℕ) where
       record-taken d i r at end same = h
       record-taken d i r at end (used c g l new) = from (h .ruled d i)
         where
-          from : In d written ⊎ NoneFor k sense d → State written sent next seen (usedFor course r c)
-          from (inr none) = absurd (none r c g)
+          from : In d written ⊎ OtherFor k sense d → State written sent next seen (usedFor course r c)
+          from (inr other) =
+              true-false (accepted (course .numbers) 0) (h .opened) (ap (accepted (course .numbers)) (sym (other r c g .1)) ∙ new)
           from (inl w) =
               record {
                 width-is = h .width-is;
@@ -372,6 +377,7 @@ module _ (k : Keys) (sense : Sense) (expected : List ℕ) where
                 not-shut = not-closed (h .fine d w r c g .harmless);
                 opened = accepted-still (r .number) 0 (course .numbers) (h .opened);
                 below = λ n a. below-by n (accepted-cases (r .number) (course .numbers) n a);
+                first-some = h .first-some;
                 from-first = h .from-first;
                 fine = h .fine;
                 singles = h .singles;
@@ -419,9 +425,12 @@ module _ (k : Keys) (sense : Sense) (expected : List ℕ) where
           (record-taken written sent next seen course h d i r (u .genuine .in-place) (stepFor course d r) (stepped course d r (u .genuine .in-place) (h .not-shut))),
     )
       where
-        by : In d written ⊎ NoneFor k sense d → SentAs sent (handed (r .number) c)
+        by : In d written ⊎ OtherFor k sense d → SentAs sent (handed (r .number) c)
         by (inl w) = h .fine d w r c (u .genuine) .data-sent (u .is-data)
-        by (inr none) = absurd (none r c (u .genuine))
+        by (inr other) =
+            let z : C.Handshake ≡ C.Data = sym (other r c (u .genuine) .0) ∙ u .is-data in
+            let y : _≡_ {A = ℕ} 0 1 = cc in
+            absurd (omega arith)
     out-sent written sent next seen d i (passes {course = course} {r = r} at no-due more) h =
         out-sent written sent next seen d i more
         (record-taken written sent next seen course h d i r at (stepFor course d r) (stepped course d r at (h .not-shut)))
@@ -480,10 +489,15 @@ module _ (k : Keys) (sense : Sense) (expected : List ℕ) where
       not-came : Came seen (report .number) → ⊥
       not-came c = by (h .ruled (c .d) (c .there))
         where
-          by : In (c .d) written ⊎ NoneFor k sense (c .d) → ⊥
+          by : In (c .d) written ⊎ OtherFor k sense (c .d) → ⊥
           by (inl w) =
               not-seen (subst (λ x. In x seen) (h .unique report is-sent (c .d) w (c .r) (c .c) (c .genuine) (c .number-is)) (c .there))
-          by (inr none) = none (c .r) (c .c) (c .genuine)
+          by (inr other) =
+              let n = other (c .r) (c .c) (c .genuine) .1 in
+              let m = c .number-is in
+              let l = h .singles report is-sent .1 in
+              let f = h .first-some in
+              omega arith
 
       not-accepted : accepted (course .numbers) (report .number) ≡ false
       not-accepted = decide (accepted (course .numbers) (report .number)) (λ a. absurd (by (h .traced (report .number) a))) (λ a. a)
@@ -531,7 +545,7 @@ module _ (k : Keys) (sense : Sense) (expected : List ℕ) where
           → ((r : Record) (c : List ℕ) → GenuineFor k sense d r c → Warned next d r c) → Runs (d ∷ written) sent (next + 1) course entries
           → Runs written sent next course (writes d ∷ entries)
       taking : {written : List (List ℕ)} {sent : List Report} {next : ℕ} {course end : Course} {entries : List Entry} {out : List Handed} (d : List ℕ)
-          (rs : List Record) → framingOf d ≡ framed rs → In d written ⊎ NoneFor k sense d → Taken d course rs out end
+          (rs : List Record) → framingOf d ≡ framed rs → In d written ⊎ OtherFor k sense d → Taken d course rs out end
           → Runs written sent next end entries → Runs written sent next course (takes d out ∷ entries)
       losing : {written : List (List ℕ)} {sent : List Report} {next : ℕ} {course : Course} {entries : List Entry} (d : List ℕ)
           (fault : Fault) (at : ℕ) → framingOf d ≡ faulty fault at → Runs written sent next course entries
@@ -540,6 +554,10 @@ module _ (k : Keys) (sense : Sense) (expected : List ℕ) where
     pub faulty-none : (d : List ℕ) (fault : Fault) (at : ℕ) → framingOf d ≡ faulty fault at → NoneFor k sense d
     faulty-none d fault at f r c g =
         not-faulty (g .in-place .before ++ (r ∷ g .in-place .behind)) fault at (framingOf d) (g .in-place .framing) f
+
+    -- a datagram without a genuine record is one of the others
+    pub none-other : (d : List ℕ) → NoneFor k sense d → OtherFor k sense d
+    none-other d none r c g = absurd (none r c g)
 
     arrives : {written : List (List ℕ)} {sent : List Report} {next : ℕ} {course : Course} {entries : List Entry} → Runs written sent next course entries
         → (seen : List (List ℕ)) → State written sent next seen course → (report : Report) → Sent report sent → (In (report .datagram) seen → ⊥)
@@ -565,7 +583,7 @@ module _ (k : Keys) (sense : Sense) (expected : List ℕ) where
         lower low x (inr z) = l x z
     arrives (losing {written = written} {sent = sent} {next = next} {course = course} d fault at f more) seen h report i n l = (
       λ z. absurd (faulty-none d fault at f (h .singles report i .0 .r) (report .bytes) (subst (λ x. GenuineFor k sense x (h .singles report i .0 .r) (report .bytes)) (sym z) (h .singles report i .0 .genuine))),
-      λ other low. arrives more (d ∷ seen) (after-seen written sent next seen course h d (inr (faulty-none d fault at f))) report i (unseen other) (lower low),
+      λ other low. arrives more (d ∷ seen) (after-seen written sent next seen course h d (inr (none-other d (faulty-none d fault at f)))) report i (unseen other) (lower low),
     )
       where
         unseen : (d ≢ report .datagram) → In (report .datagram) (d ∷ seen) → ⊥
@@ -582,9 +600,9 @@ module _ (k : Keys) (sense : Sense) (expected : List ℕ) where
       seen-below : (d : List ℕ) → In d seen → (r : Record) (c : List ℕ) → GenuineFor k sense d r c → r .number < next
       seen-below d i r c g = by (h .ruled d i)
         where
-          by : In d written ⊎ NoneFor k sense d → r .number < next
+          by : In d written ⊎ OtherFor k sense d → r .number < next
           by (inl w) = h .fine d w r c g .numbered
-          by (inr none) = absurd (none r c g)
+          by (inr other) = let n = other r c g .1 in let l = h .below 0 (h .opened) in omega arith
 
       pub fresh-report : In (report .datagram) seen → ⊥
       fresh-report i = let q = seen-below (report .datagram) i (single .r) (report .bytes) (single .genuine) in let n = single .number-is in omega arith
@@ -612,5 +630,5 @@ module _ (k : Keys) (sense : Sense) (expected : List ℕ) where
         let q = delivered more (d ∷ seen) (after-taken written sent next (d ∷ seen) d (inl refl) t here) _ (o .1) in
         ((out-sent written sent next (d ∷ seen) d (inl refl) t here, q .0), (o .0, q .1), q .2)
     delivered (losing {written = written} {sent = sent} {next = next} {course = course} d fault at fr more) seen h before f =
-        let q = delivered more (d ∷ seen) (after-seen written sent next seen course h d (inr (faulty-none d fault at fr))) before f in
+        let q = delivered more (d ∷ seen) (after-seen written sent next seen course h d (inr (none-other d (faulty-none d fault at fr)))) before f in
         ((tt, q .0), (tt, q .1), q .2)

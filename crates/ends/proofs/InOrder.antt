@@ -101,7 +101,7 @@ use Rattle.ends.proofs.Ashore as Shore
 use Rattle.ends.proofs.Reports.{Together, all-handed}
 
 -- the keys of number 0 are those of key number 0
-key-zero : (k : ℕ) → keyNumber k 0 ≡ 0
+pub key-zero : (k : ℕ) → keyNumber k 0 ≡ 0
 unfolding keyNumber
 key-zero k = by (leb k 15)
   where

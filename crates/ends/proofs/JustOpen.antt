@@ -19,7 +19,19 @@ use Rattle.record.specs.declared.reader.Record.{Record}
 use Rattle.record.specs.declared.window.Window.{Window}
 use Rattle.record.specs.declared.window.Acceptance.the-variants as A
 use Rattle.record.proofs.Histories.{accepted-le, accepted-here, held-some, meaning, repeated-when, repeated-means}
+use Rattle.digest.specs.Hmac.{hmac}
+use Rattle.digest.specs.Mac.{sizeOf, serverExpansion}
+use Rattle.record.specs.Code.{protectedBy}
+use Rattle.record.specs.Keys.{macSecret}
+use Rattle.record.specs.Protection.{recordUnder}
+use Rattle.message.specs.Finished.{serverVerify}
+use Rattle.message.specs.declared.acceptance.Plan.{Plan}
+use Rattle.message.proofs.FinishedLaws.{finished-size as fifteen}
+use Rattle.message.proofs.Replies.{length-server}
 use Rattle.connection.specs.Calls.{sessionOf}
+use Rattle.connection.specs.Reply.{clientRandom, ourHello, ourFinished, helloRecord, changeRecord, finishedRecord, flightOf, replyTo}
+use Rattle.connection.specs.declared.handshake.Session.{Session}
+use Rattle.unit.specs.Agree.{flightBytes}
 use Rattle.connection.specs.declared.connection.Connection.{Connection}
 use Rattle.connection.specs.declared.receive.Received.{Received}
 use Rattle.connection.specs.declared.state.State.the-variants as S
@@ -39,10 +51,11 @@ use Rattle.demands.proofs.HandedOut.{Along, along-run}
 use Rattle.demands.proofs.Places.{run-behind, run-sound}
 use Rattle.ends.specs.Sides.{Ends, endsOf}
 use Rattle.ends.specs.InOrder.{Setting, ListedSetting}
-use Rattle.ends.specs.Link.{GenuineFor, In}
-use Rattle.ends.specs.BothEnds.{Quiet, Begun, JustOpen}
+use Rattle.ends.specs.Link.{GenuineFor, OtherFor, In}
+use Rattle.ends.specs.BothEnds.{Quiet, Begun, JustOpen, HandshakesAreOthers}
 use Rattle.ends.proofs.Courses.{same-records}
-use Rattle.ends.proofs.Flight.{finishedAt, changeFirst, flown-framed, helloFirst, changeNext, replied-framed}
+use Rattle.ends.proofs.Flight.{finishedAt, changeFirst, flown, flown-framed, replied, helloFirst, changeNext, replied-framed}
+use Rattle.ends.proofs.Greeting.{server-size}
 use Rattle.ends.proofs.InOrder as P
 use Rattle.ends.proofs.Reports.{Together}
 
@@ -94,6 +107,66 @@ finished-quiet r x c e f n =
       no-closing = λ z. let y : C.Handshake ≡ C.Alert = sym handshake ∙ z in let w : _≡_ {A = ℕ} 0 1 = cc in absurd (omega arith);
       finished = λ z. zero-is;
       numbered = omega arith;
+    }
+
+-- ---- every reply and every flight, whatever keys it was made with, is one of the others
+
+module _ (used made : Keys) (body : List ℕ) (l : length body ≡ 15) where
+  finished-other : (r x : Record) → r ≡ x → x .content ≡ C.Handshake → x .number ≡ 0 → (r .content ≡ C.Handshake) × (r .number ≡ 0)
+  finished-other r x e f n = (ap (λ (y : Record). y .content) e ∙ f, ap (λ (y : Record). y .number) e ∙ n)
+
+  pub flight-other : OtherFor used FromUnit (flown made FromUnit body l)
+  flight-other r c g =
+      by (one-of-two (g .in-place .before) r (g .in-place .behind) (changeFirst made FromUnit body l) (finishedAt made FromUnit body l 6)
+      (same-records _ _ (framingOf (flown made FromUnit body l)) (g .in-place .framing) (flown-framed made FromUnit body l)))
+    where
+      by : (r ≡ changeFirst made FromUnit body l) ⊎ (r ≡ finishedAt made FromUnit body l 6) → (r .content ≡ C.Handshake) × (r .number ≡ 0)
+      by (inl z) = clear-not used FromUnit (flown made FromUnit body l) r (changeFirst made FromUnit body l) c g z refl
+      by (inr z) = finished-other r (finishedAt made FromUnit body l 6) z refl refl
+
+  pub reply-other : (m : List ℕ) (lm : length m ≡ 35) → OtherFor used FromShore (replied made FromShore body l m lm)
+  reply-other m lm r c g =
+      by (one-of-three (g .in-place .before) r (g .in-place .behind) (helloFirst made FromShore body l m lm) (changeNext made FromShore body l m lm) (finishedAt made FromShore body l 46)
+      (same-records _ _ (framingOf (replied made FromShore body l m lm)) (g .in-place .framing) (replied-framed made FromShore body l m lm)))
+    where
+      by : (r ≡ helloFirst made FromShore body l m lm) ⊎ (r ≡ changeNext made FromShore body l m lm) ⊎ (r ≡ finishedAt made FromShore body l 46)
+          → (r .content ≡ C.Handshake) × (r .number ≡ 0)
+      by (inl z) = clear-not used FromShore (replied made FromShore body l m lm) r (helloFirst made FromShore body l m lm) c g z refl
+      by (inr (inl z)) = clear-not used FromShore (replied made FromShore body l m lm) r (changeNext made FromShore body l m lm) c g z refl
+      by (inr (inr z)) = finished-other r (finishedAt made FromShore body l 46) z refl refl
+
+-- the keys that a reply was made with
+abbrev keysFor : Session → List ℕ → List ℕ → Plan → Keys
+keysFor session random m plan =
+    record { secret = session .secret; server = random; client = clientRandom m; mac = plan .mac; refresh = plan .refresh }
+
+module _ (session : Session) (random m : List ℕ) (plan : Plan) (lr : length random ≡ 16) (li : length (session .id) ≡ 8) where
+  hello-35 : length (ourHello session random plan) ≡ 35
+  unfolding ourHello
+  hello-35 = length-server random (session .id) plan ∙ omega (arith, lr, li)
+
+  finished-15 : length (ourFinished session random m plan) ≡ 15
+  unfolding ourFinished
+  finished-15 =
+      fifteen (serverVerify (session .secret) m (ourHello session random plan)) (server-size (session .secret) m (ourHello session random plan))
+
+  reply-made : replyTo session random m plan
+      ≡ replied (keysFor session random m plan) FromShore (ourFinished session random m plan) finished-15 (ourHello session random plan) hello-35
+  unfolding replyTo flightOf finishedRecord recordUnder
+  reply-made =
+      λ i. helloRecord (ourHello session random plan) ++ (changeRecord
+      ++ protectedBy (hmac (macSecret (session .secret) serverExpansion (sym (P.key-zero (plan .refresh)) i) random (clientRandom m))) (sizeOf (plan .mac)) false C.Handshake 0
+      (ourFinished session random m plan))
+
+pub handshakes-are-others : HandshakesAreOthers
+unfolding flightBytes
+handshakes-are-others =
+    record {
+      replies = λ k session random m plan lr li.
+          subst (OtherFor k FromShore) (sym (reply-made session random m plan lr li))
+          (reply-other k (keysFor session random m plan) (ourFinished session random m plan) (finished-15 session random m plan lr li) (ourHello session random plan)
+          (hello-35 session random m plan lr li));
+      flights = λ k made ours l. flight-other k made ours l;
     }
 
 module _ (s : Setting) (ls : ListedSetting s) where

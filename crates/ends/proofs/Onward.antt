@@ -10,7 +10,7 @@ use Rattle.record.specs.declared.reader.Fault.{Fault}
 use Rattle.record.specs.declared.reader.Record.{Record}
 use Rattle.demands.specs.Course.{Course}
 use Rattle.ends.specs.Link.{GenuineFor, Report, Handed, Entry, sends, writes, takes, Linked}
-use Rattle.ends.proofs.Courses.{Holds, Single, Warned, Taken, Runs, reporting, warning, taking, losing, after-report, after-warning, after-seen, after-taken, faulty-none}
+use Rattle.ends.proofs.Courses.{Holds, Single, Warned, Taken, Runs, reporting, warning, taking, losing, after-report, after-warning, after-seen, after-taken, faulty-none, none-other}
 
 module _ (k : Keys) (sense : Sense) (expected : List ℕ) (first width : ℕ) where
   pub record Onward (written : List (List ℕ)) (sent : List Report) (next : ℕ) (seen : List (List ℕ)) (course : Course) (entries rest : List Entry)
@@ -74,7 +74,8 @@ module _ (k : Keys) (sense : Sense) (expected : List ℕ) (first width : ℕ) wh
           written′ = written;
           sent′ = sent;
           seen′ = d ∷ seen;
-          holds = after-seen k sense expected first width written sent next seen course h d (inr (faulty-none k sense expected first width d fault at f));
+          holds = after-seen k sense expected first width written sent next seen course h d
+              (inr (none-other k sense expected first width d (faulty-none k sense expected first width d fault at f)));
           linked = l .1;
           runs = λ r. losing d fault at f r;
         }

@@ -16,8 +16,12 @@ use Rattle.message.specs.Alert.{alertOf, levelOf}
 use Rattle.message.specs.declared.alert.Graded.the-variants as G
 use Rattle.message.specs.declared.alert.Level.{Level}
 use Rattle.message.specs.declared.alert.Level.the-variants as L
+use Rattle.message.specs.declared.acceptance.Plan.{Plan}
 use Rattle.connection.specs.Calls.{sessionOf}
+use Rattle.connection.specs.Reply.{replyTo}
+use Rattle.connection.specs.declared.handshake.Session.{Session}
 use Rattle.connection.specs.declared.state.State.the-variants as S
+use Rattle.unit.specs.Agree.{flightBytes}
 use Rattle.demands.specs.Acts.{Act, SoundActs, behind, actsIn}
 use Rattle.demands.specs.Course.{alertShuts}
 use Rattle.demands.specs.HandedOut.{pastOf}
@@ -28,7 +32,7 @@ use Rattle.demands.specs.Ship.Course.{HoldsNumbers}
 use Rattle.demands.specs.Ship.Runs as Ship
 use Rattle.demands.specs.Ship.Table.{Up}
 use Rattle.ends.specs.Sides.{Ends}
-use Rattle.ends.specs.Link.{GenuineFor, Doing, ashore, aboard, doneBy, traceOf, In, Linked, Delivered}
+use Rattle.ends.specs.Link.{GenuineFor, OtherFor, Doing, ashore, aboard, doneBy, traceOf, In, Linked, Delivered}
 
 -- ---- at the start
 
@@ -126,3 +130,10 @@ unfoldable pub BothEnds : Type 0
 BothEnds =
     (k : Keys) (e : Ends) (by-unit by-shore : List (List ℕ)) (doings : List Doing)
     → (p : Premises k e by-unit by-shore doings) → Reported k e (p .just-open .width) doings
+
+-- Every reply that a shore writes, and every flight that a unit writes, is one of the others that the link may bring, whatever the open
+-- keys are and whatever keys it was made with.
+pub record HandshakesAreOthers : Type 0 where
+  pub replies : (k : Keys) (session : Session) (random m : List ℕ) (plan : Plan) → length random ≡ 16 → length (session .id) ≡ 8
+      → OtherFor k FromShore (replyTo session random m plan)
+  pub flights : (k made : Keys) (ours : List ℕ) → length ours ≡ 15 → OtherFor k FromUnit (flightBytes made ours)

@@ -12,6 +12,7 @@ use Rattle.digest.specs.Mac.{sizeOf}
 use Rattle.record.specs.Code.{fragmentBy}
 use Rattle.record.specs.History.{accepted}
 use Rattle.record.specs.Keys.{secretFor}
+use Rattle.record.specs.declared.header.Content.the-variants as C
 use Rattle.record.specs.declared.keys.Keys.{Keys}
 use Rattle.record.specs.declared.keys.Sense.{Sense}
 use Rattle.record.specs.declared.keys.Sense.the-variants.{FromUnit, FromShore}
@@ -47,6 +48,11 @@ pub record GenuineFor (k : Keys) (sense : Sense) (d : List ℕ) (r : Record) (c 
 -- "without a record genuine under the open keys"
 abbrev pub NoneFor : Keys → Sense → List ℕ → Type 0
 NoneFor k sense d = (r : Record) (c : List ℕ) → GenuineFor k sense d r c → ⊥
+
+-- Of such a datagram a record may be genuine only if it is a handshake message of number 0, as the handshake's own datagrams have: an
+-- end that is open has taken the Finished, number 0, and takes no other of that number.
+abbrev pub OtherFor : Keys → Sense → List ℕ → Type 0
+OtherFor k sense d = (r : Record) (c : List ℕ) → GenuineFor k sense d r c → (r .content ≡ C.Handshake) × (r .number ≡ 0)
 
 -- ---- runs of both ends
 
@@ -183,12 +189,13 @@ In d [] = ⊥
 In d (x ∷ xs) = (d ≡ x) ⊎ In d xs
 
 -- "a channel that may drop, repeat and reorder datagrams that one end wrote to the other and may add any others without a record
--- genuine under the open keys": at each delivery, of those written so far or such another
+-- genuine under the open keys": at each delivery, of those written so far or such another. (A reply or a flight that is written
+-- meanwhile, as it is to a repeated hello or to one that starts another handshake, is one of the others: its Finished has number 0.)
 unfoldable pub Linked : Keys → Sense → List (List ℕ) → List Entry → Type 0
 Linked k sense written [] = Unit
 Linked k sense written (sends report ∷ entries) = Linked k sense (report .datagram ∷ written) entries
 Linked k sense written (writes d ∷ entries) = Linked k sense (d ∷ written) entries
-Linked k sense written (takes d out ∷ entries) = (In d written ⊎ NoneFor k sense d) × Linked k sense written entries
+Linked k sense written (takes d out ∷ entries) = (In d written ⊎ OtherFor k sense d) × Linked k sense written entries
 
 -- ---- what is said of a course
 
