@@ -5,6 +5,7 @@ pub mod Sent
 pub mod Handshake
 pub mod Connection
 pub mod Answer
+pub mod Step
 pub mod Reply
 pub mod Clear
 pub mod Protected
@@ -12,6 +13,7 @@ pub mod Judge
 pub mod Asked
 pub mod Told
 pub mod Receive
+pub mod Later
 pub mod Send
 pub mod Calls
 pub mod Tally
