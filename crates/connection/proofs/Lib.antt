@@ -2,6 +2,7 @@
 pub mod Recorded
 pub mod OpeningRecords
 pub mod Asking
+pub mod Stepping
 pub mod Running
 pub mod Pointing
 pub mod Filling

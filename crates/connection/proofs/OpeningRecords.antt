@@ -1,14 +1,16 @@
 -- A protected record, by its parts: the code under the key for its number, then the window, then the content.
-use mathlib.Core.Path.{_≡_, refl, sym, _∙_, ap}
+use mathlib.Core.Path.{_≡_, refl, sym, _∙_, ap, subst}
 use mathlib.Core.Bool.{Bool, true, false}
 use mathlib.Core.List.{List}
 use Prim.Native.Nat.{ℕ}
 use Rattle.digest.specs.Pick.{pick}
 use Rattle.record.specs.Window.{acceptOf}
+use Rattle.record.specs.Protection as P
 use Rattle.record.specs.Protection.{genuineUnder, contentSize, contentUnder, opening, openedTo, openedBy}
 use Rattle.record.specs.declared.keys.Sense.the-variants.{FromUnit}
 use Rattle.record.specs.declared.window.Acceptance.{Acceptance}
 use Rattle.record.specs.declared.window.Acceptance.the-variants as A
+use Rattle.record.specs.declared.protection.Protection.{Protection}
 use Rattle.record.specs.declared.protection.Opening.{Opening}
 use Rattle.record.specs.declared.protection.Opened.the-variants as O
 use Rattle.record.proofs.Protecting.{forged-as, opened-as}
@@ -54,3 +56,22 @@ module _ (h : Handshake) (kind : Kind) (byte number at : ℕ) (fragment : List �
           ∙ windowed-is (acceptOf (h .protection .window) number)
       told false e =
           ap left (sym (forged-as (h .protection) FromUnit number byte fragment (genuineIn h byte number fragment) refl e))
+
+-- a record that is opened changes nothing of the protection but its window
+abbrev Windowed : Protection → Opening → Type 0
+Windowed p o = P.withWindow p (o .protection .window) ≡ o .protection
+
+windowed-to : (p : Protection) (size : ℕ) (x : Acceptance) → Windowed p (openedTo p size x)
+windowed-to p size A.TooOld = refl
+windowed-to p size A.Repeated = refl
+windowed-to p size (A.New window arrived) = refl
+
+pub opened-window : (p : Protection) (number byte : ℕ) (fragment : List ℕ) → Windowed p (openedBy p FromUnit number byte fragment)
+opened-window p number byte fragment = told (genuineUnder (p .keys) FromUnit number byte fragment) refl
+  where
+    told : (b : Bool) → genuineUnder (p .keys) FromUnit number byte fragment ≡ b → Windowed p (openedBy p FromUnit number byte fragment)
+    told true e =
+        subst (Windowed p) (opened-as p FromUnit number byte fragment (genuineUnder (p .keys) FromUnit number byte fragment) refl e (acceptOf (p .window) number) refl)
+        (windowed-to p (contentSize (p .keys) fragment) (acceptOf (p .window) number))
+    told false e =
+        subst (Windowed p) (forged-as p FromUnit number byte fragment (genuineUnder (p .keys) FromUnit number byte fragment) refl e) refl

@@ -5,6 +5,7 @@ pub mod Sent
 pub mod Handshake
 pub mod Connection
 pub mod Answer
+pub mod Step
 pub mod Reply
 pub mod Clear
 pub mod Protected
@@ -13,6 +14,7 @@ pub mod Asked
 pub mod Told
 pub mod Receive
 pub mod Point
+pub mod Later
 pub mod Send
 pub mod Calls
 pub mod Tally

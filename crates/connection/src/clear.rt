@@ -3,6 +3,7 @@ ghost use Prim.Native.Nat.{ℕ};
 ghost use mathlib.Core.Path.{_≡_};
 ghost use lib.ListN.{length};
 ghost use Rattle.connection.specs.Clear.{greetedBy, greetedAgain, resentBy, isKept, keptSize, changedBy, heardAlert};
+ghost use Rattle.connection.specs.Step.{steppedBy};
 use crate::answer::Answer;
 use crate::answer::Judged;
 use crate::answer::refuse;
@@ -11,7 +12,9 @@ use crate::handshake::Kept;
 use crate::refusal::Refusal;
 use crate::reply::answered;
 use crate::sent::SentRecords;
-use crate::state::State;
+use crate::step;
+use crate::step::Move;
+use crate::step::Step;
 use message::acceptance::Heard;
 use message::acceptance::hear;
 use message::alert;
@@ -91,46 +94,35 @@ fn kept_size(kept: Kept) -> usize
 }
 
 // Change cipher spec: Spec, with an empty window.
-pub(crate) fn change(h: Handshake, fragment: &[u8]) -> Judged
-    ensures { λ r. ⌜ r ≡ changedBy h (now (fragment .entry)) ⌝ }
+pub(crate) fn change(h: Handshake, fragment: &[u8]) -> Step
+    ensures { λ r. ⌜ steppedBy h r ≡ changedBy h (now (fragment .entry)) ⌝ }
 {
-    if !is_change(fragment) {
-        return refuse(h, Refusal::Malformed);
-    }
     let protection = h.protection;
     let window = protection.window;
-    let emptied = protection.with_window(window.emptied());
-    Judged {
-        answer: Answer::Spec,
-        handshake: h.with_protection(emptied).with_state(State::Spec),
+    if !is_change(fragment) {
+        return step::refuse(window, Refusal::Malformed);
     }
+    step::lead(Answer::Spec, window.emptied(), Move::Change)
 }
 
 // A clear alert: it must match one of the records that we sent. Its level decides.
-pub(crate) fn hear_alert(h: Handshake, sent: SentRecords, fragment: &[u8]) -> Judged
-    ensures { λ r. ⌜ r ≡ heardAlert h sent (now (fragment .entry)) ⌝ }
+pub(crate) fn hear_alert(h: Handshake, sent: SentRecords, fragment: &[u8]) -> Step
+    ensures { λ r. ⌜ steppedBy h r ≡ heardAlert h sent (now (fragment .entry)) ⌝ }
 {
+    let protection = h.protection;
+    let window = protection.window;
     match alert::read(fragment) {
-        alert::Reading::Malformed => refuse(h, Refusal::Malformed),
+        alert::Reading::Malformed => step::refuse(window, Refusal::Malformed),
         alert::Reading::WellFormed(a) => {
             if !sent.matches(a.checksum) {
-                return refuse(h, Refusal::Checksum);
+                return step::refuse(window, Refusal::Checksum);
             }
             let level = a.level;
             let description = a.description;
             match level {
-                Level::Warning => Judged {
-                    answer: Answer::Warning(description),
-                    handshake: h,
-                },
-                Level::Critical => Judged {
-                    answer: Answer::Critical(description),
-                    handshake: h.with_state(State::Closed),
-                },
-                Level::Fatal => Judged {
-                    answer: Answer::Fatal(description),
-                    handshake: h.with_state(State::Closed),
-                },
+                Level::Warning => step::lead(Answer::Warning(description), window, Move::Stay),
+                Level::Critical => step::lead(Answer::Critical(description), window, Move::Close),
+                Level::Fatal => step::lead(Answer::Fatal(description), window, Move::Close),
             }
         }
     }

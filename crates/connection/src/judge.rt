@@ -3,6 +3,8 @@ ghost use Prim.Native.Nat.{ℕ, _+_, _<_, _≤_};
 ghost use mathlib.Core.Path.{_≡_};
 ghost use lib.ListN.{length};
 ghost use Rattle.connection.specs.Judge.{judgedRecord, ruledBy};
+ghost use Rattle.connection.specs.Later.{judgedElse, ruledElse};
+ghost use Rattle.connection.specs.Step.{steppedBy};
 use crate::answer::Judged;
 use crate::answer::refuse;
 use crate::clear::change;
@@ -18,6 +20,9 @@ use crate::state::Kind;
 use crate::state::Rule;
 use crate::state::kind_of;
 use crate::state::rule_of;
+use crate::step;
+use crate::step::Step;
+use crate::step::judge_by;
 use record::reader::Record;
 
 // A record of the datagram d: 7, then place and state, then what the table says. `sent` are the records that we sent.
@@ -73,6 +78,48 @@ fn ruled(
             }
             greet_again(h, random, fragment)
         }
+        Rule::Change => judge_by(h, change(h, fragment)),
+        Rule::Hear => judge_by(h, hear_alert(h, sent, fragment)),
+        Rule::OpenRecord => judge_by(
+            h,
+            open_record(h, is, r.byte, r.number, r.start + r.head, fragment),
+        ),
+    }
+}
+
+// The step of a record of the datagram d that is no ClientHello first in it.
+pub(crate) fn step_by(h: Handshake, sent: SentRecords, d: &[u8], r: Record) -> Step
+    requires { ⌜ (0 < r .size) × (r .start + r .head + r .size ≤ length (now d)) ⌝ }
+    ensures { λ s. ⌜ steppedBy h s ≡ judgedElse h sent (now (d .entry)) r ⌝ }
+{
+    let at = r.start + r.head;
+    let fragment = &d[at..at + r.size];
+    let content = r.content;
+    let state = h.state;
+    let is = kind_of(content, r.protected, fragment[0]);
+    ruled_else(h, sent, rule_of(state, is), is, r, fragment)
+}
+
+// What the table's rule does with the fragment of such a record.
+fn ruled_else(
+    h: Handshake,
+    sent: SentRecords,
+    rule: Rule,
+    is: Kind,
+    r: Record,
+    fragment: &[u8],
+) -> Step
+    requires { ⌜ r .start + r .head ≤ 18446744073709551615 ⌝ }
+    ensures { λ s. ⌜ steppedBy h s ≡ ruledElse h sent rule is r (now (fragment .entry)) ⌝ }
+{
+    let protection = h.protection;
+    let window = protection.window;
+    match rule {
+        Rule::Ended => step::refuse(window, Refusal::Ended),
+        Rule::NotAllowed => step::refuse(window, Refusal::NotAllowed),
+        Rule::Resend => step::refuse(window, Refusal::NotAllowed),
+        Rule::Greet => step::refuse(window, Refusal::NotAllowed),
+        Rule::GreetAgain => step::refuse(window, Refusal::NotAllowed),
         Rule::Change => change(h, fragment),
         Rule::Hear => hear_alert(h, sent, fragment),
         Rule::OpenRecord => open_record(h, is, r.byte, r.number, r.start + r.head, fragment),

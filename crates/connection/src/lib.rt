@@ -15,5 +15,6 @@ mod reply;
 pub mod send;
 pub mod sent;
 pub mod state;
+pub mod step;
 pub mod tally;
 pub mod told;

@@ -6,20 +6,35 @@ ghost use Rattle.connection.specs.Receive.{receivedOf, outputOf, takenNu
 ghost use Rattle.digest.specs.Bytes.{laidOver};
 ghost use Rattle.connection.specs.Tally.{countedOf};
 ghost use Rattle.connection.specs.Told.{keptBy};
-ghost use Rattle.record.specs.Datagram.{walkOf};
+ghost use Rattle.connection.specs.Judge.{kindIn};
+ghost use Rattle.connection.specs.Later.{isHello, recordAt, begunOf, begunSent};
+ghost use Rattle.record.specs.Datagram.{walkOf, blank};
 use crate::answer::Answer;
 use crate::answer::Slot;
 use crate::answer::reply_size;
+use crate::asked::asked;
 use crate::asked::whom_of;
 use crate::connection::Connection;
 use crate::handshake::Kept;
+use crate::judge::step_by;
 use crate::refusal::Refusal;
 use crate::refusal::number;
+use crate::state::Kind;
+use crate::state::kind_of;
+use crate::step::led;
+use crate::step::stays;
 use crate::tally::Tally;
+use crate::told::moved;
+use crate::told::open_window;
+use crate::told::started_window;
 use crate::told::tell;
 use record::datagram::Outcome;
 use record::datagram::Walk;
 use record::datagram::walked;
+use record::header::Content;
+use record::reader::Reading;
+use record::reader::Record;
+use record::reader::read;
 
 // How a datagram was taken: so many records, each with its answer; or refused as a whole, a framing fault with the offset
 // of the record at fault.
@@ -122,32 +137,147 @@ fn whole(c: Connection, taken: Taken) -> Received
     }
 }
 
-// The records one after the other, each in the state that those before it left. A reply is the answer to the first record
-// alone, and its bytes are written as that record left them.
+// A datagram begun: the answer to its first record, how many bytes were written, and the connection after it, where that is a
+// ClientHello; else nothing yet. So many records are done, and the next begins at `at`.
+pub struct Begun {
+    pub answer: Answer,
+    pub written: usize,
+    pub connection: Connection,
+    pub done: usize,
+    pub at: usize,
+}
+
+// A reply is the answer to the first record alone, and its bytes are written as that record left them.
+fn begin(c: Connection, d: &[u8], ours: [u8; 16], r: Record, out: &mut [u8]) -> Begun
+    requires { ⌜ (length ours ≡ 16) × ((0 < r .size) × ((r .start + r .head + r .size ≤ length (now d)) × (128 ≤ length (now out)))) ⌝ }
+    ensures { λ b. ⌜ b ≡ begunOf c ours (now (d .entry)) r ⌝ }
+    ensures { λ _. ⌜ now (out .exit) ≡ laidOver (now (out .entry)) 0 (begunSent c ours (now (d .entry)) r) ⌝ }
+{
+    if !is_hello(d, r) {
+        return Begun {
+            answer: Answer::Nothing,
+            written: 0,
+            connection: c,
+            done: 0,
+            at: 0,
+        };
+    }
+    let who = whom_of(c, d, r);
+    let first = tell(c, who, ours, d, r);
+    let answer = first.answer;
+    let left = first.connection;
+    let written = put_reply(kept_by(first.beside, left), answer, out);
+    Begun {
+        answer,
+        written,
+        connection: left,
+        done: 1,
+        at: r.used,
+    }
+}
+
+// Whether a record is a ClientHello.
+fn is_hello(d: &[u8], r: Record) -> bool
+    requires { ⌜ (0 < r .size) × (r .start + r .head + r .size ≤ length (now d)) ⌝ }
+    ensures { λ b. ⌜ b ≡ isHello (kindIn (now (d .entry)) r) ⌝ }
+{
+    let at = r.start + r.head;
+    let fragment = &d[at..at + r.size];
+    let content = r.content;
+    hello_kind(kind_of(content, r.protected, fragment[0]))
+}
+
+fn hello_kind(kind: Kind) -> bool
+    ensures { λ b. ⌜ b ≡ isHello kind ⌝ }
+{
+    match kind {
+        Kind::ClearHello => true,
+        Kind::ClearChange => false,
+        Kind::ClearAlert => false,
+        Kind::OtherClear => false,
+        Kind::ProtectedChange => false,
+        Kind::ProtectedAlert => false,
+        Kind::ProtectedHandshake => false,
+        Kind::ProtectedData => false,
+    }
+}
+
+// The record that stands at a place of the datagram, read again.
+fn record_at(d: &[u8], at: usize) -> Record
+    requires { ⌜ at ≤ length (now d) ⌝ }
+    ensures { λ r. ⌜ r ≡ recordAt (now (d .entry)) at ⌝ }
+{
+    match read(&d[at..]) {
+        Reading::Refused(_) => no_record(),
+        Reading::Sound(found) => {
+            let mut r = found;
+            r.start = at;
+            r
+        }
+    }
+}
+
+// What stands for a record where there is none.
+fn no_record() -> Record
+    ensures { λ r. ⌜ r ≡ blank ⌝ }
+{
+    Record {
+        byte: 0,
+        content: Content::ChangeCipherSpec,
+        protected: false,
+        number: 0,
+        start: 0,
+        head: 0,
+        size: 0,
+        used: 0,
+    }
+}
+
+// The records one after the other, each in the state that those before it left. Where the state stays, the window is stored in its
+// place.
 fn each(c: Connection, d: &[u8], ours: [u8; 16], walk: Walk, out: &mut [u8]) -> Received
     requires { ⌜ (length ours ≡ 16) × ((walk ≡ walkOf (now d)) × ((0 < walk .count) × (128 ≤ length (now out)))) ⌝ }
     ensures { λ r. ⌜ r ≡ runOf c ours (now (d .entry)) (take (walk .count) (walk .records)) ⌝ }
     ensures { λ _. ⌜ now (out .exit) ≡ laidOver (now (out .entry)) 0 (firstReply c ours (now (d .entry)) (take (walk .count) (walk .records))) ⌝ }
 {
-    let records = walk.records;
     let count = walk.count;
-    let who = whom_of(c, d, records[0]);
-    let first = tell(c, who, ours, d, records[0]);
-    let answer = first.answer;
-    let mut left = first.connection;
-    let written = put_reply(kept_by(first.beside, left), answer, out);
+    let begun = begin(c, d, ours, record_at(d, 0), out);
+    let written = begun.written;
+    let answer = begun.answer;
     let nothing = Slot {
         answer: Answer::Nothing,
     };
     let mut answers = [nothing; 8];
     answers[0] = Slot { answer };
-    let mut i: usize = 0;
-    while i + 1 < count {
-        let who = whom_of(left, d, records[i + 1]);
-        let next = tell(left, who, ours, d, records[i + 1]);
-        let answer = next.answer;
-        answers[i + 1] = Slot { answer };
-        left = next.connection;
+    let mut left = begun.connection;
+    let mut at = begun.at;
+    let mut i = begun.done;
+    while i < count {
+        let r = record_at(d, at);
+        let who = whom_of(left, d, r);
+        let h = asked(left, who);
+        let step = step_by(h, left.sent, d, r);
+        let answer = step.answer;
+        answers[i] = Slot { answer };
+        let next = step.next;
+        let window = step.window;
+        if stays(next) {
+            let open = left.handshake;
+            let mine = open.protection;
+            let first = open_window(who, mine.window, window);
+            let beside = left.started;
+            let other = beside.protection;
+            let second = started_window(who, other.window, window);
+            left.handshake.protection.window.width = first.width;
+            left.handshake.protection.window.highest = first.highest;
+            left.handshake.protection.window.marks = first.marks;
+            left.started.protection.window.width = second.width;
+            left.started.protection.window.highest = second.highest;
+            left.started.protection.window.marks = second.marks;
+        } else {
+            left = moved(left, who, led(h, window, next));
+        }
+        at += r.used;
         i += 1;
     }
     Received {

@@ -2,7 +2,8 @@
 ghost use Prim.Native.Nat.{ℕ, _+_, _-_, _<_, _≤_};
 ghost use mathlib.Core.Path.{_≡_};
 ghost use lib.ListN.{length, take, drop};
-ghost use Rattle.connection.specs.Told.{toldRecord, placeOf, placedBy, sentAfter, repliedWith, isBeside};
+ghost use Rattle.connection.specs.Told.{toldRecord, placeOf, placedBy, sentAfter, repliedWith, isBeside, leftWith};
+ghost use Rattle.connection.specs.Later.{openWindow, startedWindow};
 ghost use Rattle.connection.specs.Asked.{whomOf};
 ghost use Rattle.connection.specs.Sent.{sumOf};
 use crate::answer::Answer;
@@ -17,6 +18,7 @@ use crate::sent::SentRecords;
 use crate::state::State;
 use record::checksum::checksum;
 use record::reader::Record;
+use record::window::Window;
 
 // The answer to a record, the connection that it leaves, and whether the started handshake, as it is left, has the reply
 // that is sent; else the other has it.
@@ -55,6 +57,39 @@ pub(crate) fn tell(c: Connection, who: Whom, random: [u8; 16], d: &[u8], r: Reco
         answer,
         connection: placed(c, h, sent_after(sent, h.kept, answer), place),
         beside: is_beside(who),
+    }
+}
+
+// The connection that a step leaves which leads the handshake h, as it is then, elsewhere. Nothing was sent.
+pub(crate) fn moved(c: Connection, who: Whom, h: Handshake) -> Connection
+    ensures { λ r. ⌜ r ≡ leftWith c h (c .sent) who ⌝ }
+{
+    let sent = c.sent;
+    let state = h.state;
+    placed(c, h, sent, place_of(who, state))
+}
+
+// The window of the open handshake, or the only one, where whoever was asked has a new one.
+pub(crate) fn open_window(who: Whom, old: Window, new: Window) -> Window
+    ensures { λ r. ⌜ r ≡ openWindow who old new ⌝ }
+{
+    match who {
+        Whom::Only => new,
+        Whom::Open => new,
+        Whom::Started => old,
+        Whom::Newcomer => old,
+    }
+}
+
+// The window of the started one.
+pub(crate) fn started_window(who: Whom, old: Window, new: Window) -> Window
+    ensures { λ r. ⌜ r ≡ startedWindow who old new ⌝ }
+{
+    match who {
+        Whom::Only => old,
+        Whom::Open => old,
+        Whom::Started => new,
+        Whom::Newcomer => old,
     }
 }
 

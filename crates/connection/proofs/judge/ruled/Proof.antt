@@ -1,4 +1,5 @@
 -- `judge::ruled`: by the rule; a ClientHello by its place.
+use mathlib.Core.Path.{_∙_}
 use Rattle.digest.proofs.Picks.{picks}
 use Rattle.connection.specs.Judge.{ruledBy}
 use borrow.Author.Needs.{needs}
@@ -62,11 +63,17 @@ enum-told-6 c = search needs
 change-requires : tie.Need-change-requires
 change-requires c κs = search needs
 
+judge-by-requires : tie.Need-judge-by-requires
+judge-by-requires c κs = search needs
+
 enum-told-7 : tie.Need-enum-told-7
 enum-told-7 c = search needs
 
 hear-alert-requires : tie.Need-hear-alert-requires
 hear-alert-requires c κs = search needs
+
+judge-by-requires-2 : tie.Need-judge-by-requires-2
+judge-by-requires-2 c κs = search needs
 
 enum-told-8 : tie.Need-enum-told-8
 enum-told-8 c = search needs
@@ -76,6 +83,9 @@ add-open-record c = search needs
 
 open-record-requires : tie.Need-open-record-requires
 open-record-requires c κs = search needs
+
+judge-by-requires-3 : tie.Need-judge-by-requires-3
+judge-by-requires-3 c κs = search needs
 
 returns-4 : tie.Need-returns-4
 unfolding ruledBy
@@ -99,15 +109,15 @@ returns-8 c = rw (c .before .before .before .enum-told5 .given .1) (search picks
 
 returns-9 : tie.Need-returns-9
 unfolding ruledBy
-returns-9 c = rw (c .before .enum-told6 .given .1) (c .change .ensures)
+returns-9 c = rw (c .before .before .enum-told6 .given .1) (c .judge-by .ensures ∙ c .before .change .ensures)
 
 returns-10 : tie.Need-returns-10
 unfolding ruledBy
-returns-10 c = rw (c .before .enum-told7 .given .1) (c .hear-alert .ensures)
+returns-10 c = rw (c .before .before .enum-told7 .given .1) (c .judge-by2 .ensures ∙ c .before .hear-alert .ensures)
 
 returns-11 : tie.Need-returns-11
 unfolding ruledBy
-returns-11 c = rw (c .before .before .enum-told8 .given .1) (c .open-record .ensures)
+returns-11 c = rw (c .before .before .before .enum-told8 .given .1) (c .judge-by3 .ensures ∙ c .before .open-record .ensures)
 
 pub ruled-spec : {M : Type 1} → statement M
 ruled-spec =
@@ -131,11 +141,14 @@ ruled-spec =
     greet-again-requires
     enum-told-6
     change-requires
+    judge-by-requires
     enum-told-7
     hear-alert-requires
+    judge-by-requires-2
     enum-told-8
     add-open-record
     open-record-requires
+    judge-by-requires-3
     returns-4
     returns-5
     returns-6

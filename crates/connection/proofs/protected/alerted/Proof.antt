@@ -1,8 +1,8 @@
 -- `protected::alerted`: by what the alert is, and by its level.
-use borrow.Author.Needs.{needs}
-use mathlib.Core.Path.{_≡_, refl, sym, _∙_}
+use mathlib.Core.Path.{_≡_, refl, sym, _∙_, ap}
 use Rattle.connection.specs.Protected.{alertedBy}
-use Rattle.connection.specs.declared.answer.Answer.the-variants.{Critical, Barred}
+use Rattle.connection.specs.Step.{steppedBy}
+use borrow.Author.Needs.{needs}
 use Rattle.connection.proofs.protected.alerted.Statement.{statement}
 use Rattle.connection.proofs.protected.alerted.Tie as tie
 
@@ -21,33 +21,36 @@ enum-known-a c = search needs
 enum-told-2 : tie.Need-enum-told-2
 enum-told-2 c = search needs
 
+lead-requires : tie.Need-lead-requires
+lead-requires c κs = search needs
+
 enum-told-3 : tie.Need-enum-told-3
 enum-told-3 c = search needs
 
-with-state-requires : tie.Need-with-state-requires
-with-state-requires c κs = search needs
+lead-requires-2 : tie.Need-lead-requires-2
+lead-requires-2 c κs = search needs
 
 enum-told-4 : tie.Need-enum-told-4
 enum-told-4 c = search needs
 
-barred-requires : tie.Need-barred-requires
-barred-requires c κs = search needs
+lead-requires-3 : tie.Need-lead-requires-3
+lead-requires-3 c κs = search needs
 
 returns : tie.Need-returns
 unfolding alertedBy
-returns c = rw (sym (c .before .before .before .read .ensures) ∙ c .before .enum-told .given .1) (c .refuse .ensures)
+returns c = rw (sym (c .before .before .before .read .ensures) ∙ c .before .enum-told .given .1) (ap (steppedBy _) (c .refuse .ensures))
 
 returns-2 : tie.Need-returns-2
 unfolding alertedBy
-returns-2 c = rw (sym (c .before .before .before .before .before .read .ensures) ∙ c .before .before .before .a .given .1) (rw (c .enum-told2 .given .1))
+returns-2 c = rw (sym (c .before .before .before .before .before .before .read .ensures) ∙ c .before .before .before .before .a .given .1) (rw (c .before .enum-told2 .given .1) (ap (steppedBy _) (c .lead .ensures)))
 
 returns-3 : tie.Need-returns-3
 unfolding alertedBy
-returns-3 c = rw (sym (c .before .before .before .before .before .before .read .ensures) ∙ c .before .before .before .before .a .given .1) (rw (c .before .enum-told3 .given .1) (λ i. record { answer = Critical (c .before .before .before .before .a .given .0 .0 .description); handshake = c .with-state .ensures i }))
+returns-3 c = rw (sym (c .before .before .before .before .before .before .read .ensures) ∙ c .before .before .before .before .a .given .1) (rw (c .before .enum-told3 .given .1) (ap (steppedBy _) (c .lead2 .ensures)))
 
 returns-4 : tie.Need-returns-4
 unfolding alertedBy
-returns-4 c = rw (sym (c .before .before .before .before .before .before .read .ensures) ∙ c .before .before .before .before .a .given .1) (rw (c .before .enum-told4 .given .1) (λ i. record { answer = Barred (c .before .before .before .before .a .given .0 .0 .description); handshake = c .barred .ensures i }))
+returns-4 c = rw (sym (c .before .before .before .before .before .before .read .ensures) ∙ c .before .before .before .before .a .given .1) (rw (c .before .enum-told4 .given .1) (ap (steppedBy _) (c .lead3 .ensures)))
 
 pub alerted-spec : {M : Type 1} → statement M
 alerted-spec =
@@ -58,10 +61,11 @@ alerted-spec =
     refuse-requires
     enum-known-a
     enum-told-2
+    lead-requires
     enum-told-3
-    with-state-requires
+    lead-requires-2
     enum-told-4
-    barred-requires
+    lead-requires-3
     returns
     returns-2
     returns-3

@@ -1,7 +1,10 @@
 -- `protected::content`: by the kind.
-use mathlib.Core.Path.{_≡_, refl}
+use mathlib.Core.Path.{_≡_, refl, ap}
+use lib.ListN.{length}
+use native.Mathlib.Omega.{arith}
+use Rattle.digest.proofs.Picks.{if-eq, if-ne}
 use Rattle.connection.specs.Protected.{contentBy}
-use Rattle.digest.proofs.Picks.{picks}
+use Rattle.connection.specs.Step.{steppedBy}
 use borrow.Author.Needs.{needs}
 use Rattle.connection.proofs.protected.content.Statement.{statement}
 use Rattle.connection.proofs.protected.content.Tie as tie
@@ -14,7 +17,10 @@ refuse-requires c κs = search needs
 
 returns : tie.Need-returns
 unfolding contentBy
-returns c = rw (c .before .before .enum-told .given .1) (search picks depth 2)
+returns c = rw (c .before .before .enum-told .given .1) (if-eq _ (length (c .before .before .before .before .before .args .content .now)) 0 (omega arith) (ap (steppedBy _) (c .refuse .ensures)))
+
+lead-requires : tie.Need-lead-requires
+lead-requires c κs = search needs
 
 enum-told-2 : tie.Need-enum-told-2
 enum-told-2 c = search needs
@@ -60,7 +66,7 @@ refuse-requires-6 c κs = search needs
 
 returns-2 : tie.Need-returns-2
 unfolding contentBy
-returns-2 c = rw (c .before .enum-told .given .1) (search picks depth 2)
+returns-2 c = rw (c .before .before .enum-told .given .1) (if-ne _ (length (c .before .before .before .before .before .args .content .now)) 0 (λ z. omega arith) (ap (steppedBy _) (c .lead .ensures)))
 
 returns-3 : tie.Need-returns-3
 unfolding contentBy
@@ -72,23 +78,23 @@ returns-4 c = rw (c .before .enum-told3 .given .1) (c .verified .ensures)
 
 returns-5 : tie.Need-returns-5
 unfolding contentBy
-returns-5 c = rw (c .before .enum-told4 .given .1) (c .refuse2 .ensures)
+returns-5 c = rw (c .before .enum-told4 .given .1) (ap (steppedBy _) (c .refuse2 .ensures))
 
 returns-6 : tie.Need-returns-6
 unfolding contentBy
-returns-6 c = rw (c .before .enum-told5 .given .1) (c .refuse3 .ensures)
+returns-6 c = rw (c .before .enum-told5 .given .1) (ap (steppedBy _) (c .refuse3 .ensures))
 
 returns-7 : tie.Need-returns-7
 unfolding contentBy
-returns-7 c = rw (c .before .enum-told6 .given .1) (c .refuse4 .ensures)
+returns-7 c = rw (c .before .enum-told6 .given .1) (ap (steppedBy _) (c .refuse4 .ensures))
 
 returns-8 : tie.Need-returns-8
 unfolding contentBy
-returns-8 c = rw (c .before .enum-told7 .given .1) (c .refuse5 .ensures)
+returns-8 c = rw (c .before .enum-told7 .given .1) (ap (steppedBy _) (c .refuse5 .ensures))
 
 returns-9 : tie.Need-returns-9
 unfolding contentBy
-returns-9 c = rw (c .before .enum-told8 .given .1) (c .refuse6 .ensures)
+returns-9 c = rw (c .before .enum-told8 .given .1) (ap (steppedBy _) (c .refuse6 .ensures))
 
 pub content-spec : {M : Type 1} → statement M
 content-spec =
@@ -97,6 +103,7 @@ content-spec =
     enum-told
     refuse-requires
     returns
+    lead-requires
     enum-told-2
     alerted-requires
     enum-told-3

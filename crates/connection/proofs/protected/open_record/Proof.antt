@@ -5,7 +5,9 @@ use lib.Seq.{length-take-le}
 use Rattle.record.specs.declared.keys.Sense.the-variants.{FromUnit}
 use Rattle.record.specs.declared.protection.Opening.{Opening}
 use Rattle.record.proofs.Protected.{new-within}
-use Rattle.connection.specs.Handshake.{withProtection}
+use Rattle.connection.specs.Handshake.{withProtection, withWindow}
+use Rattle.connection.specs.Step.{steppedBy}
+use Rattle.connection.proofs.OpeningRecords.{opened-window}
 use Rattle.connection.specs.Protected.{openedRecord, contentBy}
 use borrow.Author.Needs.{needs}
 use native.Mathlib.Omega.{arith}
@@ -36,9 +38,6 @@ refuse-requires-3 c κs = search needs
 enum-known-opened : tie.Need-enum-known-opened
 enum-known-opened c = search needs
 
-with-protection-requires : tie.Need-with-protection-requires
-with-protection-requires c κs = search needs
-
 slice-aggregate-content : tie.Need-slice-aggregate-content
 slice-aggregate-content c =
     let a = c .before .before .before .before .before .before .before .before .args in
@@ -50,21 +49,22 @@ content-requires c κs = search needs
 
 returns : tie.Need-returns
 unfolding openedRecord
-returns c = rw (sym (ap (λ (o : Opening). o .opened) (c .before .before .before .«open» .ensures)) ∙ c .before .enum-told .given .1) (c .refuse .ensures)
+returns c = rw (sym (ap (λ (o : Opening). o .opened) (c .before .before .before .«open» .ensures)) ∙ c .before .enum-told .given .1) (ap (steppedBy _) (c .refuse .ensures))
 
 returns-2 : tie.Need-returns-2
 unfolding openedRecord
-returns-2 c = rw (sym (ap (λ (o : Opening). o .opened) (c .before .before .before .«open» .ensures)) ∙ c .before .enum-told2 .given .1) (c .refuse2 .ensures)
+returns-2 c = rw (sym (ap (λ (o : Opening). o .opened) (c .before .before .before .«open» .ensures)) ∙ c .before .enum-told2 .given .1) (ap (steppedBy _) (c .refuse2 .ensures))
 
 returns-3 : tie.Need-returns-3
 unfolding openedRecord
-returns-3 c = rw (sym (ap (λ (o : Opening). o .opened) (c .before .before .before .«open» .ensures)) ∙ c .before .enum-told3 .given .1) (c .refuse3 .ensures)
+returns-3 c = rw (sym (ap (λ (o : Opening). o .opened) (c .before .before .before .«open» .ensures)) ∙ c .before .enum-told3 .given .1) (ap (steppedBy _) (c .refuse3 .ensures))
 
 returns-4 : tie.Need-returns-4
 unfolding openedRecord
 returns-4 c =
     let a = c .before .before .before .before .before .before .before .before .before .args in
-    let left = c .before .before .with-protection .ensures ∙ ap (λ (o : Opening). withProtection (a .h) (o .protection)) (c .before .before .before .before .before .before .«open» .ensures) in
+    let left = ap (λ (o : Opening). withWindow (a .h) (o .protection .window)) (c .before .before .before .before .before .before .«open» .ensures)
+    ∙ ap (withProtection (a .h)) (opened-window (a .h .protection) (a .number) (a .byte) (a .fragment .now)) in
     rw (sym (ap (λ (o : Opening). o .opened) (c .before .before .before .before .before .before .«open» .ensures)) ∙ c .before .before .before .before .opened .given .1)
     (c .content .ensures ∙ (λ i. contentBy (left i) (a .kind) (a .number) (a .at) (take (c .before .before .before .before .opened .given .0 .0) (a .fragment .now))))
 
@@ -80,7 +80,6 @@ open-record-spec =
     enum-told-3
     refuse-requires-3
     enum-known-opened
-    with-protection-requires
     slice-aggregate-content
     content-requires
     returns

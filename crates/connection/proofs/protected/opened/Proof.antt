@@ -1,12 +1,17 @@
 -- `protected::opened`: by the state.
 use mathlib.Core.Path.{sym, _∙_, ap}
-use borrow.Author.Needs.{needs}
+use Rattle.connection.specs.Handshake.{withWindow}
 use Rattle.connection.specs.Protected.{finishedIn}
+use Rattle.connection.specs.Step.{steppedBy}
+use borrow.Author.Needs.{needs}
 use Rattle.connection.proofs.protected.opened.Statement.{statement}
 use Rattle.connection.proofs.protected.opened.Tie as tie
 
 enum-told : tie.Need-enum-told
 enum-told c = search needs
+
+lead-requires : tie.Need-lead-requires
+lead-requires c κs = search needs
 
 enum-told-2 : tie.Need-enum-told-2
 enum-told-2 c = search needs
@@ -23,8 +28,8 @@ refuse-requires-2 c κs = search needs
 enum-told-4 : tie.Need-enum-told-4
 enum-told-4 c = search needs
 
-open-requires : tie.Need-open-requires
-open-requires c κs = search needs
+lead-requires-2 : tie.Need-lead-requires-2
+lead-requires-2 c κs = search needs
 
 enum-told-5 : tie.Need-enum-told-5
 enum-told-5 c = search needs
@@ -39,34 +44,35 @@ refuse-requires-4 : tie.Need-refuse-requires-4
 refuse-requires-4 c κs = search needs
 
 returns : tie.Need-returns
-returns c = rw (c .enum-told .given .1)
+returns c = let a = c .before .before .before .args in ap (steppedBy (a .h)) (c .lead .ensures) ∙ sym (ap (finishedIn (withWindow (a .h) (a .window))) (c .before .enum-told .given .1))
 
 returns-2 : tie.Need-returns-2
-returns-2 c = c .refuse .ensures ∙ sym (ap (finishedIn (c .before .before .before .args .h)) (c .before .enum-told2 .given .1))
+returns-2 c = let a = c .before .before .before .args in ap (steppedBy (a .h)) (c .refuse .ensures) ∙ sym (ap (finishedIn (withWindow (a .h) (a .window))) (c .before .enum-told2 .given .1))
 
 returns-3 : tie.Need-returns-3
-returns-3 c = c .refuse2 .ensures ∙ sym (ap (finishedIn (c .before .before .before .args .h)) (c .before .enum-told3 .given .1))
+returns-3 c = let a = c .before .before .before .args in ap (steppedBy (a .h)) (c .refuse2 .ensures) ∙ sym (ap (finishedIn (withWindow (a .h) (a .window))) (c .before .enum-told3 .given .1))
 
 returns-4 : tie.Need-returns-4
-returns-4 c = rw (c .before .enum-told4 .given .1) (c .«open» .ensures)
+returns-4 c = let a = c .before .before .before .args in ap (steppedBy (a .h)) (c .lead2 .ensures) ∙ sym (ap (finishedIn (withWindow (a .h) (a .window))) (c .before .enum-told4 .given .1))
 
 returns-5 : tie.Need-returns-5
-returns-5 c = c .refuse3 .ensures ∙ sym (ap (finishedIn (c .before .before .before .args .h)) (c .before .enum-told5 .given .1))
+returns-5 c = let a = c .before .before .before .args in ap (steppedBy (a .h)) (c .refuse3 .ensures) ∙ sym (ap (finishedIn (withWindow (a .h) (a .window))) (c .before .enum-told5 .given .1))
 
 returns-6 : tie.Need-returns-6
-returns-6 c = c .refuse4 .ensures ∙ sym (ap (finishedIn (c .before .before .before .args .h)) (c .before .enum-told6 .given .1))
+returns-6 c = let a = c .before .before .before .args in ap (steppedBy (a .h)) (c .refuse4 .ensures) ∙ sym (ap (finishedIn (withWindow (a .h) (a .window))) (c .before .enum-told6 .given .1))
 
 pub opened-spec : {M : Type 1} → statement M
 opened-spec =
     tie.close
     (tie.spec
     enum-told
+    lead-requires
     enum-told-2
     refuse-requires
     enum-told-3
     refuse-requires-2
     enum-told-4
-    open-requires
+    lead-requires-2
     enum-told-5
     refuse-requires-3
     enum-told-6

@@ -1,8 +1,7 @@
 -- `protected::verified`: by what the message is.
-use mathlib.Core.Path.{_≡_, sym, _∙_}
+use mathlib.Core.Path.{_≡_, sym, _∙_, ap}
 use Rattle.connection.specs.Protected.{verifiedBy}
-use Rattle.connection.specs.declared.answer.Answer.the-variants.{Refused}
-use Rattle.connection.specs.declared.refusal.Refusal.the-variants.{WrongFinished}
+use Rattle.connection.specs.Step.{steppedBy}
 use borrow.Author.Needs.{needs}
 use Rattle.connection.proofs.protected.verified.Statement.{statement}
 use Rattle.connection.proofs.protected.verified.Tie as tie
@@ -22,8 +21,8 @@ refuse-requires c κs = search needs
 enum-told-2 : tie.Need-enum-told-2
 enum-told-2 c = search needs
 
-with-state-requires : tie.Need-with-state-requires
-with-state-requires c κs = search needs
+lead-requires : tie.Need-lead-requires
+lead-requires c κs = search needs
 
 enum-told-3 : tie.Need-enum-told-3
 enum-told-3 c = search needs
@@ -33,11 +32,11 @@ opened-requires c κs = search needs
 
 returns : tie.Need-returns
 unfolding verifiedBy
-returns c = rw (sym (c .before .before .before .judge .ensures) ∙ c .before .enum-told .given .1) (c .refuse .ensures)
+returns c = rw (sym (c .before .before .before .judge .ensures) ∙ c .before .enum-told .given .1) (ap (steppedBy _) (c .refuse .ensures))
 
 returns-2 : tie.Need-returns-2
 unfolding verifiedBy
-returns-2 c = rw (sym (c .before .before .before .judge .ensures) ∙ c .before .enum-told2 .given .1) (λ i. record { answer = Refused WrongFinished; handshake = c .with-state .ensures i })
+returns-2 c = rw (sym (c .before .before .before .judge .ensures) ∙ c .before .enum-told2 .given .1) (ap (steppedBy _) (c .lead .ensures))
 
 returns-3 : tie.Need-returns-3
 unfolding verifiedBy
@@ -52,7 +51,7 @@ verified-spec =
     enum-told
     refuse-requires
     enum-told-2
-    with-state-requires
+    lead-requires
     enum-told-3
     opened-requires
     returns
