@@ -239,8 +239,8 @@ fn a_new_start() {
     wait_for("the second report", || place.listed(0).len() == 2);
     fs::write(place.sessions(), good).unwrap();
     place.plant(2);
-    // Asked for many times: some of them come while it starts.
-    for _ in 0..30 {
+    // Asked for many times, over several starts: some of them come while it starts.
+    for _ in 0..300 {
         signal(&gatewayd.child, "HUP");
     }
     ship.send(&ship.data(3));
