@@ -12,3 +12,9 @@ pub mod ExactlyReceive
 pub mod Refusals
 pub mod LeftOut
 pub mod Barred
+pub mod Past
+pub mod Kept
+pub mod Finished
+pub mod Counts
+pub mod Again
+pub mod Demands
