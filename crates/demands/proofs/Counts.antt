@@ -52,7 +52,7 @@ bumped-is n =
     not-yet n l = omega arith
 
 -- the tally of four counts
-abbrev tallyOf : ℕ → ℕ → ℕ → ℕ → Tally
+abbrev pub tallyOf : ℕ → ℕ → ℕ → ℕ → Tally
 tallyOf a b c e = record { handed = upToStop a; forged = upToStop b; old = upToStop c; repeated = upToStop e }
 
 module _ (a b c e : ℕ) where
@@ -138,7 +138,7 @@ module _ (a b c e : ℕ) (slots : List Slot) where
       ∙ one-answer (a + countIn isData (take n slots)) (b + countIn (refusedAs isForged) (take n slots)) (c + countIn (refusedAs isOld) (take n slots)) (e + countIn (refusedAs isRepeated) (take n slots)) (getD slots n (slot W.Nothing) .answer)
       ∙ λ i. tallyOf (regroup isData a n l i) (regroup (refusedAs isForged) b n l i) (regroup (refusedAs isOld) c n l i) (regroup (refusedAs isRepeated) e n l i)
 
-  eight-counts : length slots ≡ 8
+  pub eight-counts : length slots ≡ 8
       → countedOf (tallyOf a b c e) slots ≡ tallyOf (a + countIn isData slots) (b + countIn (refusedAs isForged) slots) (c + countIn (refusedAs isOld) slots) (e + countIn (refusedAs isRepeated) slots)
   eight-counts l =
       let all : take 8 slots ≡ slots = take-all 8 slots (omega arith) in

@@ -10,3 +10,4 @@ pub mod ExactlyReceive
 pub mod Refusals
 pub mod LeftOut
 pub mod Barred
+pub mod Kept

@@ -12,3 +12,5 @@ pub mod ExactlyReceive
 pub mod Refusals
 pub mod LeftOut
 pub mod Barred
+pub mod Past
+pub mod Kept
