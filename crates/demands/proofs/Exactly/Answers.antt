@@ -27,7 +27,7 @@ use Rattle.demands.specs.Exactly.Whole.{CallFits, headAt, sizeAt, startO
 use Rattle.demands.specs.Exactly.Record.{seenAt, WhyRecord, ExactlyRecord}
 use Rattle.demands.specs.Exactly.Answers.{answerGiven, ExactlyAnswers}
 use Rattle.demands.specs.Exactly.All.{GivenExactlyWhen}
-use Rattle.demands.proofs.Exactly.Reasons.{numbered}
+use Rattle.demands.proofs.Exactly.Reasons.{numbered, contents-numbered}
 use Rattle.demands.proofs.Exactly.Sends.{exactly-data, exactly-alert}
 use Rattle.demands.proofs.Exactly.Calls.{exactly-start, exactly-close, exactly-fresh}
 use Rattle.demands.proofs.Exactly.Reading.{head-is, size-is}
@@ -109,6 +109,7 @@ pub given-exactly-when : GivenExactlyWhen stepOf
 given-exactly-when =
     record {
       numbers = numbered;
+      contents = contents-numbered;
       fresh-connection = exactly-fresh;
       receive-whole = exactly-receive;
       receive-each = exactly-answers;

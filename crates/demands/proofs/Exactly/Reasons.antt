@@ -9,7 +9,12 @@ use native.Mathlib.Omega.{arith}
 use Rattle.connection.specs.declared.calls.Outcome.{Outcome}
 use Rattle.connection.specs.declared.calls.Outcome.the-variants.{Done, Refused}
 use Rattle.connection.specs.declared.refusal.Refusal.{Refusal}
-use Rattle.demands.specs.Exactly.Numbers.{Numbered}
+use Rattle.record.specs.Header.{contentOf}
+use Rattle.demands.specs.Exactly.Numbers.{Numbered, ContentsNumbered}
+
+pub contents-numbered : ContentsNumbered
+unfolding contentOf
+contents-numbered = record { one = refl; two = refl; three = refl; four = refl }
 
 pub numbered : Numbered
 numbered =

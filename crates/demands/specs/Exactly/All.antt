@@ -1,6 +1,6 @@
 -- 01, "Refusal numbers | Given exactly when", as one statement over a gateway.
 use Rattle.demands.specs.Runs.{Gateway}
-use Rattle.demands.specs.Exactly.Numbers.{Numbered}
+use Rattle.demands.specs.Exactly.Numbers.{Numbered, ContentsNumbered}
 use Rattle.demands.specs.Exactly.Sends.{ExactlyData, ExactlyAlert}
 use Rattle.demands.specs.Exactly.Calls.{ExactlyStart, ExactlyClose, ExactlyFresh}
 use Rattle.demands.specs.Exactly.Whole.{ExactlyReceive}
@@ -9,6 +9,7 @@ use Rattle.demands.specs.Exactly.Answers.{ExactlyAnswers}
 
 pub record GivenExactlyWhen (g : Gateway) : Type 0 where
   pub numbers : Numbered
+  pub contents : ContentsNumbered
   -- fresh connection: 16
   pub fresh-connection : ExactlyFresh
   -- receive: 16, 6, 1, then framing 5, 3, 2, 4 with the offset

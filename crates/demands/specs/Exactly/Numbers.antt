@@ -7,6 +7,8 @@ use mathlib.Core.List.{List, [], _∷_}
 use Prim.Native.Nat.{ℕ}
 use lib.Dec.{eqb}
 use Rattle.digest.specs.Pick.{pick}
+use Rattle.record.specs.Header.{contentOf}
+use Rattle.record.specs.declared.header.Content.the-variants as C
 use Rattle.record.specs.declared.reader.Fault.the-variants as F
 use Rattle.connection.specs.Refusal.{refusalNumber}
 use Rattle.connection.specs.declared.refusal.Refusal.the-variants as X
@@ -29,6 +31,13 @@ pub record Numbered : Type 0 where
   pub fifteen : refusalNumber X.Spent ≡ 15
   pub sixteen : refusalNumber X.Argument ≡ 16
   pub seventeen : refusalNumber X.WrongFinished ≡ 17
+
+-- 01, "Type byte": "bits 4 to 7 content: 1 change cipher spec, 2 alert, 3 handshake, 4 application data"
+pub record ContentsNumbered : Type 0 where
+  pub one : contentOf 1 ≡ C.ChangeCipherSpec
+  pub two : contentOf 2 ≡ C.Alert
+  pub three : contentOf 3 ≡ C.Handshake
+  pub four : contentOf 4 ≡ C.Data
 
 -- 002 10.2, AlertDescription: the numbers that are assigned
 abbrev pub assignedNumbers : List ℕ
