@@ -29,7 +29,7 @@ pub fn answer(options: &Options, given: &[u8], call: &Call) -> Result<String, Fa
     let unknown = || Failure { status: 2, what: format!("no session of {}", options.ship) };
     let mut ship = Ship::fresh(session.ok_or_else(unknown)?, Instant::now()).map_err(failure(4))?;
     load(&options.store, &mut ship).map_err(failure(4))?;
-    // What a hello would be answered with bears on no reason.
+    // Of the first record the random bears on no reason; behind a hello in the same datagram it may.
     let asked = call(asked(&ship), options.edition, &datagram, &[0; 16], options.index);
     let why = asked.and_then(|facts| facts::read(&facts, &datagram));
     let why = why.ok_or_else(|| failure(4)("the library gives no answer".to_string()))?;
