@@ -32,7 +32,6 @@ use Rattle.unit.specs.Hello.{helloDatagram, offerOf, mayHello, greetedWith, hel
 use Rattle.unit.specs.Judge.{kindIn, judgedRecord}
 use Rattle.unit.specs.Receive.{endOf, answersOf, flightIn, runOf, wholeOf, framedTo, sentOf, receivedOf, outputOf}
 use Rattle.unit.specs.Send.{mayProtect, mayClear, dataSent, alertSentBy, alertSentAs, alertSent}
-use Rattle.unit.specs.State.{settled}
 use Rattle.unit.specs.Unit.{withState, withWindow, opened}
 use Rattle.unit.specs.declared.state.State.{State}
 use Rattle.unit.specs.declared.state.State.the-variants as S
@@ -42,17 +41,17 @@ use Rattle.unit.specs.declared.agree.Judged.{Judged}
 use Rattle.unit.specs.declared.send.Sent.{Sent}
 use Rattle.unit.specs.declared.unit.Unit.{Unit as Ship}
 use Rattle.demands.specs.Refusals.{NotDone}
-use Rattle.demands.specs.Ship.Table.{Marked, Row, New}
-use Rattle.demands.specs.Ship.Table.{no-change, no-alert, no-message, no-data, some-data, protected-warning, repeated-finished, protected-critical, protected-request, finished-again, wrong-finished}
+use Rattle.demands.specs.Ship.Table.{Marked, Row, New, forgotten}
+use Rattle.demands.specs.Ship.Table.{no-change, no-alert, no-message, no-data, some-data, protected-warning, repeated-finished, protected-critical, protected-ignored, protected-reported, finished-again, wrong-finished}
 use Rattle.demands.specs.Ship.Table.{row-stays, row-shuts, row-hello, row-change, row-marked, row-opens, row-bars}
 use Rattle.demands.specs.Ship.Runs.{Call, hello, again, receive, send-data, send-alert, close, start, stepOf, finalOf}
 use Rattle.demands.specs.Ship.Refusals.{lentBy, writtenBy, RefusedCallChangesNothing}
 use Rattle.demands.specs.Ship.Events.{Event, took, greeting, repeating, sending, alerting, closing, starting, next}
-use Rattle.demands.specs.Ship.Barred.{FatalUnderCode, BarredOnlyByFatal, BarredForGood}
+use Rattle.demands.specs.Ship.Barred.{FatalUnderCode, Forgot, FatalBars, BarredOnlyByFatal, BarredForGood}
 use Rattle.demands.proofs.Exactly.Reasons.{decide}
-use Rattle.demands.proofs.Ship.Table.{row-of}
+use Rattle.demands.proofs.Ship.Table.{row-of, row-is}
 use Rattle.demands.proofs.Ship.Changes.{data-alike, alert-alike, again-same, hello-refused}
-use Rattle.demands.proofs.Ship.HandedOut.{kind-content}
+use Rattle.demands.proofs.Ship.HandedOut.{kind-content, content-kind-in}
 use Rattle.demands.proofs.Ship.Refusals.{refused-call}
 use Rattle.demands.proofs.Ship.LeftOut.{over-seven}
 
@@ -163,17 +162,23 @@ pub barred-for-good : BarredForGood
 unfolding BarredForGood
 barred-for-good u b = (final-same u b, λ call. (call-same u b call .1, call-same u b call .2))
 
--- ---- only by a fatal alert
+-- ---- by a fatal alert
 
-settled-barred : (s : State) → settled s ≡ S.Barred → s ≡ S.Barred
-settled-barred S.Idle e = e
-settled-barred S.Sent e = e
-settled-barred S.Replied e = e
-settled-barred S.Spec e = e
-settled-barred S.Opening e = let z : _≡_ {A = ℕ} 0 1 = cc in absurd (omega arith)
-settled-barred S.Open e = e
-settled-barred S.Closed e = e
-settled-barred S.Barred e = e
+forgot : (u : Ship) → Forgot (forgotten u)
+forgot u = record { state-is = refl; id-is = refl; secret-is = refl; server-is = refl; client-is = refl; expected-is = refl }
+
+pub fatal-bars : FatalBars
+unfolding FatalBars
+fatal-bars u e f =
+    let kind = content-kind-in (f .d) (f .r) C.Alert (f .new .coded .is-protected) (f .alert) in
+    let row = row-bars (f .c) (f .w) (f .a) (f .new) kind (f .well-formed) (f .fatal) in
+    subst (λ x. Forgot (next u x)) (sym (f .event))
+    (subst (λ j. Forgot (j .unit)) (sym (row-is u (f .d) (f .r) row)) (forgot (withWindow u (f .w))))
+
+-- ---- and only by one
+
+open-not : {P : Type 0} → S.Open ≡ S.Barred → P
+open-not e = let z : _≡_ {A = ℕ} 0 1 = cc in absurd (omega arith)
 
 no-state : {P : Type 0} → S.Closed ≡ S.Barred → P
 no-state e = let z : _≡_ {A = ℕ} 0 1 = cc in absurd (omega arith)
@@ -184,11 +189,12 @@ module _ (u : Ship) (not : u .state ≢ S.Barred) where
   marked-not d r c (no-alert k q) e = absurd (not e)
   marked-not d r c (no-message k q v) e = absurd (not e)
   marked-not d r c (no-data k z) e = absurd (not e)
-  marked-not d r c (some-data k z) e = absurd (not (settled-barred (u .state) e))
+  marked-not d r c (some-data k z) e = open-not e
   marked-not d r c (protected-warning a k q l z) e = absurd (not e)
-  marked-not d r c (repeated-finished a k q l z) e = absurd (not (settled-barred (u .state) e))
+  marked-not d r c (repeated-finished a k q l z o) e = open-not e
   marked-not d r c (protected-critical a k q l) e = no-state e
-  marked-not d r c (protected-request k q) e = absurd (not e)
+  marked-not d r c (protected-ignored k q o) e = absurd (not e)
+  marked-not d r c (protected-reported k q o) e = absurd (not e)
   marked-not d r c (finished-again k q v o) e = absurd (not e)
   marked-not d r c (wrong-finished k q v) e = no-state e
 

@@ -7,7 +7,7 @@ use Rattle.demands.proofs.Ship.Changes.{sends-change-only, again-change
 use Rattle.demands.proofs.Ship.Again.{again-same-datagram}
 use Rattle.demands.proofs.Ship.Kept.{window-is-what-happened}
 use Rattle.demands.proofs.Ship.Finished.{only-after-finished}
-use Rattle.demands.proofs.Ship.Barred.{barred-only-by-fatal, barred-for-good}
+use Rattle.demands.proofs.Ship.Barred.{fatal-bars, barred-only-by-fatal, barred-for-good}
 use Rattle.demands.proofs.Ship.LeftOut.{leaves-out}
 use Rattle.demands.proofs.Ship.HandedOut.{goes-along, handed-out, handed-once}
 use Rattle.demands.proofs.Ship.Counts.{counts-right}
@@ -23,6 +23,7 @@ demands =
         again-same = again-same-datagram;
         window = window-is-what-happened;
         only-after-finished = only-after-finished;
+        fatal-bars = fatal-bars;
         only-by-fatal = barred-only-by-fatal;
         for-good = barred-for-good;
       };

@@ -36,7 +36,6 @@ use Rattle.connection.specs.Sent.{matchesOf}
 use Rattle.connection.specs.declared.refusal.Refusal.{Refusal}
 use Rattle.connection.specs.declared.refusal.Refusal.the-variants as X
 use Rattle.unit.specs.State.{kindOf, ruleOf}
-use Rattle.unit.specs.Clear.{requestIn}
 use Rattle.unit.specs.Judge.{kindIn, judgedRecord}
 use Rattle.unit.specs.declared.state.State.{State}
 use Rattle.unit.specs.declared.state.State.the-variants as S
@@ -54,8 +53,8 @@ use Rattle.demands.specs.Exactly.Record.{SeenInPlace, seenAt, IsAlert, I
 use Rattle.demands.specs.Ship.Genuine.{Protected}
 use Rattle.demands.specs.Ship.Table.{Midway, Up, Over, Ruled, New, Stays, Shuts, Marked, Row}
 use Rattle.demands.specs.Ship.Table as Z
-use Rattle.demands.specs.Ship.Table.{at-end, not-allowed, not-first, forged, too-old, repeated, unacceptable, checksum, request, warning}
-use Rattle.demands.specs.Ship.Table.{critical, fatal, no-change, no-alert, no-message, no-data, some-data, protected-warning, repeated-finished, protected-critical, protected-request, finished-again, wrong-finished}
+use Rattle.demands.specs.Ship.Table.{at-end, not-allowed, not-first, forged, too-old, repeated, unacceptable, checksum, ignored-request, reported-request, warning}
+use Rattle.demands.specs.Ship.Table.{critical, fatal, no-change, no-alert, no-message, no-data, some-data, protected-warning, repeated-finished, protected-critical, protected-ignored, protected-reported, finished-again, wrong-finished}
 use Rattle.demands.specs.Ship.Table.{row-stays, row-shuts, row-hello, row-change, row-marked, row-opens, row-bars}
 use Rattle.demands.specs.Ship.Course.{HoldsNumbers}
 use Rattle.demands.specs.Ship.ExactlyRecord.{Begins, IsHello, IsRequest, requestBytes, GuardedAs, Allowed, CodedAs, NewAs, WellFormedHello, Acceptable, WhyMalformed, WhyRecord, ExactlyRecord}
@@ -272,16 +271,6 @@ module _ (u : Ship) (numbers d : List ℕ) (r : Record) (bytes : Bytes (fragment
   AnswerHolds (W.Barred description) = Unit
   AnswerHolds (W.Refused x) = Why x
 
-  request-holds : (s : State) → u .state ≡ s → AnswerHolds (requestIn s)
-  request-holds S.Idle e = tt
-  request-holds S.Sent e = tt
-  request-holds S.Replied e = tt
-  request-holds S.Spec e = tt
-  request-holds S.Opening e = tt
-  request-holds S.Open e = tt
-  request-holds S.Closed e = inl e
-  request-holds S.Barred e = inr e
-
   not-alert-so : (c : List ℕ) → alertOf c ≡ R.Malformed → IsAlert c → ⊥
   not-alert-so c e = subst (AlertHolds c) e (alert-holds c)
 
@@ -315,7 +304,8 @@ module _ (u : Ship) (numbers d : List ℕ) (r : Record) (bytes : Bytes (fragment
       let s = seen-kind K.ClearAlert (t .1) in
       let w : AlertHolds f (R.WellFormed a) = subst (AlertHolds f) y (alert-holds f) in
       (t .0, s .0, s .1, w .0, ap (matchesOf (u .sent)) (sym (w .1)) ∙ m)
-  stays-holds (request e y) = request-holds (u .state) refl
+  stays-holds (ignored-request e y m) = tt
+  stays-holds (reported-request e y m) = tt
   stays-holds (warning a e y m l) = tt
 
   shuts-holds : {a : Answer} → Shuts u d r a → AnswerHolds a
@@ -331,9 +321,10 @@ module _ (u : Ship) (numbers d : List ℕ) (r : Record) (bytes : Bytes (fragment
   marked-holds c w n (no-data k z) = Y.empty-data c (new-as c w n) (seen-kind K.ProtectedData k .1) z
   marked-holds c w n (some-data k z) = tt
   marked-holds c w n (protected-warning a k y l z) = tt
-  marked-holds c w n (repeated-finished a k y l z) = tt
+  marked-holds c w n (repeated-finished a k y l z o) = tt
   marked-holds c w n (protected-critical a k y l) = tt
-  marked-holds c w n (protected-request k y) = request-holds (u .state) refl
+  marked-holds c w n (protected-ignored k y o) = tt
+  marked-holds c w n (protected-reported k y o) = tt
   marked-holds c w n (finished-again k y v o) = tt
   marked-holds c w n (wrong-finished k y v) =
       let t : FinishedHolds c (u .expected) F.Wrong = subst (FinishedHolds c (u .expected)) v (finished-holds c (u .expected)) in

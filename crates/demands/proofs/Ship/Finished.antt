@@ -29,13 +29,11 @@ use Rattle.connection.specs.declared.refusal.Refusal.the-variants as X
 use Rattle.unit.specs.Agree.{agreedWith, shoreVerify}
 use Rattle.unit.specs.Answer.{asAshore}
 use Rattle.unit.specs.Calls.{closedIn, startedIn}
-use Rattle.unit.specs.Clear.{requestIn}
 use Rattle.unit.specs.Hello.{helloDatagram, offerOf, mayHello, greetedWith, helloAs, helloSent, helloOutput, againSent, againOutput}
 use Rattle.unit.specs.Judge.{kindIn, judgedRecord}
 use Rattle.unit.specs.Protected.{flightSize}
 use Rattle.unit.specs.Send.{dataSent, dataOutput, alertSent, alertOutput}
-use Rattle.unit.specs.State.{settled}
-use Rattle.unit.specs.Unit.{withState, withWindow, opened, barred, reopened}
+use Rattle.unit.specs.Unit.{withState, withWindow, opened, reopened}
 use Rattle.unit.specs.declared.state.State.{State}
 use Rattle.unit.specs.declared.state.State.the-variants as S
 use Rattle.unit.specs.declared.state.Kind.{Kind}
@@ -48,9 +46,9 @@ use Rattle.unit.specs.declared.send.Sent.{Sent}
 use Rattle.unit.specs.declared.unit.Unit.{Unit as Ship}
 use Rattle.demands.specs.Past.{shuts}
 use Rattle.demands.specs.Ship.Genuine.{Protected}
-use Rattle.demands.specs.Ship.Table.{Midway, Up, Over, New, Stays, Shuts, Marked, Row}
-use Rattle.demands.specs.Ship.Table.{at-end, not-allowed, not-first, forged, too-old, repeated, bad-hello, bad-request, bad-change, bad-alert, unacceptable, checksum, request, warning}
-use Rattle.demands.specs.Ship.Table.{critical, fatal, no-change, no-alert, no-message, no-data, some-data, protected-warning, repeated-finished, protected-critical, protected-request, finished-again, wrong-finished}
+use Rattle.demands.specs.Ship.Table.{Midway, Up, Over, New, Stays, Shuts, Marked, Row, forgotten}
+use Rattle.demands.specs.Ship.Table.{at-end, not-allowed, not-first, forged, too-old, repeated, bad-hello, bad-request, bad-change, bad-alert, unacceptable, checksum, ignored-request, reported-request, warning}
+use Rattle.demands.specs.Ship.Table.{critical, fatal, no-change, no-alert, no-message, no-data, some-data, protected-warning, repeated-finished, protected-critical, protected-ignored, protected-reported, finished-again, wrong-finished}
 use Rattle.demands.specs.Ship.Table.{row-stays, row-shuts, row-hello, row-change, row-marked, row-opens, row-bars}
 use Rattle.demands.specs.Ship.Changes.{Alike}
 use Rattle.demands.specs.Ship.Events.{Event, took, greeting, repeating, sending, alerting, closing, starting, next, after, Happened, answered, greeted, said-again, wrote, closed, started, refused, ifDone, written-by, happening, history}
@@ -59,7 +57,7 @@ use Rattle.demands.specs.Ship.HandedOut.{HandsOut}
 use Rattle.demands.specs.Ship.Past.{isHello, offerNamed, Said, said, lastHello, Read, read, readAs, lastRead, keysFor}
 use Rattle.demands.specs.Ship.Finished.{Quiet, Verified, OnlyAfterFinished}
 use Rattle.demands.proofs.Exactly.Reasons.{decide}
-use Rattle.demands.proofs.Ship.Table.{Guards, spec-alert, spec-handshake, up-change, up-alert, up-handshake, up-data, ruled-says, row-of}
+use Rattle.demands.proofs.Ship.Table.{Guards, spec-alert, spec-handshake, up-change, up-alert, up-handshake, up-data, data-up, ruled-says, row-of}
 use Rattle.demands.proofs.Ship.Changes.{alike, data-alike, alert-alike, again-same}
 use Rattle.demands.proofs.Ship.HandedOut.{up-not-midway, up-not-over, guards-not-over, kind-content, DataFacts, data-facts}
 
@@ -235,29 +233,13 @@ idle-not-midway (inl e) = let z : _≡_ {A = ℕ} 0 1 = cc in omega arith
 idle-not-midway (inr (inl e)) = let z : _≡_ {A = ℕ} 0 1 = cc in omega arith
 idle-not-midway (inr (inr e)) = let z : _≡_ {A = ℕ} 0 1 = cc in omega arith
 
+idle-not-reading : {P : Type 0} → Reading S.Idle → P
+idle-not-reading (inl e) = let z : _≡_ {A = ℕ} 0 1 = cc in absurd (omega arith)
+idle-not-reading (inr e) = let z : _≡_ {A = ℕ} 0 1 = cc in absurd (omega arith)
+
 idle-not-up : Up S.Idle → ⊥
 idle-not-up (inl e) = let z : _≡_ {A = ℕ} 0 1 = cc in omega arith
 idle-not-up (inr e) = let z : _≡_ {A = ℕ} 0 1 = cc in omega arith
-
-settled-so : (s : State) → (settled s ≡ s) ⊎ (Up s × Up (settled s))
-settled-so S.Idle = inl refl
-settled-so S.Sent = inl refl
-settled-so S.Replied = inl refl
-settled-so S.Spec = inl refl
-settled-so S.Opening = inr (inl refl, inr refl)
-settled-so S.Open = inl refl
-settled-so S.Closed = inl refl
-settled-so S.Barred = inl refl
-
-request-quiet : (s : State) → (isHello (requestIn s) ≡ false) × (shuts (asAshore (requestIn s)) ≡ false)
-request-quiet S.Idle = (refl, refl)
-request-quiet S.Sent = (refl, refl)
-request-quiet S.Replied = (refl, refl)
-request-quiet S.Spec = (refl, refl)
-request-quiet S.Opening = (refl, refl)
-request-quiet S.Open = (refl, refl)
-request-quiet S.Closed = (refl, refl)
-request-quiet S.Barred = (refl, refl)
 
 guards-live : (s : State) (k : Kind) → Guards s k → s ≢ S.Barred
 guards-live s k g e = guards-not-over s k (inr e) g
@@ -276,7 +258,8 @@ module _ (id secret : List ℕ) (past : List Happened) (u : Ship) (p : Progress 
   stays-quiet (bad-alert e q) = (refl, refl)
   stays-quiet (unacceptable term e z q) = (refl, refl)
   stays-quiet (checksum a e q m) = (refl, refl)
-  stays-quiet (request e q) = request-quiet (u .state)
+  stays-quiet (ignored-request e q m) = (refl, refl)
+  stays-quiet (reported-request e q m) = (refl, refl)
   stays-quiet (warning a e q m l) = (refl, refl)
 
   -- an answer to a record that is no ServerHello
@@ -317,24 +300,20 @@ module _ (id secret : List ℕ) (past : List Happened) (u : Ship) (p : Progress 
           expected-same = λ y. refl;
         })
 
-    settle-marked : (a : Answer) → isHello a ≡ false → shuts (asAshore a) ≡ false → Progress id secret (answered d r a ∷ past) (left (settled (u .state)))
-    settle-marked a h s = told (settled-so (u .state))
-      where
-        told : (settled (u .state) ≡ u .state) ⊎ (Up (u .state) × Up (settled (u .state)))
-            → Progress id secret (answered d r a ∷ past) (left (settled (u .state)))
-        told (inl e) = subst (λ x. Progress id secret (answered d r a ∷ past) (left x)) (sym e) (stay-marked a h s)
-        told (inr (o, o′)) =
-            carry-answer a (left (settled (u .state))) h (λ y. s)
-            (record {
-              barred-from = λ y. live;
-              midway-from = λ y. up-not-midway (settled (u .state)) o′ y;
-              reading-from = λ y. up-not-reading (settled (u .state)) o′ y;
-              up-from = λ y. o;
-              id-same = λ y. refl;
-              keys-same = λ y. refl;
-              offer-same = λ y. refl;
-              expected-same = λ y. refl;
-            })
+    settle-marked : (a : Answer) → isHello a ≡ false → shuts (asAshore a) ≡ false → Up (u .state)
+        → Progress id secret (answered d r a ∷ past) (left S.Open)
+    settle-marked a h s o =
+        carry-answer a (left S.Open) h (λ y. s)
+        (record {
+          barred-from = λ y. live;
+          midway-from = λ y. up-not-midway S.Open (inr refl) y;
+          reading-from = λ y. up-not-reading S.Open (inr refl) y;
+          up-from = λ y. o;
+          id-same = λ y. refl;
+          keys-same = λ y. refl;
+          offer-same = λ y. refl;
+          expected-same = λ y. refl;
+        })
 
     close-marked : (a : Answer) → isHello a ≡ false → Progress id secret (answered d r a ∷ past) (left S.Closed)
     close-marked a h =
@@ -346,11 +325,14 @@ module _ (id secret : List ℕ) (past : List Happened) (u : Ship) (p : Progress 
     marked-row (no-alert k q) = stay-marked (W.Refused X.Malformed) refl refl
     marked-row (no-message k q v) = stay-marked (W.Refused X.Malformed) refl refl
     marked-row (no-data k z) = stay-marked (W.Refused X.Malformed) refl refl
-    marked-row (some-data k z) = settle-marked (W.Data (r .number) (r .start + r .head) (length c)) refl refl
+    marked-row (some-data k z) =
+        settle-marked (W.Data (r .number) (r .start + r .head) (length c)) refl refl
+        (data-up (u .state) (kindIn d r) k (ruled-says u d r T.Unprotect (n .ruled)))
     marked-row (protected-warning a k q l z) = stay-marked (W.Warning (a .description)) refl refl
-    marked-row (repeated-finished a k q l z) = settle-marked (W.Warning (a .description)) refl refl
+    marked-row (repeated-finished a k q l z o) = settle-marked (W.Warning (a .description)) refl refl o
     marked-row (protected-critical a k q l) = close-marked (W.Critical (a .description)) refl
-    marked-row (protected-request k q) = stay-marked (requestIn (u .state)) (request-quiet (u .state) .0) (request-quiet (u .state) .1)
+    marked-row (protected-ignored k q o) = stay-marked W.Ignored refl refl
+    marked-row (protected-reported k q o) = stay-marked W.Request refl refl
     marked-row (finished-again k q v o) = stay-marked W.Again refl refl
     marked-row (wrong-finished k q v) = close-marked (W.Refused X.WrongFinished) refl
 
@@ -437,7 +419,7 @@ module _ (id secret : List ℕ) (past : List Happened) (u : Ship) (p : Progress 
   row-progress (row-change e q) = change-row (emptied (u .protection .window)) (ruled-says u d r T.Change e .0)
   row-progress (row-marked c w n m) = marked-row c w n m
   row-progress (row-opens c w n s k q v) = opens-row c w n s k v (flightSize (u .protection .keys .mac))
-  row-progress (row-bars c w a n k q l) = bars-row (W.Barred (a .description)) (barred (withWindow u w)) refl
+  row-progress (row-bars c w a n k q l) = bars-row (W.Barred (a .description)) (forgotten (withWindow u w)) refl
 
 -- ---- the calls
 
@@ -546,8 +528,12 @@ module _ (id secret : List ℕ) (past : List Happened) (u : Ship) (p : Progress 
   start-progress S.Opening e = same-progress refused u refl refl tt refl
   start-progress S.Open e = same-progress refused u refl refl tt refl
   start-progress S.Closed e =
-      carry id secret past u p started (reopened u) refl refl (λ o. absurd (idle-not-up o))
-      (rest-carries id secret past u p (reopened u) (λ b. let y = sym e ∙ b in let z : _≡_ {A = ℕ} 0 1 = cc in omega arith) idle-not-midway idle-not-up refl refl)
+      record {
+        own = λ n. p .own (λ b. let y = sym e ∙ b in let z : _≡_ {A = ℕ} 0 1 = cc in omega arith);
+        greeted-so = λ m. absurd (idle-not-midway m);
+        read-so = λ m. idle-not-reading m;
+        up-so = λ o. absurd (idle-not-up o);
+      }
   start-progress S.Barred e = same-progress refused u refl refl tt refl
 
   event-progress : (e : Event) → Progress id secret (happening u e ∷ past) (next u e)
@@ -585,19 +571,6 @@ progress-fresh id secret width =
       read-so = λ m. idle-not-reading m;
       up-so = λ o. absurd (idle-not-up o);
     }
-  where
-    idle-not-reading : {P : Type 0} → Reading S.Idle → P
-    idle-not-reading (inl e) = let z : _≡_ {A = ℕ} 0 1 = cc in absurd (omega arith)
-    idle-not-reading (inr e) = let z : _≡_ {A = ℕ} 0 1 = cc in absurd (omega arith)
-
--- data is opened in Opening and Open alone
-data-up : (s : State) (k : Kind) → k ≡ K.ProtectedData → Guards s k → Up s
-data-up S.Spec K.ProtectedAlert e spec-alert = let z : _≡_ {A = ℕ} 0 1 = cc in absurd (omega arith)
-data-up S.Spec K.ProtectedHandshake e spec-handshake = let z : _≡_ {A = ℕ} 0 1 = cc in absurd (omega arith)
-data-up s K.ProtectedChange e (up-change o) = o
-data-up s K.ProtectedAlert e (up-alert o) = o
-data-up s K.ProtectedHandshake e (up-handshake o) = o
-data-up s K.ProtectedData e (up-data o) = o
 
 pub only-after-finished : OnlyAfterFinished
 unfolding OnlyAfterFinished

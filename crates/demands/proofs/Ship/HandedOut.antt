@@ -34,15 +34,14 @@ use Rattle.message.specs.declared.finished.Verified.the-variants as F
 use Rattle.connection.specs.Answer.{handedOf, partAt}
 use Rattle.connection.specs.Judge.{fragmentOf}
 use Rattle.connection.specs.declared.refusal.Refusal.the-variants as X
-use Rattle.unit.specs.State.{kindOf, openedRule, ruleOf, settled}
+use Rattle.unit.specs.State.{kindOf, openedRule, ruleOf}
 use Rattle.unit.specs.Answer.{asAshore}
 use Rattle.unit.specs.Agree.{judged}
 use Rattle.unit.specs.Calls.{closedOf, closedIn, startedOf, startedIn}
-use Rattle.unit.specs.Clear.{requestIn}
 use Rattle.unit.specs.Hello.{helloSent, againSent, mayHello}
 use Rattle.unit.specs.Judge.{kindIn, judgedRecord}
 use Rattle.unit.specs.Send.{dataSent, alertSent}
-use Rattle.unit.specs.Unit.{withState, withWindow, barred}
+use Rattle.unit.specs.Unit.{withState, withWindow}
 use Rattle.unit.specs.declared.state.State.{State}
 use Rattle.unit.specs.declared.state.State.the-variants as S
 use Rattle.unit.specs.declared.state.Kind.{Kind}
@@ -57,9 +56,9 @@ use Rattle.demands.specs.Genuine.{RecordOf}
 use Rattle.demands.specs.Past.{isData}
 use Rattle.demands.specs.Course.{Course, isNew, levelShuts, alertShuts, finishedShuts, contentShuts}
 use Rattle.demands.specs.Ship.Genuine.{Protected, Genuine, shoreKey, genuineBytes, contentBytes}
-use Rattle.demands.specs.Ship.Table.{Midway, Up, Over, Ruled, New, Stays, Shuts, Marked, Row}
-use Rattle.demands.specs.Ship.Table.{at-end, not-allowed, not-first, forged, too-old, repeated, bad-hello, bad-request, bad-change, bad-alert, unacceptable, checksum, request, warning}
-use Rattle.demands.specs.Ship.Table.{critical, fatal, no-change, no-alert, no-message, no-data, some-data, protected-warning, repeated-finished, protected-critical, protected-request, finished-again, wrong-finished}
+use Rattle.demands.specs.Ship.Table.{Midway, Up, Over, Ruled, New, Stays, Shuts, Marked, Row, forgotten}
+use Rattle.demands.specs.Ship.Table.{at-end, not-allowed, not-first, forged, too-old, repeated, bad-hello, bad-request, bad-change, bad-alert, unacceptable, checksum, ignored-request, reported-request, warning}
+use Rattle.demands.specs.Ship.Table.{critical, fatal, no-change, no-alert, no-message, no-data, some-data, protected-warning, repeated-finished, protected-critical, protected-ignored, protected-reported, finished-again, wrong-finished}
 use Rattle.demands.specs.Ship.Table.{row-stays, row-shuts, row-hello, row-change, row-marked, row-opens, row-bars}
 use Rattle.demands.specs.Ship.Changes.{Alike}
 use Rattle.demands.specs.Ship.Events.{Event, took, greeting, repeating, sending, alerting, closing, starting, next, after}
@@ -89,10 +88,6 @@ up-not-over s (inl a) (inl b) = let y : S.Opening ≡ S.Closed = sym a ∙ b in 
 up-not-over s (inl a) (inr b) = let y : S.Opening ≡ S.Barred = sym a ∙ b in let z : _≡_ {A = ℕ} 0 1 = cc in absurd (omega arith)
 up-not-over s (inr a) (inl b) = let y : S.Open ≡ S.Closed = sym a ∙ b in let z : _≡_ {A = ℕ} 0 1 = cc in absurd (omega arith)
 up-not-over s (inr a) (inr b) = let y : S.Open ≡ S.Barred = sym a ∙ b in let z : _≡_ {A = ℕ} 0 1 = cc in absurd (omega arith)
-
-pub settled-up : (s : State) → Up s → Up (settled s)
-settled-up s (inl e) = inr (ap settled e)
-settled-up s (inr e) = inr (ap settled e)
 
 -- what is opened is opened in a state that is not over
 pub guards-not-over : {P : Type 0} (s : State) (k : Kind) → Over s → Guards s k → P
@@ -219,7 +214,8 @@ module _ (k : Keys) (expected : List ℕ) (course : Course) (u : Ship) (a : Alon
       stays-same (bad-alert e q) = up-not-midway (u .state) up (ruled-says u d r T.Hear e .0)
       stays-same (unacceptable term e y q) = up-not-midway (u .state) up (ruled-says u d r T.Agree e .0)
       stays-same (checksum x e q m) = up-not-midway (u .state) up (ruled-says u d r T.Hear e .0)
-      stays-same (request e q) = kind-clear K.ClearRequest (ruled-says u d r T.Request e .1) refl
+      stays-same (ignored-request e q m) = kind-clear K.ClearRequest (ruled-says u d r T.Request e .1) refl
+      stays-same (reported-request e q m) = kind-clear K.ClearRequest (ruled-says u d r T.Request e .1) refl
       stays-same (warning x e q m l) = up-not-midway (u .state) up (ruled-says u d r T.Hear e .0)
 
       shuts-never : {P : Type 0} {x : Answer} → Shuts u d r x → P
@@ -280,12 +276,13 @@ module _ (k : Keys) (expected : List ℕ) (course : Course) (u : Ship) (a : Alon
         marked-state (no-alert e q) = inl (content-as K.ProtectedAlert e false (ap alertShuts q), up)
         marked-state (no-message e q v) = inl (content-as K.ProtectedHandshake e false (ap finishedShuts (verdict-at F.Malformed v)), up)
         marked-state (no-data e y) = inl (content-as K.ProtectedData e false refl, up)
-        marked-state (some-data e y) = inl (content-as K.ProtectedData e false refl, settled-up (u .state) up)
+        marked-state (some-data e y) = inl (content-as K.ProtectedData e false refl, inr refl)
         marked-state (protected-warning x e q l y) = inl (content-as K.ProtectedAlert e false (ap alertShuts q ∙ ap levelShuts l), up)
-        marked-state (repeated-finished x e q l y) =
-            inl (content-as K.ProtectedAlert e false (ap alertShuts q ∙ ap levelShuts l), settled-up (u .state) up)
+        marked-state (repeated-finished x e q l y o) = inl (content-as K.ProtectedAlert e false (ap alertShuts q ∙ ap levelShuts l), inr refl)
         marked-state (protected-critical x e q l) = inr (content-as K.ProtectedAlert e true (ap alertShuts q ∙ ap levelShuts l), inl refl)
-        marked-state (protected-request e q) =
+        marked-state (protected-ignored e q o) =
+            inl (content-as K.ProtectedHandshake e false (ap finishedShuts (request-malformed c expected q)), up)
+        marked-state (protected-reported e q o) =
             inl (content-as K.ProtectedHandshake e false (ap finishedShuts (request-malformed c expected q)), up)
         marked-state (finished-again e q v o) = inl (content-as K.ProtectedHandshake e false (ap finishedShuts (verdict-at F.Right v)), up)
         marked-state (wrong-finished e q v) = inr (content-as K.ProtectedHandshake e true (ap finishedShuts (verdict-at F.Wrong v)), inl refl)
@@ -298,7 +295,7 @@ module _ (k : Keys) (expected : List ℕ) (course : Course) (u : Ship) (a : Alon
       by-row (row-marked c w {s = s} n m) = used c w n (withState (withWindow u w) s) refl refl refl (marked-state c w n m)
       by-row (row-opens c w n s e q v) = up-not-midway (u .state) up (inr (inr s))
       by-row (row-bars c w x n e q l) =
-          shut-by c w n (barred (withWindow u w)) (content-as c w n K.ProtectedAlert e true (ap alertShuts q ∙ ap levelShuts l)) (inr refl)
+          shut-by c w n (forgotten (withWindow u w)) (content-as c w n K.ProtectedAlert e true (ap alertShuts q ∙ ap levelShuts l)) (inr refl)
 
     record-along : (b : Bool) → course .shut ≡ b → Along k expected (withRecord k expected course d r) (judgedRecord u d r .unit)
     record-along true z = shut-more z
@@ -401,17 +398,6 @@ pub record DataFacts (u : Ship) (d : List ℕ) (r : Record) : Type 0 where
   pub kind : kindIn d r ≡ K.ProtectedData
   pub some : 0 < length c
 
--- a HelloRequest hands out nothing
-request-silent : (s : State) → isData (asAshore (requestIn s)) ≡ false
-request-silent S.Idle = refl
-request-silent S.Sent = refl
-request-silent S.Replied = refl
-request-silent S.Spec = refl
-request-silent S.Opening = refl
-request-silent S.Open = refl
-request-silent S.Closed = refl
-request-silent S.Barred = refl
-
 module _ (u : Ship) (d : List ℕ) (r : Record) where
   pub stays-silent : {x : Answer} → Stays u d r x → isData (asAshore x) ≡ false
   stays-silent (at-end e) = refl
@@ -426,7 +412,8 @@ module _ (u : Ship) (d : List ℕ) (r : Record) where
   stays-silent (bad-alert e q) = refl
   stays-silent (unacceptable term e y q) = refl
   stays-silent (checksum x e q m) = refl
-  stays-silent (request e q) = request-silent (u .state)
+  stays-silent (ignored-request e q m) = refl
+  stays-silent (reported-request e q m) = refl
   stays-silent (warning x e q m l) = refl
 
   shuts-silent : {x : Answer} → Shuts u d r x → isData (asAshore x) ≡ false
@@ -440,9 +427,10 @@ module _ (u : Ship) (d : List ℕ) (r : Record) where
   marked-facts c w n (no-data e y) z = true-false false z refl
   marked-facts c w n (some-data e y) z = record { c = c; w = w; new = n; kind = e; some = y }
   marked-facts c w n (protected-warning x e q l y) z = true-false false z refl
-  marked-facts c w n (repeated-finished x e q l y) z = true-false false z refl
+  marked-facts c w n (repeated-finished x e q l y o) z = true-false false z refl
   marked-facts c w n (protected-critical x e q l) z = true-false false z refl
-  marked-facts c w n (protected-request e q) z = true-false (isData (asAshore (requestIn (u .state)))) z (request-silent (u .state))
+  marked-facts c w n (protected-ignored e q o) z = true-false false z refl
+  marked-facts c w n (protected-reported e q o) z = true-false false z refl
   marked-facts c w n (finished-again e q v o) z = true-false false z refl
   marked-facts c w n (wrong-finished e q v) z = true-false false z refl
 

@@ -21,11 +21,10 @@ use Rattle.connection.specs.declared.refusal.Refusal.the-variants as X
 use Rattle.unit.specs.Agree.{agreedWith}
 use Rattle.unit.specs.Answer.{asAshore}
 use Rattle.unit.specs.Calls.{closedIn, startedIn}
-use Rattle.unit.specs.Clear.{requestIn}
 use Rattle.unit.specs.Hello.{helloDatagram, offerOf, mayHello, greetedWith, helloAs, helloSent, helloOutput, againSent, againOutput}
 use Rattle.unit.specs.Judge.{kindIn, judgedRecord}
 use Rattle.unit.specs.Send.{dataSent, dataOutput, alertSent, alertOutput}
-use Rattle.unit.specs.Unit.{withState, withWindow, opened, barred}
+use Rattle.unit.specs.Unit.{withState, withWindow, opened}
 use Rattle.unit.specs.Protected.{flightSize}
 use Rattle.connection.specs.Judge.{fragmentOf}
 use Rattle.unit.specs.declared.state.State.{State}
@@ -38,9 +37,9 @@ use Rattle.unit.specs.declared.answer.Answer.the-variants as W
 use Rattle.unit.specs.declared.agree.Judged.{Judged}
 use Rattle.unit.specs.declared.unit.Unit.{Unit as Ship}
 use Rattle.demands.specs.Past.{isSpec}
-use Rattle.demands.specs.Ship.Table.{New, Stays, Shuts, Marked, Row}
-use Rattle.demands.specs.Ship.Table.{at-end, not-allowed, not-first, forged, too-old, repeated, bad-hello, bad-request, bad-change, bad-alert, unacceptable, checksum, request, warning}
-use Rattle.demands.specs.Ship.Table.{critical, fatal, no-change, no-alert, no-message, no-data, some-data, protected-warning, repeated-finished, protected-critical, protected-request, finished-again, wrong-finished}
+use Rattle.demands.specs.Ship.Table.{New, Stays, Shuts, Marked, Row, forgotten}
+use Rattle.demands.specs.Ship.Table.{at-end, not-allowed, not-first, forged, too-old, repeated, bad-hello, bad-request, bad-change, bad-alert, unacceptable, checksum, ignored-request, reported-request, warning}
+use Rattle.demands.specs.Ship.Table.{critical, fatal, no-change, no-alert, no-message, no-data, some-data, protected-warning, repeated-finished, protected-critical, protected-ignored, protected-reported, finished-again, wrong-finished}
 use Rattle.demands.specs.Ship.Table.{row-stays, row-shuts, row-hello, row-change, row-marked, row-opens, row-bars}
 use Rattle.demands.specs.Ship.Events.{Event, took, greeting, repeating, sending, alerting, closing, starting, next, after, Happened, answered, greeted, said-again, wrote, closed, started, refused, ifDone, written-by, happening, history}
 use Rattle.demands.specs.Ship.Runs.{freshShip}
@@ -50,7 +49,6 @@ use Rattle.demands.proofs.Exactly.Reasons.{decide}
 use Rattle.demands.proofs.Kept.{window-more}
 use Rattle.demands.proofs.Ship.Table.{protectedKind, ruled-says, is-protected-kind, row-of}
 use Rattle.demands.proofs.Ship.Changes.{data-alike, alert-alike, again-same, hello-refused}
-use Rattle.demands.proofs.Ship.HandedOut.{guards-not-over}
 
 both-no : (b : Bool) → pick b false false ≡ false
 both-no true = refl
@@ -84,16 +82,6 @@ module _ (width : ℕ) (held : Held width) (past : List Happened) (u : Ship) (is
     kind-clear : (k : Kind) → kindIn d r ≡ k → protectedKind k ≡ false → r .protected ≡ false
     kind-clear k e f = sym (is-protected-kind u d r) ∙ ap protectedKind e ∙ f
 
-    request-spec : (s : State) → isSpec (asAshore (requestIn s)) ≡ false
-    request-spec S.Idle = refl
-    request-spec S.Sent = refl
-    request-spec S.Replied = refl
-    request-spec S.Spec = refl
-    request-spec S.Opening = refl
-    request-spec S.Open = refl
-    request-spec S.Closed = refl
-    request-spec S.Barred = refl
-
     stays-follows : {a : Answer} → Stays u d r a → Follows (answered d r a) u
     stays-follows (at-end e) = silent-by (W.Refused X.Ended) u refl refl refl
     stays-follows (not-allowed e) = silent-by (W.Refused X.NotAllowed) u refl refl refl
@@ -107,8 +95,8 @@ module _ (width : ℕ) (held : Held width) (past : List Happened) (u : Ship) (is
     stays-follows (bad-alert e q) = clear-by (W.Refused X.Malformed) u refl refl (kind-clear K.ClearAlert (ruled-says u d r T.Hear e .1) refl)
     stays-follows (unacceptable term e z q) = silent-by (W.Refused X.Unacceptable) u refl refl refl
     stays-follows (checksum a e q m) = silent-by (W.Refused X.Checksum) u refl refl refl
-    stays-follows (request e q) =
-        clear-by (requestIn (u .state)) u refl (request-spec (u .state)) (kind-clear K.ClearRequest (ruled-says u d r T.Request e .1) refl)
+    stays-follows (ignored-request e q m) = clear-by W.Ignored u refl refl (kind-clear K.ClearRequest (ruled-says u d r T.Request e .1) refl)
+    stays-follows (reported-request e q m) = clear-by W.Request u refl refl (kind-clear K.ClearRequest (ruled-says u d r T.Request e .1) refl)
     stays-follows (warning a e q m l) =
         clear-by (W.Warning (a .description)) u refl refl (kind-clear K.ClearAlert (ruled-says u d r T.Hear e .1) refl)
 
@@ -125,16 +113,6 @@ module _ (width : ℕ) (held : Held width) (past : List Happened) (u : Ship) (is
           ∙ window-more width held (acceptedIn past) (r .number) w (n .arrived) (sym (ap (λ y. acceptOf y (r .number)) is) ∙ n .accepted)
           ∙ sym (ap (windowOf width) (marked a ns m (n .coded .is-protected)))
 
-      request-marks : (s : State) → u .state ≡ s → marks (requestIn s) ≡ true
-      request-marks S.Idle e = refl
-      request-marks S.Sent e = refl
-      request-marks S.Replied e = refl
-      request-marks S.Spec e = refl
-      request-marks S.Opening e = refl
-      request-marks S.Open e = refl
-      request-marks S.Closed e = guards-not-over (u .state) (kindIn d r) (inl e) (ruled-says u d r T.Unprotect (n .ruled))
-      request-marks S.Barred e = guards-not-over (u .state) (kindIn d r) (inr e) (ruled-says u d r T.Unprotect (n .ruled))
-
       marked-follows : (x : Ship) → x .protection .window ≡ w → {a : Answer} {s : State} → Marked u d r c a s → Follows (answered d r a) x
       marked-follows x e (no-change k) = marked-by (W.Refused X.Malformed) x e refl refl
       marked-follows x e (no-alert k q) = marked-by (W.Refused X.Malformed) x e refl refl
@@ -142,9 +120,10 @@ module _ (width : ℕ) (held : Held width) (past : List Happened) (u : Ship) (is
       marked-follows x e (no-data k z) = marked-by (W.Refused X.Malformed) x e refl refl
       marked-follows x e (some-data k z) = marked-by (W.Data (r .number) (r .start + r .head) (length c)) x e refl refl
       marked-follows x e (protected-warning a k q l z) = marked-by (W.Warning (a .description)) x e refl refl
-      marked-follows x e (repeated-finished a k q l z) = marked-by (W.Warning (a .description)) x e refl refl
+      marked-follows x e (repeated-finished a k q l z o) = marked-by (W.Warning (a .description)) x e refl refl
       marked-follows x e (protected-critical a k q l) = marked-by (W.Critical (a .description)) x e refl refl
-      marked-follows x e (protected-request k q) = marked-by (requestIn (u .state)) x e (request-spec (u .state)) (request-marks (u .state) refl)
+      marked-follows x e (protected-ignored k q o) = marked-by W.Ignored x e refl refl
+      marked-follows x e (protected-reported k q o) = marked-by W.Request x e refl refl
       marked-follows x e (finished-again k q v o) = marked-by W.Again x e refl refl
       marked-follows x e (wrong-finished k q v) = marked-by (W.Refused X.WrongFinished) x e refl refl
 
@@ -160,7 +139,7 @@ module _ (width : ℕ) (held : Held width) (past : List Happened) (u : Ship) (is
     row-follows (row-change e q) = emptied-follows
     row-follows (row-marked c w {s = s} n m) = marked-follows c w n (withState (withWindow u w) s) refl m
     row-follows (row-opens c w n s k q v) = marked-by c w n (W.Open (flightSize (u .protection .keys .mac))) (opened (withWindow u w)) refl refl refl
-    row-follows (row-bars c w a n k q l) = marked-by c w n (W.Barred (a .description)) (barred (withWindow u w)) refl refl refl
+    row-follows (row-bars c w a n k q l) = marked-by c w n (W.Barred (a .description)) (forgotten (withWindow u w)) refl refl refl
 
   -- the other calls leave the window, but a start again
   plain : (what : Happened) (x : Ship) → acceptedIn (what ∷ past) ≡ acceptedIn past → x .protection .window ≡ u .protection .window → Follows what x

@@ -17,7 +17,7 @@ use Rattle.unit.specs.Calls.{closedOf, closedIn, startedOf, startedIn}
 use Rattle.unit.specs.Hello.{helloSent, mayHello}
 use Rattle.unit.specs.Judge.{kindIn, judgedRecord}
 use Rattle.unit.specs.Send.{dataSent, alertSent}
-use Rattle.unit.specs.State.{ruleOf, settled}
+use Rattle.unit.specs.State.{ruleOf}
 use Rattle.unit.specs.Unit.{withState, withWindow, barred}
 use Rattle.unit.specs.declared.state.State.{State}
 use Rattle.unit.specs.declared.state.State.the-variants as S
@@ -30,7 +30,7 @@ use Rattle.demands.specs.Genuine.{RecordOf}
 use Rattle.demands.specs.Past.{isData}
 use Rattle.demands.specs.Ship.Genuine.{Protected, Genuine}
 use Rattle.demands.specs.Ship.Table.{Midway, Up, Over, Ruled, New, Stays, Shuts, Marked, Row}
-use Rattle.demands.specs.Ship.Table.{at-end, critical, fatal, no-change, no-alert, no-message, no-data, some-data, protected-warning, repeated-finished, protected-critical, protected-request, finished-again, wrong-finished}
+use Rattle.demands.specs.Ship.Table.{at-end, critical, fatal, no-change, no-alert, no-message, no-data, some-data, protected-warning, repeated-finished, protected-critical, protected-ignored, protected-reported, finished-again, wrong-finished}
 use Rattle.demands.specs.Ship.Table.{row-stays, row-shuts, row-hello, row-change, row-marked, row-opens, row-bars}
 use Rattle.demands.specs.Ship.Changes.{Alike}
 use Rattle.demands.specs.Ship.Events.{Event, took, greeting, repeating, sending, alerting, closing, starting, next, after}
@@ -38,7 +38,7 @@ use Rattle.demands.specs.Ship.HandedOut.{handedBy}
 use Rattle.demands.specs.Ship.LeftOut.{GoesOn, Without, ends, both, but, handedAt, handedOver, LeavesOutRecords}
 use Rattle.demands.proofs.Ship.Table.{ruled-says, row-of, row-is}
 use Rattle.demands.proofs.Ship.Changes.{data-alike, alert-alike, again-same, hello-refused, hello-up}
-use Rattle.demands.proofs.Ship.HandedOut.{up-not-midway, up-not-over, settled-up, stays-silent}
+use Rattle.demands.proofs.Ship.HandedOut.{up-not-midway, up-not-over, stays-silent}
 
 -- up under the keys k, or over
 pub Settled : Keys → Ship → Type 0
@@ -54,11 +54,12 @@ marked-up u d r c o (no-change k) = inl o
 marked-up u d r c o (no-alert k q) = inl o
 marked-up u d r c o (no-message k q v) = inl o
 marked-up u d r c o (no-data k z) = inl o
-marked-up u d r c o (some-data k z) = inl (settled-up (u .state) o)
+marked-up u d r c o (some-data k z) = inl (inr refl)
 marked-up u d r c o (protected-warning a k q l z) = inl o
-marked-up u d r c o (repeated-finished a k q l z) = inl (settled-up (u .state) o)
+marked-up u d r c o (repeated-finished a k q l z p) = inl (inr refl)
 marked-up u d r c o (protected-critical a k q l) = inr (inl refl)
-marked-up u d r c o (protected-request k q) = inl o
+marked-up u d r c o (protected-ignored k q p) = inl o
+marked-up u d r c o (protected-reported k q p) = inl o
 marked-up u d r c o (finished-again k q v p) = inl o
 marked-up u d r c o (wrong-finished k q v) = inr (inl refl)
 

@@ -35,7 +35,6 @@ use Rattle.connection.specs.declared.receive.Taken.the-variants as T
 use Rattle.connection.specs.declared.refusal.Refusal.{Refusal}
 use Rattle.connection.specs.declared.refusal.Refusal.the-variants as X
 use Rattle.unit.specs.Calls.{closedOf, closedIn, startedOf, startedIn}
-use Rattle.unit.specs.Clear.{requestIn}
 use Rattle.unit.specs.Hello.{helloDatagram, offerOf, mayHello, greetedWith, helloAs, helloSent, helloOutputAs, helloOutput, saidAgain, helloSaid, againIn, againOutputIn}
 use Rattle.unit.specs.Judge.{kindIn, judgedRecord}
 use Rattle.unit.specs.Receive.{runOf, wholeOf, framedTo, receivedOf, sentOf, outputOf}
@@ -54,14 +53,13 @@ use Rattle.unit.specs.declared.unit.Unit.{Unit as Ship}
 use Rattle.unit.proofs.Sending.{unwritten}
 use Rattle.demands.specs.Refusals.{NotTaken, NotDone}
 use Rattle.demands.specs.Ship.Table.{Over, Ruled, New, Stays, Shuts, Marked, Row}
-use Rattle.demands.specs.Ship.Table.{at-end, not-allowed, not-first, forged, too-old, repeated, bad-hello, bad-request, bad-change, bad-alert, unacceptable, checksum, request, warning}
-use Rattle.demands.specs.Ship.Table.{critical, fatal, no-change, no-alert, no-message, no-data, some-data, protected-warning, repeated-finished, protected-critical, protected-request, finished-again, wrong-finished}
+use Rattle.demands.specs.Ship.Table.{at-end, not-allowed, not-first, forged, too-old, repeated, bad-hello, bad-request, bad-change, bad-alert, unacceptable, checksum, ignored-request, reported-request, warning}
+use Rattle.demands.specs.Ship.Table.{critical, fatal, no-change, no-alert, no-message, no-data, some-data, protected-warning, repeated-finished, protected-critical, protected-ignored, protected-reported, finished-again, wrong-finished}
 use Rattle.demands.specs.Ship.Table.{row-stays, row-shuts, row-hello, row-change, row-marked, row-opens, row-bars}
 use Rattle.demands.specs.Ship.Runs.{Call, hello, again, receive, send-data, send-alert, close, start, Step, stepOf}
 use Rattle.demands.specs.Ship.Refusals.{lentBy, IsRefused, writtenBy, RefusedCallChangesNothing, marked, markedAs, refusedLeaves, RefusedRecordChangesNothing}
 use Rattle.demands.proofs.Exactly.Reasons.{decide}
 use Rattle.demands.proofs.Ship.Table.{protectedKind, ruled-says, ruled-protected, is-protected-kind, row-of}
-use Rattle.demands.proofs.Ship.HandedOut.{guards-not-over}
 
 -- ---- a record
 
@@ -87,16 +85,6 @@ module _ (u : Ship) (d : List ℕ) (r : Record) where
   kind-clear : (k : Kind) → kindIn d r ≡ k → protectedKind k ≡ false → r .protected ≡ false
   kind-clear k e f = sym (is-protected-kind u d r) ∙ ap protectedKind e ∙ f
 
-  request-leaves : (s : State) → LeavesBy (requestIn s) u
-  request-leaves S.Idle = tt
-  request-leaves S.Sent = tt
-  request-leaves S.Replied = tt
-  request-leaves S.Spec = tt
-  request-leaves S.Opening = tt
-  request-leaves S.Open = tt
-  request-leaves S.Closed = refl
-  request-leaves S.Barred = refl
-
   stays-leaves : {a : Answer} → Stays u d r a → LeavesBy a u
   stays-leaves (at-end e) = refl
   stays-leaves (not-allowed e) = refl
@@ -110,7 +98,8 @@ module _ (u : Ship) (d : List ℕ) (r : Record) where
   stays-leaves (bad-alert e q) = clear-leaves (kind-clear K.ClearAlert (ruled-says u d r R.Hear e .1) refl)
   stays-leaves (unacceptable term e z q) = refl
   stays-leaves (checksum a e q m) = refl
-  stays-leaves (request e q) = request-leaves (u .state)
+  stays-leaves (ignored-request e q m) = tt
+  stays-leaves (reported-request e q m) = tt
   stays-leaves (warning a e q m l) = tt
 
   shuts-leaves : {a : Answer} (v : Ship) → Shuts u d r a → LeavesBy a v
@@ -124,16 +113,6 @@ module _ (u : Ship) (d : List ℕ) (r : Record) where
     twelve : withWindow u w ≡ refusedLeaves u (r .protected) (r .number) X.Malformed
     twelve = marked-is ∙ ap (λ b. pick b (marked u (r .number)) u) (sym (n .coded .is-protected))
 
-    request-marked : (s : State) → u .state ≡ s → (v : Ship) → LeavesBy (requestIn s) v
-    request-marked S.Idle e v = tt
-    request-marked S.Sent e v = tt
-    request-marked S.Replied e v = tt
-    request-marked S.Spec e v = tt
-    request-marked S.Opening e v = tt
-    request-marked S.Open e v = tt
-    request-marked S.Closed e v = guards-not-over (u .state) (kindIn d r) (inl e) (ruled-says u d r R.Unprotect (n .ruled))
-    request-marked S.Barred e v = guards-not-over (u .state) (kindIn d r) (inr e) (ruled-says u d r R.Unprotect (n .ruled))
-
     marked-leaves : {a : Answer} {s : State} → Marked u d r c a s → LeavesBy a (withState (withWindow u w) s)
     marked-leaves (no-change k) = twelve
     marked-leaves (no-alert k q) = twelve
@@ -141,9 +120,10 @@ module _ (u : Ship) (d : List ℕ) (r : Record) where
     marked-leaves (no-data k z) = twelve
     marked-leaves (some-data k z) = tt
     marked-leaves (protected-warning a k q l z) = tt
-    marked-leaves (repeated-finished a k q l z) = tt
+    marked-leaves (repeated-finished a k q l z o) = tt
     marked-leaves (protected-critical a k q l) = tt
-    marked-leaves (protected-request k q) = request-marked (u .state) refl (withState (withWindow u w) (u .state))
+    marked-leaves (protected-ignored k q o) = tt
+    marked-leaves (protected-reported k q o) = tt
     marked-leaves (finished-again k q v o) = tt
     marked-leaves (wrong-finished k q v) = ap (λ x. withState x S.Closed) marked-is
 

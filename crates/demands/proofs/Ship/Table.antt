@@ -63,9 +63,9 @@ use Rattle.unit.specs.declared.answer.Answer.the-variants as W
 use Rattle.unit.specs.declared.agree.Judged.{Judged}
 use Rattle.unit.specs.declared.unit.Unit.{Unit as Ship}
 use Rattle.demands.specs.Ship.Genuine.{Protected, shoreKey}
-use Rattle.demands.specs.Ship.Table.{Midway, Up, Over, Ruled, New, Stays, Shuts, Marked, Row, TableHolds}
-use Rattle.demands.specs.Ship.Table.{at-end, not-allowed, not-first, forged, too-old, repeated, bad-hello, bad-request, bad-change, bad-alert, unacceptable, checksum, request, warning}
-use Rattle.demands.specs.Ship.Table.{critical, fatal, no-change, no-alert, no-message, no-data, some-data, protected-warning, repeated-finished, protected-critical, protected-request, finished-again, wrong-finished}
+use Rattle.demands.specs.Ship.Table.{Midway, Up, Outside, Over, Ruled, New, Stays, Shuts, Marked, Row, TableHolds}
+use Rattle.demands.specs.Ship.Table.{at-end, not-allowed, not-first, forged, too-old, repeated, bad-hello, bad-request, bad-change, bad-alert, unacceptable, checksum, ignored-request, reported-request, warning}
+use Rattle.demands.specs.Ship.Table.{critical, fatal, no-change, no-alert, no-message, no-data, some-data, protected-warning, repeated-finished, protected-critical, protected-ignored, protected-reported, finished-again, wrong-finished}
 use Rattle.demands.specs.Ship.Table.{row-stays, row-shuts, row-hello, row-change, row-marked, row-opens, row-bars}
 use Rattle.demands.proofs.Genuine.{true-false}
 use Rattle.demands.proofs.Ship.Genuine.{coded-or-not}
@@ -227,6 +227,42 @@ guards-protected s K.ProtectedAlert (up-alert e) = refl
 guards-protected s K.ProtectedHandshake (up-handshake e) = refl
 guards-protected s K.ProtectedData (up-data e) = refl
 
+-- what is opened is opened in Spec, Opening or Open, data in the last two
+guards-state : (s : State) (k : Kind) → Guards s k → (s ≡ S.Spec) ⊎ Up s
+guards-state S.Spec K.ProtectedAlert spec-alert = inl refl
+guards-state S.Spec K.ProtectedHandshake spec-handshake = inl refl
+guards-state s K.ProtectedChange (up-change x) = inr x
+guards-state s K.ProtectedAlert (up-alert x) = inr x
+guards-state s K.ProtectedHandshake (up-handshake x) = inr x
+guards-state s K.ProtectedData (up-data x) = inr x
+
+pub data-up : (s : State) (k : Kind) → k ≡ K.ProtectedData → Guards s k → Up s
+data-up S.Spec K.ProtectedAlert e spec-alert = let z : _≡_ {A = ℕ} 0 1 = cc in absurd (omega arith)
+data-up S.Spec K.ProtectedHandshake e spec-handshake = let z : _≡_ {A = ℕ} 0 1 = cc in absurd (omega arith)
+data-up s K.ProtectedChange e (up-change o) = o
+data-up s K.ProtectedAlert e (up-alert o) = o
+data-up s K.ProtectedHandshake e (up-handshake o) = o
+data-up s K.ProtectedData e (up-data o) = o
+
+-- ---- what the unit's own words for outcomes come to
+
+ignored-in : (s : State) → Midway s → requestIn s ≡ W.Ignored
+ignored-in s (inl e) = ap requestIn e
+ignored-in s (inr (inl e)) = ap requestIn e
+ignored-in s (inr (inr e)) = ap requestIn e
+
+reported-in : (s : State) → Outside s → requestIn s ≡ W.Request
+reported-in s (inl e) = ap requestIn e
+reported-in s (inr (inl e)) = ap requestIn e
+reported-in s (inr (inr e)) = ap requestIn e
+
+settled-open : (s : State) → Up s → settled s ≡ S.Open
+settled-open s (inl e) = ap settled e
+settled-open s (inr e) = ap settled e
+
+settled-spec : (s : State) → s ≡ S.Spec → settled s ≡ s
+settled-spec s e = ap settled e ∙ sym e
+
 module _ (u : Ship) (d : List ℕ) (r : Record) where
   pub is-protected-kind : protectedKind (kindIn d r) ≡ r .protected
   is-protected-kind = kind-protected (r .content) (r .protected) (getD (fragmentOf d r) 0 0)
@@ -324,9 +360,20 @@ module _ (u : Ship) (d : List ℕ) (r : Record) where
   first-row e true b = agree-row e (eqb-true (r .start) 0 b) (agreementOf (fragmentOf d r) (u .id) (u .offer)) refl
   first-row e false b = row-stays (not-first e (λ z. eqb-false (r .start) 0 b z))
 
+  asked-row : Ruled u d r T.Request → isRequest (fragmentOf d r) ≡ true → (s : State) → u .state ≡ s → Row u d r (judged (requestIn s) u)
+  unfolding Live
+  asked-row e b S.Idle q = row-stays (reported-request e b (inl q))
+  asked-row e b S.Sent q = row-stays (ignored-request e b (inl q))
+  asked-row e b S.Replied q = row-stays (ignored-request e b (inr (inl q)))
+  asked-row e b S.Spec q = row-stays (ignored-request e b (inr (inr q)))
+  asked-row e b S.Opening q = row-stays (reported-request e b (inr (inl q)))
+  asked-row e b S.Open q = row-stays (reported-request e b (inr (inr q)))
+  asked-row e b S.Closed q = absurd (ruled-says u d r T.Request e .0 (inl q))
+  asked-row e b S.Barred q = absurd (ruled-says u d r T.Request e .0 (inr q))
+
   request-row : Ruled u d r T.Request → (b : Bool) → isRequest (fragmentOf d r) ≡ b
       → Row u d r (pick b (judged (requestIn (u .state)) u) (judged (W.Refused X.Malformed) u))
-  request-row e true b = row-stays (request e b)
+  request-row e true b = asked-row e b (u .state) refl
   request-row e false b = row-stays (bad-request e b)
 
   change-row : Ruled u d r T.Change → (b : Bool) → isChange (fragmentOf d r) ≡ b
@@ -357,12 +404,28 @@ module _ (u : Ship) (d : List ℕ) (r : Record) where
     abbrev contentAs : Kind → Step
     contentAs k = contentBy w (u .protection .keys .mac) (u .expected) (u .state) k (r .number) (r .start + r .head) c
 
+    guarded : Guards (u .state) (kindIn d r)
+    guarded = ruled-says u d r T.Unprotect (n .ruled)
+
+    -- the row for an answer, at a state that is known
+    at-state : (a : Answer) {s t : State} → t ≡ s → Row u d r (judged a (withState (withWindow u w) s))
+        → Row u d r (judged a (withState (withWindow u w) t))
+    at-state a e x = subst (λ s. Row u d r (judged a (withState (withWindow u w) s))) (sym e) x
+
+    settles-row : (a : Alert) → kindIn d r ≡ K.ProtectedAlert → alertOf c ≡ R.WellFormed a → a .level ≡ L.Warning
+        → eqb (descriptionNumber (a .description)) 57 ≡ true → (u .state ≡ S.Spec) ⊎ Up (u .state)
+        → Row u d r (judged (W.Warning (a .description)) (withState (withWindow u w) (settled (u .state))))
+    settles-row a k q l b (inl e) =
+        at-state (W.Warning (a .description)) (settled-spec (u .state) e) (row-marked c w n (protected-warning a k q l (inr e)))
+    settles-row a k q l b (inr o) =
+        at-state (W.Warning (a .description)) (settled-open (u .state) o) (row-marked c w n (repeated-finished a k q l b o))
+
     warning-row : (a : Alert) → kindIn d r ≡ K.ProtectedAlert → alertOf c ≡ R.WellFormed a → a .level ≡ L.Warning
         → (b : Bool) → eqb (descriptionNumber (a .description)) 57 ≡ b
         → Row u d r (steppedBy u (step (W.Warning (a .description)) w (pick b Settle Stay)))
     unfolding leftBy
-    warning-row a k q l true b = row-marked c w n (repeated-finished a k q l b)
-    warning-row a k q l false b = row-marked c w n (protected-warning a k q l b)
+    warning-row a k q l true b = settles-row a k q l b (guards-state (u .state) (kindIn d r) guarded)
+    warning-row a k q l false b = row-marked c w n (protected-warning a k q l (inl b))
 
     protected-row : (a : Alert) → kindIn d r ≡ K.ProtectedAlert → alertOf c ≡ R.WellFormed a → (l : Level) → a .level ≡ l
         → Row u d r (steppedBy u (protectedLevel w l (a .description)))
@@ -375,14 +438,6 @@ module _ (u : Ship) (d : List ℕ) (r : Record) where
     unfolding leftBy
     alert-row k R.Malformed q = row-marked c w n (no-alert k q)
     alert-row k (R.WellFormed a) q = protected-row a k q (a .level) refl
-
-    handshake-state : (s : State) (k : Kind) → k ≡ K.ProtectedHandshake → Guards s k → (s ≡ S.Spec) ⊎ Up s
-    handshake-state S.Spec K.ProtectedAlert e spec-alert = inl refl
-    handshake-state S.Spec K.ProtectedHandshake e spec-handshake = inl refl
-    handshake-state s K.ProtectedChange e (up-change x) = inr x
-    handshake-state s K.ProtectedAlert e (up-alert x) = inr x
-    handshake-state s K.ProtectedHandshake e (up-handshake x) = inr x
-    handshake-state s K.ProtectedData e (up-data x) = inr x
 
     finish-row : kindIn d r ≡ K.ProtectedHandshake → isRequest c ≡ false → judgedOf c (u .expected) ≡ F.Right
         → (u .state ≡ S.Spec) ⊎ Up (u .state) → Row u d r (steppedBy u (finishedIn w (u .protection .keys .mac) (u .state)))
@@ -397,21 +452,30 @@ module _ (u : Ship) (d : List ℕ) (r : Record) where
     verified-row : kindIn d r ≡ K.ProtectedHandshake → isRequest c ≡ false → (x : Verified) → judgedOf c (u .expected) ≡ x
         → Row u d r (steppedBy u (verifiedTo w (u .protection .keys .mac) (u .state) x))
     unfolding leftBy
-    verified-row k q F.Right v = finish-row k q v (handshake-state (u .state) (kindIn d r) k (ruled-says u d r T.Unprotect (n .ruled)))
+    verified-row k q F.Right v = finish-row k q v (guards-state (u .state) (kindIn d r) guarded)
     verified-row k q F.Wrong v = row-marked c w n (wrong-finished k q v)
     verified-row k q F.Malformed v = row-marked c w n (no-message k q v)
+
+    requested-row : kindIn d r ≡ K.ProtectedHandshake → isRequest c ≡ true → (u .state ≡ S.Spec) ⊎ Up (u .state)
+        → Row u d r (judged (requestIn (u .state)) (withWindow u w))
+    requested-row k q (inl e) =
+        subst (λ x. Row u d r (judged x (withWindow u w))) (sym (ignored-in (u .state) (inr (inr e)))) (row-marked c w n (protected-ignored k q e))
+    requested-row k q (inr o) =
+        subst (λ x. Row u d r (judged x (withWindow u w))) (sym (reported-in (u .state) (inr o))) (row-marked c w n (protected-reported k q o))
 
     message-row : kindIn d r ≡ K.ProtectedHandshake → (b : Bool) → isRequest c ≡ b
         → Row u d r (steppedBy u (pick b (pick b (step (requestIn (u .state)) w Stay) (refusing w X.Malformed)) (verifiedBy w (u .protection .keys .mac) (u .expected) (u .state) c)))
     unfolding leftBy verifiedBy
-    message-row k true q = row-marked c w n (protected-request k q)
+    message-row k true q = requested-row k q (guards-state (u .state) (kindIn d r) guarded)
     message-row k false q = verified-row k q (judgedOf c (u .expected)) refl
 
     data-row : kindIn d r ≡ K.ProtectedData → (b : Bool) → eqb (length c) 0 ≡ b
         → Row u d r (steppedBy u (pick b (refusing w X.Malformed) (step (W.Data (r .number) (r .start + r .head) (length c)) w Settle)))
     unfolding leftBy
     data-row k true b = row-marked c w n (no-data k (eqb-true (length c) 0 b))
-    data-row k false b = row-marked c w n (some-data k (omega (arith, eqb-false (length c) 0 b)))
+    data-row k false b =
+        at-state (W.Data (r .number) (r .start + r .head) (length c)) (settled-open (u .state) (data-up (u .state) (kindIn d r) k guarded))
+        (row-marked c w n (some-data k (omega (arith, eqb-false (length c) 0 b))))
 
     not-clear : {P : Type 0} (k : Kind) → kindIn d r ≡ k → protectedKind k ≡ false → P
     not-clear k e f = true-false (r .protected) (ruled-protected (n .ruled)) (sym is-protected-kind ∙ ap protectedKind e ∙ f)
@@ -493,7 +557,8 @@ module _ (u : Ship) (d : List ℕ) (r : Record) where
   stays-is (bad-alert e q) = ruled-is T.Hear e ∙ hear-is R.Malformed q
   stays-is (unacceptable term e z q) = agreed-is (G.Unacceptable term) e z q
   stays-is (checksum a e q m) = heard-is a e q false m
-  stays-is (request e q) = ruled-is T.Request e ∙ request-is true q
+  stays-is (ignored-request e q m) = ruled-is T.Request e ∙ request-is true q ∙ ap (λ x. judged x u) (ignored-in (u .state) m)
+  stays-is (reported-request e q m) = ruled-is T.Request e ∙ request-is true q ∙ ap (λ x. judged x u) (reported-in (u .state) m)
   stays-is (warning a e q m l) = leveled-is a e q m L.Warning l
 
   shuts-is : {a : Answer} → Shuts u d r a → judgedRecord u d r ≡ judged a (withState u S.Closed)
@@ -521,6 +586,16 @@ module _ (u : Ship) (d : List ℕ) (r : Record) where
     unfolding warned
     warned-is a k q l b e =
         level-is a k q L.Warning l ∙ ap (λ x. steppedBy u (step (W.Warning (a .description)) w (pick x Settle Stay))) e
+
+    -- one on a repeated Finished, where it settles nothing
+    warned-in-spec : (a : Alert) → kindIn d r ≡ K.ProtectedAlert → alertOf c ≡ R.WellFormed a → a .level ≡ L.Warning → u .state ≡ S.Spec
+        → (b : Bool) → eqb (descriptionNumber (a .description)) 57 ≡ b
+        → judgedRecord u d r ≡ judged (W.Warning (a .description)) (withWindow u w)
+    unfolding leftBy
+    warned-in-spec a k q l e true b =
+        warned-is a k q l true b
+        ∙ ap (λ s. judged (W.Warning (a .description)) (withState (withWindow u w) s)) (settled-spec (u .state) e)
+    warned-in-spec a k q l e false b = warned-is a k q l false b
 
     abbrev messageAs : Bool → Step
     messageAs b =
@@ -550,11 +625,19 @@ module _ (u : Ship) (d : List ℕ) (r : Record) where
     marked-is (no-alert k q) = alert-is R.Malformed k q
     marked-is (no-message k q v) = verdict-is F.Malformed k q v (u .state) refl
     marked-is (no-data k z) = data-is true k (eq-eqb (length c) 0 z)
-    marked-is (some-data k z) = data-is false k (ne-eqb (length c) 0 (λ e. omega arith))
-    marked-is (protected-warning a k q l e) = warned-is a k q l false e
-    marked-is (repeated-finished a k q l e) = warned-is a k q l true e
+    marked-is (some-data k z) =
+        data-is false k (ne-eqb (length c) 0 (λ e. omega arith))
+        ∙ ap (λ s. judged (W.Data (r .number) (r .start + r .head) (length c)) (withState (withWindow u w) s))
+        (settled-open (u .state) (data-up (u .state) (kindIn d r) k (ruled-says u d r T.Unprotect (n .ruled))))
+    marked-is (protected-warning a k q l (inl e)) = warned-is a k q l false e
+    marked-is (protected-warning a k q l (inr e)) = warned-in-spec a k q l e (eqb (descriptionNumber (a .description)) 57) refl
+    marked-is (repeated-finished a k q l e o) =
+        warned-is a k q l true e
+        ∙ ap (λ s. judged (W.Warning (a .description)) (withState (withWindow u w) s)) (settled-open (u .state) o)
     marked-is (protected-critical a k q l) = level-is a k q L.Critical l
-    marked-is (protected-request k q) = message-is true k q
+    marked-is (protected-ignored k q e) =
+        message-is true k q ∙ ap (λ x. judged x (withWindow u w)) (ignored-in (u .state) (inr (inr e)))
+    marked-is (protected-reported k q o) = message-is true k q ∙ ap (λ x. judged x (withWindow u w)) (reported-in (u .state) (inr o))
     marked-is (finished-again k q v (inl e)) = verdict-is F.Right k q v S.Opening e
     marked-is (finished-again k q v (inr e)) = verdict-is F.Right k q v S.Open e
     marked-is (wrong-finished k q v) = verdict-is F.Wrong k q v (u .state) refl

@@ -4,6 +4,7 @@ use mathlib.Core.Path.{_≡_}
 use mathlib.Core.Logic.{_≢_}
 use mathlib.Core.List.{List}
 use Prim.Native.Nat.{ℕ}
+use lib.ListN.{replicate}
 use Rattle.record.specs.declared.header.Content.the-variants as C
 use Rattle.record.specs.declared.reader.Record.{Record}
 use Rattle.message.specs.Alert.{alertOf}
@@ -30,6 +31,20 @@ pub record FatalUnderCode (u : Ship) (e : Event) : Type 0 where
   pub a : Alert
   pub well-formed : alertOf c ≡ R.WellFormed a
   pub fatal : a .level ≡ L.Fatal
+
+-- barred, and the session's identifier, its secret, both randoms and what Finished is to hold are zeros: "required to forget any session
+-- identifiers, keys, and secrets" (002 10.2.2)
+pub record Forgot (u : Ship) : Type 0 where
+  pub state-is : u .state ≡ Barred
+  pub id-is : u .id ≡ replicate 8 0
+  pub secret-is : u .protection .keys .secret ≡ replicate 20 0
+  pub server-is : u .protection .keys .server ≡ replicate 16 0
+  pub client-is : u .protection .keys .client ≡ replicate 16 0
+  pub expected-is : u .expected ≡ replicate 12 0
+
+-- a genuine, new, well-formed fatal alert bars
+unfoldable pub FatalBars : Type 0
+FatalBars = (u : Ship) (e : Event) → FatalUnderCode u e → Forgot (next u e)
 
 -- Barred is reached by a genuine, new fatal alert only
 unfoldable pub BarredOnlyByFatal : Type 0

@@ -25,6 +25,6 @@ SendsChangeOnly =
     × ((u : Ship) (protected : Bool) (level description : ℕ) (answered : List ℕ) (room : ℕ)
     → Alike u (alertSent u protected level description answered room .unit))
 
--- "again: .. Changes nothing, not counted as sent."
+-- what is said again changes nothing and is not counted as sent
 unfoldable pub AgainChangesNothing : Type 0
 AgainChangesNothing = (u : Ship) (room : ℕ) → againSent u room .unit ≡ u

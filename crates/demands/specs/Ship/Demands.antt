@@ -8,7 +8,7 @@ use Rattle.demands.specs.Ship.Changes.{SendsChangeOnly, AgainChangesNoth
 use Rattle.demands.specs.Ship.Again.{AgainSame}
 use Rattle.demands.specs.Ship.Kept.{WindowIsWhatHappened}
 use Rattle.demands.specs.Ship.Finished.{OnlyAfterFinished}
-use Rattle.demands.specs.Ship.Barred.{BarredOnlyByFatal, BarredForGood}
+use Rattle.demands.specs.Ship.Barred.{FatalBars, BarredOnlyByFatal, BarredForGood}
 use Rattle.demands.specs.Ship.LeftOut.{LeavesOutRecords}
 use Rattle.demands.specs.Ship.HandedOut.{GoesAlong, HandedOut, HandedOnce}
 use Rattle.demands.specs.Ship.Counts.{CountsRight}
@@ -30,6 +30,7 @@ pub record Second : Type 0 where
   -- "Data is handed out only after .. Finished has been verified": the shore's
   pub only-after-finished : OnlyAfterFinished
   -- "A fatal alert accepted under its authentication code bars that connection's session from being resumed."
+  pub fatal-bars : FatalBars
   pub only-by-fatal : BarredOnlyByFatal
   pub for-good : BarredForGood
 

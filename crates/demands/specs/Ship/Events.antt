@@ -1,5 +1,5 @@
--- A run of a unit, record by record. A call to receive that is not refused as a whole is its records, one after the other: "Record by
--- record, as ashore". So a place in a run is a place between two events, also inside a datagram.
+-- A run of a unit, record by record. A call to receive that is not refused as a whole is its records, one after the other, as
+-- ashore. So a place in a run is a place between two events, also inside a datagram.
 use mathlib.Core.Path.{_≡_}
 use mathlib.Core.Bool.{Bool, true, false}
 use mathlib.Core.List.{List, [], _∷_, _++_, map}

@@ -35,8 +35,8 @@ pub record ExactlyFresh : Type 0 where
   pub goes : (id secret : List ℕ) (width : ℕ)
       → (freshOf id secret width .outcome ≡ Done) ↔ ((length id ≡ 8) × (length secret ≡ 20) × Held width)
 
--- ---- hello: "in Idle only (7, 8). Arguments: client random (16 bytes), MAC kinds in order (one or both of 2, 3, no repetition), refresh
--- 0 to 255; else 16. Then 7, 8, 6." "43 bytes with one kind, 45 with two."
+-- ---- hello: in Idle only (7, 8). Arguments: client random (16 bytes), MAC kinds in order (one or both of 2, 3, no repetition), refresh
+-- 0 to 255; else 16. Then 7, 8, 6.
 
 abbrev pub Kinds : List ℕ → Type 0
 Kinds macs = (macs ≡ 2 ∷ []) ⊎ (macs ≡ 3 ∷ []) ⊎ (macs ≡ 2 ∷ 3 ∷ []) ⊎ (macs ≡ 3 ∷ 2 ∷ [])
@@ -44,7 +44,7 @@ Kinds macs = (macs ≡ 2 ∷ []) ⊎ (macs ≡ 3 ∷ []) ⊎ (macs ≡ 2 ∷ 3 �
 abbrev pub HelloFits : ℕ → List ℕ → ℕ → Type 0
 HelloFits random macs refresh = (random ≡ 16) × (refresh ≤ 255) × Kinds macs
 
--- "43 bytes with one kind, 45 with two"
+-- 43 bytes with one kind, 45 with two
 abbrev pub helloSize : List ℕ → ℕ
 helloSize macs = 41 + (length macs + length macs)
 
@@ -63,7 +63,7 @@ pub record ExactlyHello (g : Shipboard) : Type 0 where
       → (g u (hello random macs refresh out) .result ≡ sent Done (helloSize macs))
       ↔ (HelloFits (length random) macs refresh × (u .state ≡ Idle) × (helloSize macs ≤ length out))
 
--- ---- again: "Sent, Replied, Spec: the hello datagram; Opening: the flight; Idle and Open 8; Closed, Barred 7; then 6"
+-- ---- again: Sent, Replied, Spec: the hello datagram; Opening: the flight; Idle and Open 8; Closed, Barred 7; then 6
 
 -- the datagram that is said again in a state: the hello's, or the flight's
 abbrev pub againBytes : Ship → State → List ℕ
@@ -109,7 +109,7 @@ pub record ExactlyData (g : Shipboard) : Type 0 where
       ↔ (DataFits (length bytes) × Up (u .state) × (u .protection .protected ≤ 65535)
       × (3 + length bytes + sizeOf (u .protection .keys .mac) ≤ length out))
 
--- ---- send an alert: "Data and protected alerts in Opening and Open .. Clear alerts in Sent, Replied, Spec". An alert is six bytes.
+-- ---- send an alert: data and protected alerts in Opening and Open, clear alerts in Sent, Replied and Spec. An alert is six bytes.
 
 abbrev pub AlertMay : Bool → State → Type 0
 AlertMay true state = Up state

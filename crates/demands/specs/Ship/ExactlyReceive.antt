@@ -1,5 +1,6 @@
--- The refusals of a datagram at the shipboard end, and of its records, from the call down to the bytes (02, P7: "receive: 6 (room under
--- 128), 1, framing, then one answer per record, each in the state the earlier ones left"). Framing is said ashore, over the bytes.
+-- The refusals of a datagram at the shipboard end, and of its records, from the call down to the bytes (01: "Receive: 16, 6, 1, then
+-- framing from the front .., then one answer per record"). Here 16 has no place, 6 is for room under 128, and each record is answered in
+-- the state that the earlier ones left. Framing is said ashore, over the bytes.
 use mathlib.Core.Path.{_≡_}
 use mathlib.Core.Logic.{_↔_}
 use mathlib.Core.List.{List, []}

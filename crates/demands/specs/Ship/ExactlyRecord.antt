@@ -1,6 +1,6 @@
 -- The refusals of a record at the shipboard end, each exactly when (02, P7: "document 01's numbers; .. each in document 01's order"):
--- "Per record: 7; then place and state (8); then code and window; then content 12, then 13, 14 or 17." Said over the bytes of the
--- datagram, the state, the numbers accepted before and the records sent. What the bytes of a record say is said ashore.
+-- "Per record: 7; then place and state (18, 8); then code and window; then content 12, then 13, 14 or 17." 18 has no place here. Said over
+-- the bytes of the datagram, the state, the numbers accepted before and the records sent. What the bytes of a record say is said ashore.
 use mathlib.Core.Path.{_≡_}
 use mathlib.Core.Logic.{_↔_, _⊎_, _≢_}
 use mathlib.Core.Bool.{Bool, true, false}
@@ -37,7 +37,7 @@ use Rattle.demands.specs.Ship.Course.{HoldsNumbers}
 
 -- ---- the table
 
--- a clear handshake record that begins so: "ServerHello (clear, content 3, first byte 2)", "HelloRequest (first byte 0 ..)"
+-- a clear handshake record that begins so: a ServerHello with 2, a HelloRequest with 0
 pub record Begins (first : ℕ) (q : Seen) : Type 0 where
   pub clear : q .protected ≡ false
   pub handshake : q .content ≡ C.Handshake
@@ -49,7 +49,7 @@ IsHello q = Begins 2 q
 abbrev pub IsRequest : Seen → Type 0
 IsRequest q = Begins 0 q
 
--- "message exactly `00 0000`"
+-- the whole message
 abbrev pub requestBytes : List ℕ
 requestBytes = 0 ∷ 0 ∷ 0 ∷ []
 
@@ -58,8 +58,8 @@ pub record GuardedAs (state : State) (q : Seen) : Type 0 where
   pub protection : q .protected ≡ true
   pub kind : ((state ≡ Spec) × ((q .content ≡ C.Alert) ⊎ (q .content ≡ C.Handshake))) ⊎ Up state
 
--- what is allowed: a ServerHello "first in its datagram, in Sent, Replied and Spec"; a HelloRequest in any place and state;
--- "Clear change cipher spec: Replied only"; "Clear alert received in Sent, Replied, Spec"; and the protected ones
+-- what is allowed: a ServerHello, first in its datagram, in Sent, Replied and Spec; a HelloRequest in any place and state;
+-- a clear change cipher spec in Replied only; a clear alert in Sent, Replied and Spec; and the protected ones
 pub data Allowed (state : State) (q : Seen) : Type 0 where
   hello : Midway state → IsHello q → q .at ≡ 0 → Allowed state q
   request : IsRequest q → Allowed state q
@@ -88,12 +88,12 @@ pub record WellFormedHello (m : List ℕ) : Type 0 where
   pub can : serverAllowed values ≡ true
   pub layout : serverHelloFrom values ≡ m
 
--- "an offered kind": SHA_80, 2, or SHA, 3
+-- an offered kind: SHA_80, 2, or SHA, 3
 abbrev pub Offered : Kinds → ℕ → Type 0
 Offered kinds n = ((n ≡ 2) × (offers kinds Sha80 ≡ true)) ⊎ ((n ≡ 3) × (offers kinds Sha ≡ true))
 
--- "version 1; the session named; client key number 0; null cipher and an offered kind; null compression; explicit; refresh at most the
--- offered"
+-- version 1; the session named; client key number 0; null cipher and an offered kind; null compression; explicit; refresh at most the
+-- offered
 pub record Acceptable (v : ServerValues) (id : List ℕ) (offer : Offer) : Type 0 where
   pub version : v .version ≡ 1
   pub session : v .session ≡ id
@@ -120,7 +120,7 @@ pub data WhyMalformed (u : Ship) (numbers : List ℕ) (q : Seen) : Type 0 where
 abbrev pub WhyRecord : Ship → List ℕ → Seen → Refusal → Type 0
 -- 7: "Barred, or Closed"
 WhyRecord u numbers q X.Ended = Over (u .state)
--- 8: "record not allowed in this state or place"
+-- 8: "record or call not allowed in this state or place"
 WhyRecord u numbers q X.NotAllowed = (Over (u .state) → ⊥) × (Allowed (u .state) q → ⊥)
 -- 9: "code not right"
 WhyRecord u numbers q X.Forged = GuardedAs (u .state) q × ((c : List ℕ) → CodedAs (u .protection .keys) q c → ⊥)
@@ -128,7 +128,7 @@ WhyRecord u numbers q X.Forged = GuardedAs (u .state) q × ((c : List ℕ) → C
 WhyRecord u numbers q X.TooOld =
     GuardedAs (u .state) q × ((c : List ℕ) × CodedAs (u .protection .keys) q c) ×
     (q .number + u .protection .window .width ≤ highestOf numbers)
--- 11: "repeated": "a number accepted before"
+-- 11: "repeated": a number accepted before
 WhyRecord u numbers q X.Repeated =
     GuardedAs (u .state) q × ((c : List ℕ) × CodedAs (u .protection .keys) q c) ×
     (highestOf numbers < q .number + u .protection .window .width) × (accepted numbers (q .number) ≡ true)

@@ -1,5 +1,5 @@
--- Demand 3 at the shipboard end (02, P7: "built to the same rules"): a protected record is genuine "if its datagram is soundly framed
--- and its code is right under the key for its number", which is here the shore's.
+-- Demand 3 at the shipboard end (02, P7: "receive data and alerts under the same window rules"): a protected record is "genuine if
+-- its datagram is soundly framed and its code is right under the key for its number", which is here the shore's.
 use mathlib.Core.Path.{_≡_}
 use mathlib.Core.Bool.{Bool, true, false}
 use mathlib.Core.List.{List}

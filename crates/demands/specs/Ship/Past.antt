@@ -75,7 +75,7 @@ lastHello (closed ∷ past) = lastHello past
 lastHello (started ∷ past) = lastHello past
 lastHello (refused ∷ past) = lastHello past
 
--- the last ServerHello that was taken, and the hello that it answered
+-- the last ServerHello that was taken in this handshake, and the hello that it answered: a hello or a start begins another
 pub data Read : Type 0 where
   unread : Read
   read : (random : List ℕ) (offer : Offer) (m : List ℕ) → Read
@@ -87,11 +87,11 @@ readAs (said random offer) m = read random offer m
 unfoldable pub lastRead : List Happened → Read
 lastRead [] = unread
 lastRead (answered d r a ∷ past) = pick (isHello a) (readAs (lastHello past) (fragmentOf d r)) (lastRead past)
-lastRead (greeted random macs refresh bytes ∷ past) = lastRead past
+lastRead (greeted random macs refresh bytes ∷ past) = unread
 lastRead (said-again bytes ∷ past) = lastRead past
 lastRead (wrote protected bytes ∷ past) = lastRead past
 lastRead (closed ∷ past) = lastRead past
-lastRead (started ∷ past) = lastRead past
+lastRead (started ∷ past) = unread
 lastRead (refused ∷ past) = lastRead past
 
 -- the keys of a secret and two hellos

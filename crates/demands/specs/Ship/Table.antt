@@ -1,12 +1,12 @@
 -- The unit's state table (02, P7) as rules from the state and the bytes of a record to its answer and to what it leaves: "the reply's
--- records are checked from the front, each in document 01's order"; 01: "Per record: 7; then place and state (8); then code and
--- window; then content 12, then 13, 14 or 17."
+-- records are checked from the front, each in document 01's order"; 01: "Per record: 7; then place and state (18, 8); then code and
+-- window; then content 12, then 13, 14 or 17." 18 has no place here. Each outcome is written out, not left to the unit.
 use mathlib.Core.Path.{_≡_}
 use mathlib.Core.Logic.{_↔_, _⊎_, _≢_}
 use mathlib.Core.Bool.{Bool, true, false}
 use mathlib.Core.List.{List}
 use Prim.Native.Nat.{ℕ, _+_, _<_}
-use lib.ListN.{length}
+use lib.ListN.{length, replicate}
 use lib.Dec.{eqb}
 use Rattle.record.specs.Window.{acceptOf, emptied}
 use Rattle.record.specs.declared.window.Window.{Window}
@@ -24,17 +24,17 @@ use Rattle.message.specs.declared.alert.Alert.{Alert}
 use Rattle.message.specs.declared.alert.Level.the-variants as L
 use Rattle.message.specs.declared.alert.Reading.the-variants as R
 use Rattle.message.specs.declared.finished.Verified.the-variants as F
+use Rattle.message.specs.declared.offer.Kinds.the-variants.{Sha80}
 use Rattle.connection.specs.Judge.{fragmentOf}
 use Rattle.connection.specs.Sent.{matchesOf}
 use Rattle.connection.specs.declared.refusal.Refusal.the-variants as X
-use Rattle.unit.specs.State.{ruleOf, settled}
-use Rattle.unit.specs.Clear.{requestIn}
+use Rattle.unit.specs.State.{ruleOf}
 use Rattle.unit.specs.Protected.{flightSize}
-use Rattle.unit.specs.Unit.{withState, withWindow, opened, barred}
+use Rattle.unit.specs.Unit.{withState, withWindow, opened}
 use Rattle.unit.specs.Agree.{agreedWith, judged}
 use Rattle.unit.specs.Judge.{kindIn, judgedRecord}
 use Rattle.unit.specs.declared.state.State.{State}
-use Rattle.unit.specs.declared.state.State.the-variants.{Sent, Replied, Spec, Opening, Open, Closed, Barred}
+use Rattle.unit.specs.declared.state.State.the-variants.{Idle, Sent, Replied, Spec, Opening, Open, Closed, Barred}
 use Rattle.unit.specs.declared.state.Kind.the-variants as K
 use Rattle.unit.specs.declared.state.Rule.{Rule}
 use Rattle.unit.specs.declared.state.Rule.the-variants as T
@@ -44,14 +44,18 @@ use Rattle.unit.specs.declared.agree.Judged.{Judged}
 use Rattle.unit.specs.declared.unit.Unit.{Unit as Ship}
 use Rattle.demands.specs.Ship.Genuine.{Protected}
 
--- states by name, where a row is for several of them: in the middle of a handshake; and "Opening, Open"
+-- states by name, where a row is for several of them: in the middle of a handshake; and Opening, Open
 abbrev pub Midway : State → Type 0
 Midway s = (s ≡ Sent) ⊎ (s ≡ Replied) ⊎ (s ≡ Spec)
 
 abbrev pub Up : State → Type 0
 Up s = (s ≡ Opening) ⊎ (s ≡ Open)
 
--- "Closed, Barred 7"
+-- no handshake on its way
+abbrev pub Outside : State → Type 0
+Outside s = (s ≡ Idle) ⊎ Up s
+
+-- Closed, Barred: 7
 abbrev pub Over : State → Type 0
 Over s = (s ≡ Closed) ⊎ (s ≡ Barred)
 
@@ -70,7 +74,7 @@ pub record New (u : Ship) (d : List ℕ) (r : Record) (c : List ℕ) (w : Window
 pub data Stays (u : Ship) (d : List ℕ) (r : Record) : Answer → Type 0 where
   -- 7
   at-end : Ruled u d r T.Ended → Stays u d r (W.Refused X.Ended)
-  -- 8; "ServerHello: first in its datagram"
+  -- 8; a ServerHello is the first record of its datagram
   not-allowed : Ruled u d r T.NotAllowed → Stays u d r (W.Refused X.NotAllowed)
   not-first : Ruled u d r T.Agree → r .start ≢ 0 → Stays u d r (W.Refused X.NotAllowed)
   -- 9, 10, 11
@@ -91,7 +95,8 @@ pub data Stays (u : Ship) (d : List ℕ) (r : Record) : Answer → Type 0 where
   checksum : (a : Alert) → Ruled u d r T.Hear → alertOf (fragmentOf d r) ≡ R.WellFormed a → matchesOf (u .sent) (a .checksum) ≡ false
       → Stays u d r (W.Refused X.Checksum)
   -- "A HelloRequest in the middle of a handshake is ignored; otherwise it is reported and changes nothing."
-  request : Ruled u d r T.Request → isRequest (fragmentOf d r) ≡ true → Stays u d r (requestIn (u .state))
+  ignored-request : Ruled u d r T.Request → isRequest (fragmentOf d r) ≡ true → Midway (u .state) → Stays u d r W.Ignored
+  reported-request : Ruled u d r T.Request → isRequest (fragmentOf d r) ≡ true → Outside (u .state) → Stays u d r W.Request
   -- a clear warning
   warning : (a : Alert) → Ruled u d r T.Hear → alertOf (fragmentOf d r) ≡ R.WellFormed a → matchesOf (u .sent) (a .checksum) ≡ true
       → a .level ≡ L.Warning → Stays u d r (W.Warning (a .description))
@@ -112,23 +117,48 @@ pub data Marked (u : Ship) (d : List ℕ) (r : Record) (c : List ℕ) : Answer �
   no-message : kindIn d r ≡ K.ProtectedHandshake → isRequest c ≡ false → judgedOf c (u .expected) ≡ F.Malformed
       → Marked u d r c (W.Refused X.Malformed) (u .state)
   no-data : kindIn d r ≡ K.ProtectedData → length c ≡ 0 → Marked u d r c (W.Refused X.Malformed) (u .state)
-  -- "data handed out"; "until the first data or the warning on a repeated Finished arrives": Opening becomes Open
+  -- data is handed out; "until the first data or the warning on a repeated Finished arrives": Opening becomes Open
   some-data : kindIn d r ≡ K.ProtectedData → 0 < length c
-      → Marked u d r c (W.Data (r .number) (r .start + r .head) (length c)) (settled (u .state))
-  -- "protected alerts by level"; a fatal one: `row-barred`
+      → Marked u d r c (W.Data (r .number) (r .start + r .head) (length c)) Open
+  -- protected alerts by level; a fatal one: `row-bars`. In Spec no warning is one on a repeated Finished.
   protected-warning : (a : Alert) → kindIn d r ≡ K.ProtectedAlert → alertOf c ≡ R.WellFormed a → a .level ≡ L.Warning
-      → eqb (descriptionNumber (a .description)) 57 ≡ false → Marked u d r c (W.Warning (a .description)) (u .state)
+      → (eqb (descriptionNumber (a .description)) 57 ≡ false) ⊎ (u .state ≡ Spec) → Marked u d r c (W.Warning (a .description)) (u .state)
   repeated-finished : (a : Alert) → kindIn d r ≡ K.ProtectedAlert → alertOf c ≡ R.WellFormed a → a .level ≡ L.Warning
-      → eqb (descriptionNumber (a .description)) 57 ≡ true → Marked u d r c (W.Warning (a .description)) (settled (u .state))
+      → eqb (descriptionNumber (a .description)) 57 ≡ true → Up (u .state) → Marked u d r c (W.Warning (a .description)) Open
   protected-critical : (a : Alert) → kindIn d r ≡ K.ProtectedAlert → alertOf c ≡ R.WellFormed a → a .level ≡ L.Critical
       → Marked u d r c (W.Critical (a .description)) Closed
-  -- "Protected: in Spec ignored, in Opening and Open reported; marked like every genuine new record"
-  protected-request : kindIn d r ≡ K.ProtectedHandshake → isRequest c ≡ true → Marked u d r c (requestIn (u .state)) (u .state)
-  -- "Finished under a new number `again` or 17", which closes
+  -- a HelloRequest under protection: ignored in Spec, reported in Opening and Open, marked like every genuine new record
+  protected-ignored : kindIn d r ≡ K.ProtectedHandshake → isRequest c ≡ true → u .state ≡ Spec → Marked u d r c W.Ignored (u .state)
+  protected-reported : kindIn d r ≡ K.ProtectedHandshake → isRequest c ≡ true → Up (u .state) → Marked u d r c W.Request (u .state)
+  -- Finished under a new number: `again`, or 17, which closes
   finished-again : kindIn d r ≡ K.ProtectedHandshake → isRequest c ≡ false → judgedOf c (u .expected) ≡ F.Right → Up (u .state)
       → Marked u d r c W.Again (u .state)
   wrong-finished : kindIn d r ≡ K.ProtectedHandshake → isRequest c ≡ false → judgedOf c (u .expected) ≡ F.Wrong
       → Marked u d r c (W.Refused X.WrongFinished) Closed
+
+-- What a barred unit keeps: "required to forget any session identifiers, keys, and secrets" (002 10.2.2). Zeros stand in their place.
+abbrev pub forgotten : Ship → Ship
+forgotten u =
+    record {
+      state = Barred;
+      id = replicate 8 0;
+      offer = record { kinds = Sha80; refresh = 0 };
+      expected = replicate 12 0;
+      flight = u .flight;
+      sent = u .sent;
+      protection = record {
+        keys = record {
+          secret = replicate 20 0;
+          server = replicate 16 0;
+          client = replicate 16 0;
+          mac = u .protection .keys .mac;
+          refresh = u .protection .keys .refresh;
+        };
+        window = u .protection .window;
+        protected = u .protection .protected;
+        clear = u .protection .clear;
+      };
+    }
 
 -- The rows: the record r of the datagram d, in the unit u, gives this answer and leaves this unit.
 pub data Row (u : Ship) (d : List ℕ) (r : Record) : Judged → Type 0 where
@@ -138,19 +168,19 @@ pub data Row (u : Ship) (d : List ℕ) (r : Record) : Judged → Type 0 where
   row-hello : (plan : Plan) → Ruled u d r T.Agree → r .start ≡ 0
       → agreementOf (fragmentOf d r) (u .id) (u .offer) ≡ G.Agreed plan
       → Row u d r (judged W.Hello (agreedWith u (fragmentOf d r) plan))
-  -- "Clear change cipher spec: Replied only; empties the window."
+  -- a clear change cipher spec, in Replied only, empties the window
   row-change : Ruled u d r T.Change → isChange (fragmentOf d r) ≡ true
       → Row u d r (judged W.Spec (withState (withWindow u (emptied (u .protection .window))) Spec))
   -- a protected record: its number is marked
   row-marked : (c : List ℕ) (w : Window) {a : Answer} {s : State} → New u d r c w → Marked u d r c a s
       → Row u d r (judged a (withState (withWindow u w) s))
-  -- "Finished, contents for "server finished" over both hellos: writes the flight"
+  -- Finished with the contents for "server finished" over both hellos: the flight is written
   row-opens : (c : List ℕ) (w : Window) → New u d r c w → u .state ≡ Spec → kindIn d r ≡ K.ProtectedHandshake → isRequest c ≡ false
       → judgedOf c (u .expected) ≡ F.Right
       → Row u d r (judged (W.Open (flightSize (u .protection .keys .mac))) (opened (withWindow u w)))
   -- "fatal closes it and, if protected, bars the session" (01)
   row-bars : (c : List ℕ) (w : Window) (a : Alert) → New u d r c w → kindIn d r ≡ K.ProtectedAlert → alertOf c ≡ R.WellFormed a
-      → a .level ≡ L.Fatal → Row u d r (judged (W.Barred (a .description)) (barred (withWindow u w)))
+      → a .level ≡ L.Fatal → Row u d r (judged (W.Barred (a .description)) (forgotten (withWindow u w)))
 
 -- The table holds, and nothing else does: a record is answered so exactly if there is a row that says so.
 unfoldable pub TableHolds : Type 0
