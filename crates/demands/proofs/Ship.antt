@@ -7,6 +7,7 @@ pub mod ServerHello
 pub mod ExactlyRecord
 pub mod ExactlyCalls
 pub mod ExactlyReceive
+pub mod InCalls
 pub mod Refusals
 pub mod LeftOut
 pub mod Barred

@@ -9,6 +9,7 @@ pub mod HandedOut
 pub mod ExactlyRecord
 pub mod ExactlyCalls
 pub mod ExactlyReceive
+pub mod InCalls
 pub mod Refusals
 pub mod LeftOut
 pub mod Barred

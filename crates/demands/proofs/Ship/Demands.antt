@@ -10,6 +10,7 @@ use Rattle.demands.proofs.Ship.Finished.{only-after-finished}
 use Rattle.demands.proofs.Ship.Barred.{barred-only-by-fatal, barred-for-good}
 use Rattle.demands.proofs.Ship.LeftOut.{leaves-out}
 use Rattle.demands.proofs.Ship.HandedOut.{goes-along, handed-out, handed-once}
+use Rattle.demands.proofs.Ship.InCalls.{runs-are-events, answers-in-place}
 use Rattle.demands.proofs.Ship.Counts.{counts-right}
 
 pub demands : Demands
@@ -26,6 +27,13 @@ demands =
         only-by-fatal = barred-only-by-fatal;
         for-good = barred-for-good;
       };
-      third = record { left-out-records = leaves-out; goes-along = goes-along; handed-out = handed-out; handed-once = handed-once };
+      third = record {
+        left-out-records = leaves-out;
+        goes-along = goes-along;
+        handed-out = handed-out;
+        handed-once = handed-once;
+        runs-are-events = runs-are-events;
+        answers-in-place = answers-in-place;
+      };
       counts = counts-right;
     }

@@ -11,6 +11,7 @@ use Rattle.demands.specs.Ship.Finished.{OnlyAfterFinished}
 use Rattle.demands.specs.Ship.Barred.{BarredOnlyByFatal, BarredForGood}
 use Rattle.demands.specs.Ship.LeftOut.{LeavesOutRecords}
 use Rattle.demands.specs.Ship.HandedOut.{GoesAlong, HandedOut, HandedOnce}
+use Rattle.demands.specs.Ship.InCalls.{RunsAreEvents, AnswersInPlace}
 use Rattle.demands.specs.Ship.Counts.{CountsRight}
 
 -- "Bad input is refused with a number from the list. A refused call writes nothing into the output we lend, and the connection is as
@@ -41,6 +42,9 @@ pub record Third : Type 0 where
   pub goes-along : GoesAlong
   pub handed-out : HandedOut
   pub handed-once : HandedOnce
+  -- what is said of events is said of runs of calls
+  pub runs-are-events : RunsAreEvents
+  pub answers-in-place : AnswersInPlace
 
 pub record Demands : Type 0 where
   pub first : First
