@@ -8,6 +8,7 @@ pub mod ExactlyRecord
 pub mod ExactlyCalls
 pub mod ExactlyReceive
 pub mod InCalls
+pub mod Writes
 pub mod Refusals
 pub mod LeftOut
 pub mod Barred

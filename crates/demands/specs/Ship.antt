@@ -11,6 +11,7 @@ pub mod ExactlyCalls
 pub mod ExactlyReceive
 pub mod InCalls
 pub mod Refusals
+pub mod Writes
 pub mod LeftOut
 pub mod Barred
 pub mod Past

@@ -11,6 +11,7 @@ use Rattle.demands.proofs.Ship.Barred.{barred-only-by-fatal, barred-for
 use Rattle.demands.proofs.Ship.LeftOut.{leaves-out}
 use Rattle.demands.proofs.Ship.HandedOut.{goes-along, handed-out, handed-once}
 use Rattle.demands.proofs.Ship.InCalls.{runs-are-events, answers-in-place}
+use Rattle.demands.proofs.Ship.Writes.{again-gives, hello-said-next, nothing-without-open, data-written, alert-written}
 use Rattle.demands.proofs.Ship.Counts.{counts-right}
 
 pub demands : Demands
@@ -22,6 +23,11 @@ demands =
         sends-change = sends-change-only;
         again-changes = again-changes-nothing;
         again-same = again-same-datagram;
+        again-gives = again-gives;
+        hello-said = hello-said-next;
+        unwritten = nothing-without-open;
+        data-written = data-written;
+        alert-written = alert-written;
         window = window-is-what-happened;
         only-after-finished = only-after-finished;
         only-by-fatal = barred-only-by-fatal;
