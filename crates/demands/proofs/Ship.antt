@@ -7,6 +7,8 @@ pub mod ServerHello
 pub mod ExactlyRecord
 pub mod ExactlyCalls
 pub mod ExactlyReceive
+pub mod InCalls
+pub mod Writes
 pub mod Refusals
 pub mod LeftOut
 pub mod Barred

@@ -9,7 +9,9 @@ pub mod HandedOut
 pub mod ExactlyRecord
 pub mod ExactlyCalls
 pub mod ExactlyReceive
+pub mod InCalls
 pub mod Refusals
+pub mod Writes
 pub mod LeftOut
 pub mod Barred
 pub mod Past

@@ -11,6 +11,8 @@ use Rattle.demands.specs.Ship.Finished.{OnlyAfterFinished}
 use Rattle.demands.specs.Ship.Barred.{FatalBars, BarredOnlyByFatal, BarredForGood}
 use Rattle.demands.specs.Ship.LeftOut.{LeavesOutRecords}
 use Rattle.demands.specs.Ship.HandedOut.{GoesAlong, HandedOut, HandedOnce}
+use Rattle.demands.specs.Ship.InCalls.{RunsAreEvents, AnswersInPlace}
+use Rattle.demands.specs.Ship.Writes.{AgainGives, HelloSaidNext, NothingWithoutOpen, DataWritten, AlertWritten}
 use Rattle.demands.specs.Ship.Counts.{CountsRight}
 
 -- "Bad input is refused with a number from the list. A refused call writes nothing into the output we lend, and the connection is as
@@ -26,6 +28,12 @@ pub record Second : Type 0 where
   pub sends-change : SendsChangeOnly
   pub again-changes : AgainChangesNothing
   pub again-same : AgainSame
+  -- "A success writes the counted bytes at the front and no others."
+  pub again-gives : AgainGives stepOf
+  pub hello-said : HelloSaidNext stepOf
+  pub unwritten : NothingWithoutOpen stepOf
+  pub data-written : DataWritten stepOf
+  pub alert-written : AlertWritten stepOf
   pub window : WindowIsWhatHappened
   -- "Data is handed out only after .. Finished has been verified": the shore's
   pub only-after-finished : OnlyAfterFinished
@@ -42,6 +50,9 @@ pub record Third : Type 0 where
   pub goes-along : GoesAlong
   pub handed-out : HandedOut
   pub handed-once : HandedOnce
+  -- what is said of events is said of runs of calls
+  pub runs-are-events : RunsAreEvents
+  pub answers-in-place : AnswersInPlace
 
 pub record Demands : Type 0 where
   pub first : First
