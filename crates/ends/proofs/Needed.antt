@@ -19,7 +19,6 @@ use Rattle.record.specs.declared.reader.Record.{Record}
 use Rattle.record.specs.declared.window.Window.{Window}
 use Rattle.record.specs.declared.window.Acceptance.the-variants as A
 use Rattle.record.proofs.Histories.{meaning, old-when}
-use Rattle.record.proofs.ProtectedBytes.{size-most}
 use Rattle.message.specs.Alert.{alertOf, alertBytes}
 use Rattle.message.specs.declared.alert.Alert.{Alert}
 use Rattle.message.specs.declared.alert.Description.the-variants as D
@@ -283,12 +282,15 @@ module _ (s : Setting) (ls : ListedSetting s) where
       subst (Unreplaced c) (sym (acts-are c x random space lr lo ∙ ap (recordsIn random x) f))
       ((λ z. let y : C.Data ≡ C.Handshake = sym is-data ∙ z .handshake in let v : _≡_ {A = ℕ} 0 1 = cc in omega arith), tt)
 
-  module _ (bytes out random space : List ℕ) (b : ListedData bytes) (room : 23 + length bytes ≤ length out) (o : ListedRoom random space) where
+  module _ (bytes out random space : List ℕ) (b : ListedData bytes) (room : 3 + length bytes + sizeOf (keys-used .mac) ≤ length out) (o : ListedRoom random space) where
     few-now : P.u₂ s ls .protection .protected ≤ 65535
     few-now = let e = P.next-aboard s ls in omega arith
 
-    went : Ship.Sent (P.u₂ s ls) bytes out (b .some) (b .most) (P.together s ls .talks) few-now (omega (arith, size-most (P.u₂ s ls .protection .keys .mac), room))
-    went = Ship.sends (P.u₂ s ls) bytes out (b .some) (b .most) (P.together s ls .talks) few-now (omega (arith, size-most (P.u₂ s ls .protection .keys .mac), room))
+    fits : 3 + length bytes + sizeOf (P.u₂ s ls .protection .keys .mac) ≤ length out
+    fits = subst (λ (k : Keys). 3 + length bytes + sizeOf (k .mac) ≤ length out) (sym (P.unit-keys s ls)) room
+
+    went : Ship.Sent (P.u₂ s ls) bytes out (b .some) (b .most) (P.together s ls .talks) few-now fits
+    went = Ship.sends (P.u₂ s ls) bytes out (b .some) (b .most) (P.together s ls .talks) few-now fits
 
     abbrev x : List ℕ
     x = reportDatagram (J.e s ls) bytes out

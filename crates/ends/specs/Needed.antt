@@ -4,6 +4,7 @@ use mathlib.Core.Path.{_≡_}
 use mathlib.Core.List.{List, [], _∷_}
 use Prim.Native.Nat.{ℕ, _+_, _≤_}
 use lib.ListN.{length, take}
+use Rattle.digest.specs.Mac.{sizeOf}
 use Rattle.record.specs.Protection.{recordUnder}
 use Rattle.record.specs.declared.header.Content.the-variants as C
 use Rattle.record.specs.declared.keys.Keys.{Keys}
@@ -54,7 +55,8 @@ broughtTwice e bytes out random space =
 pub record Needed (e : Ends) (k : Keys) (by-unit by-shore : List (List ℕ)) (width : ℕ) : Type 0 where
   pub just-open : JustOpen k e by-unit by-shore
   -- all premises are met, by a run in which a report is sent and comes twice
-  pub met : (bytes out random space : List ℕ) → ListedData bytes → 23 + length bytes ≤ length out → ListedRoom random space
+  pub met : (bytes out random space : List ℕ) → ListedData bytes → 3 + length bytes + sizeOf (k .mac) ≤ length out
+      → ListedRoom random space
       → Premises k e by-unit by-shore (broughtTwice e bytes out random space)
   -- "no data sent yet", under these keys: a report of an earlier connection with the same randoms comes and is handed out, but the unit
   -- has not sent it
