@@ -495,8 +495,9 @@ module _ (k : Keys) (ashore-expected aboard-expected : List ℕ) (unit-first sho
 
 -- ---- from the start
 
-quiet-fine : (k : Keys) (sense : Sense) (expected : List ℕ) (next : ℕ) (r : Record) (c : List ℕ) → Quiet next r c → Fine k sense expected [] next r c
-quiet-fine k sense expected next r c q =
+quiet-fine : (k : Keys) (sense : Sense) (expected : List ℕ) (next : ℕ) (d : List ℕ) (r : Record) (c : List ℕ) → Quiet next r c
+    → Fine k sense expected [] next d r c
+quiet-fine k sense expected next d r c q =
     record { numbered = q .numbered; harmless = by (r .content) refl; data-sent = λ e. absurd (q .no-data e) }
   where
     by : (x : Content) → r .content ≡ x → (contentShuts (r .content) c expected ≡ false) ⊎ (r .number ≡ 0)
@@ -516,7 +517,7 @@ begun-holds k sense expected before next width numbers held s =
       below = s .below;
       first-some = let l = s .below 0 (s .opened) in omega arith;
       from-first = omega arith;
-      fine = λ d i r c g. quiet-fine k sense expected next r c (s .quiet d i r c g);
+      fine = λ d i r c g. quiet-fine k sense expected next d r c (s .quiet d i r c g);
       singles = λ report i. absurd i;
       unique = λ report i d j r c g e. absurd i;
       traced = λ n a. inl (s .below n a);

@@ -190,10 +190,10 @@ module _ (k : Keys) (sense : Sense) (expected : List ℕ) where
     pub harmless : alertShuts (alertOf c) ≡ false
 
   -- a genuine record of a datagram that was written
-  pub record Fine (sent : List Report) (next : ℕ) (r : Record) (c : List ℕ) : Type 0 where
+  pub record Fine (sent : List Report) (next : ℕ) (d : List ℕ) (r : Record) (c : List ℕ) : Type 0 where
     pub numbered : r .number < next
     pub harmless : (contentShuts (r .content) c expected ≡ false) ⊎ (r .number ≡ 0)
-    pub data-sent : r .content ≡ C.Data → SentAs sent (handed (r .number) c)
+    pub data-sent : r .content ≡ C.Data → SentAs sent d (handed (r .number) c)
 
   -- a genuine record with this number came
   pub record Came (seen : List (List ℕ)) (n : ℕ) : Type 0 where
@@ -212,7 +212,7 @@ module _ (k : Keys) (sense : Sense) (expected : List ℕ) where
     pub below : (n : ℕ) → accepted (course .numbers) n ≡ true → n < next
     pub first-some : 1 ≤ first
     pub from-first : first ≤ next
-    pub fine : (d : List ℕ) → In d written → (r : Record) (c : List ℕ) → GenuineFor k sense d r c → Fine sent next r c
+    pub fine : (d : List ℕ) → In d written → (r : Record) (c : List ℕ) → GenuineFor k sense d r c → Fine sent next d r c
     pub singles : (report : Report) → Sent report sent → Single report × (first ≤ report .number) × (report .number < next)
     pub unique : (report : Report) → Sent report sent → (d : List ℕ) → In d written → (r : Record) (c : List ℕ)
         → GenuineFor k sense d r c → r .number ≡ report .number → d ≡ report .datagram
@@ -250,18 +250,19 @@ module _ (k : Keys) (sense : Sense) (expected : List ℕ) where
           number-of : (r : Record) (c : List ℕ) → GenuineFor k sense (report .datagram) r c → r .number ≡ next
           number-of r c g = ap (λ (x : Record). x .number) (single-only report s r c g .0) ∙ s .number-is ∙ e
 
-          fine-here : (r : Record) (c : List ℕ) → GenuineFor k sense (report .datagram) r c → Fine (report ∷ sent) (next + 1) r c
-          fine-here r c g =
+          fine-here : (d : List ℕ) → d ≡ report .datagram → (r : Record) (c : List ℕ) → GenuineFor k sense (report .datagram) r c
+              → Fine (report ∷ sent) (next + 1) d r c
+          fine-here d i r c g =
               let o = single-only report s r c g in
               let n = number-of r c g in
               record {
                 numbered = omega arith;
                 harmless = inl (ap (λ (x : Content). contentShuts x c expected) (ap (λ (x : Record). x .content) (o .0) ∙ s .is-data));
-                data-sent = λ z. inl (e ∙ sym n, sym (o .1));
+                data-sent = λ z. inl (e ∙ sym n, sym (o .1), sym i);
               }
 
-          fine-more : (d : List ℕ) → In d (report .datagram ∷ written) → (r : Record) (c : List ℕ) → GenuineFor k sense d r c → Fine (report ∷ sent) (next + 1) r c
-          fine-more d (inl i) r c g = fine-here r c (subst (λ x. GenuineFor k sense x r c) i g)
+          fine-more : (d : List ℕ) → In d (report .datagram ∷ written) → (r : Record) (c : List ℕ) → GenuineFor k sense d r c → Fine (report ∷ sent) (next + 1) d r c
+          fine-more d (inl i) r c g = fine-here d i r c (subst (λ x. GenuineFor k sense x r c) i g)
           fine-more d (inr i) r c g =
               let f = h .fine d i r c g in
               record { numbered = let q = f .numbered in omega arith; harmless = f .harmless; data-sent = λ z. inr (f .data-sent z) }
@@ -312,8 +313,8 @@ module _ (k : Keys) (sense : Sense) (expected : List ℕ) where
           alert-data : {P : Type 0} → C.Alert ≡ C.Data → P
           alert-data z = let y : _≡_ {A = ℕ} 0 1 = cc in absurd (omega arith)
 
-          fine-here : (r : Record) (c : List ℕ) → GenuineFor k sense new r c → Fine sent (next + 1) r c
-          fine-here r c g =
+          fine-here : (d : List ℕ) (r : Record) (c : List ℕ) → GenuineFor k sense new r c → Fine sent (next + 1) d r c
+          fine-here d r c g =
               let q = w r c g in
               let n = q .number-is in
               record {
@@ -322,8 +323,8 @@ module _ (k : Keys) (sense : Sense) (expected : List ℕ) where
                 data-sent = λ z. alert-data (sym (q .is-alert) ∙ z);
               }
 
-          fine-more : (d : List ℕ) → In d (new ∷ written) → (r : Record) (c : List ℕ) → GenuineFor k sense d r c → Fine sent (next + 1) r c
-          fine-more d (inl i) r c g = fine-here r c (subst (λ x. GenuineFor k sense x r c) i g)
+          fine-more : (d : List ℕ) → In d (new ∷ written) → (r : Record) (c : List ℕ) → GenuineFor k sense d r c → Fine sent (next + 1) d r c
+          fine-more d (inl i) r c g = fine-here d r c (subst (λ x. GenuineFor k sense x r c) i g)
           fine-more d (inr i) r c g =
               let f = h .fine d i r c g in
               record { numbered = let q = f .numbered in omega arith; harmless = f .harmless; data-sent = f .data-sent }
@@ -417,7 +418,7 @@ module _ (k : Keys) (sense : Sense) (expected : List ℕ) where
 
     out-sent : (written : List (List ℕ)) (sent : List Report) (next : ℕ) (seen : List (List ℕ)) (d : List ℕ) → In d seen
         → {course end : Course} {rs : List Record} {out : List Handed} → Taken d course rs out end
-        → State written sent next seen course → AllSentAs sent out
+        → State written sent next seen course → AllSentAs sent d out
     out-sent written sent next seen d i nothing h = tt
     out-sent written sent next seen d i (hands {course = course} {r = r} c u more) h = (
       by (h .ruled d i),
@@ -425,7 +426,7 @@ module _ (k : Keys) (sense : Sense) (expected : List ℕ) where
           (record-taken written sent next seen course h d i r (u .genuine .in-place) (stepFor course d r) (stepped course d r (u .genuine .in-place) (h .not-shut))),
     )
       where
-        by : In d written ⊎ OtherFor k sense d → SentAs sent (handed (r .number) c)
+        by : In d written ⊎ OtherFor k sense d → SentAs sent d (handed (r .number) c)
         by (inl w) = h .fine d w r c (u .genuine) .data-sent (u .is-data)
         by (inr other) =
             let z : C.Handshake ≡ C.Data = sym (other r c (u .genuine) .0) ∙ u .is-data in

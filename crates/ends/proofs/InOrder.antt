@@ -549,6 +549,12 @@ module _ (s : Setting) (ls : ListedSetting s) where
             (omega (arith, next-aboard, a)) (omega (arith, next-ashore, b));
       }
 
+  -- where it leads, whatever the rooms
+  pub met-at : (r : Rooms) (lr : ListedRooms r)
+      → (met r lr .u₂ ≡ u₂) × (met r lr .c₂ ≡ c₂) × (met r lr .hello ≡ hello) × (met r lr .reply ≡ reply) × (met r lr .flight ≡ flight)
+  unfolding met
+  met-at r lr = (refl, refl, refl, refl, refl)
+
 pub in-order : InOrder
 unfolding InOrder
 in-order s r ls lr = met s ls r lr

@@ -1,9 +1,16 @@
 -- The premises are met.
 use mathlib.Core.Path.{_≡_, refl}
 use lib.Dec.{lit≤}
+use Rattle.digest.specs.declared.mac.Mac.{Mac}
+use Rattle.digest.specs.declared.mac.Mac.the-variants as M
+use Rattle.ends.specs.Sides.{ListedTurns}
 use Rattle.ends.specs.InOrder.{sha-first, ListedSetting, ListedRooms}
-use Rattle.ends.specs.Instances.{exampleSetting, exampleRooms, InOrderInstances}
+use Rattle.ends.specs.Instances.{exampleSetting, exampleRooms, exampleTurns, InOrderInstances}
 use Rattle.ends.proofs.InOrder.{met}
+
+listed : (mac : Mac) → ListedTurns mac exampleTurns
+listed M.Sha80 = ((lit≤ tt, lit≤ tt, lit≤ tt, refl, lit≤ tt), ((lit≤ tt, lit≤ tt, lit≤ tt, lit≤ tt), tt))
+listed M.Sha = ((lit≤ tt, lit≤ tt, lit≤ tt, refl, lit≤ tt), ((lit≤ tt, lit≤ tt, lit≤ tt, lit≤ tt), tt))
 
 pub in-order-instances : InOrderInstances
 in-order-instances =
@@ -21,6 +28,6 @@ in-order-instances =
     record {
       setting = setting;
       rooms = rooms;
-      turns = ((lit≤ tt, lit≤ tt, lit≤ tt, refl, lit≤ tt), ((lit≤ tt, lit≤ tt, lit≤ tt, lit≤ tt), tt));
+      turns = listed;
       met = met exampleSetting setting exampleRooms rooms;
     }

@@ -12,5 +12,6 @@ pub mod AtShore
 pub mod AtShip
 pub mod BothEnds
 pub mod JustOpen
+pub mod OneMeeting
 pub mod Needed
 pub mod Instances

@@ -1,4 +1,4 @@
--- Each premise is needed: behind the handshake, what a datagram that the premises exclude does to the shore.
+-- Three premises are needed: behind the handshake, what a datagram that they exclude does to the shore.
 use mathlib.Core.Path.{_≡_, refl, sym, _∙_, ap, ap₂, subst}
 use mathlib.Core.Logic.{_⊎_, inl, inr, _≢_}
 use mathlib.Core.Bool.{Bool, true, false}
@@ -19,7 +19,6 @@ use Rattle.record.specs.declared.reader.Record.{Record}
 use Rattle.record.specs.declared.window.Window.{Window}
 use Rattle.record.specs.declared.window.Acceptance.the-variants as A
 use Rattle.record.proofs.Histories.{meaning, old-when}
-use Rattle.record.proofs.ProtectedBytes.{size-most}
 use Rattle.message.specs.Alert.{alertOf, alertBytes}
 use Rattle.message.specs.declared.alert.Alert.{Alert}
 use Rattle.message.specs.declared.alert.Description.the-variants as D
@@ -42,21 +41,23 @@ use Rattle.connection.specs.declared.state.State.the-variants as S
 use Rattle.demands.specs.Asked.{RightBeside, tells, asks-protected, left-open, left-ended}
 use Rattle.demands.specs.Calls.{Chain, chain-end, chain-more}
 use Rattle.demands.specs.Genuine.{Protected, keysOf}
+use Rattle.unit.specs.declared.unit.Unit.{Unit as ShipsUnit}
 use Rattle.demands.specs.Acts.{actsIn, recordsIn}
 use Rattle.demands.specs.LeftOut.{Unreplaced}
 use Rattle.demands.specs.Runs as Shore
 use Rattle.demands.specs.Ship.Runs as ShipRuns
 use Rattle.demands.specs.Table.{Row, New, row-data, row-critical, row-old}
 use Rattle.ends.specs.Sides.{Ends, endsOf}
-use Rattle.ends.specs.InOrder.{Setting, ListedSetting}
+use Rattle.ends.specs.InOrder.{Setting, ListedSetting, Rooms, ListedRooms, Met}
 use Rattle.ends.specs.Link.{Doing, ashore, aboard, doneBy, Report, Handed, handed, Entry, sends, takes, outAshore, ifDone, traceOf, Linked, AllSentAs, Within}
 use Rattle.ends.specs.BothEnds.{Premises, StayOpen}
-use Rattle.ends.specs.Needed.{comes, unitData, criticalAlert, ListedData, ListedRoom, reportDatagram, broughtTwice, Needed, EachNeeded}
+use Rattle.ends.specs.Needed.{comes, unitData, criticalAlert, ListedData, ListedRoom, reportDatagram, broughtTwice, Needed, ThreeNeeded}
 use Rattle.ends.proofs.Aboard as Ship
 use Rattle.ends.proofs.Ashore as Laws
 use Rattle.ends.proofs.AtShore.{acts-are}
 use Rattle.ends.proofs.InOrder as P
 use Rattle.ends.proofs.JustOpen as J
+use Rattle.ends.proofs.OneMeeting.{same-hello, same-reply, same-flight, same-unit, same-shore}
 use Rattle.ends.proofs.OnWire.{lone, wired-framed, wired-genuine}
 use Rattle.ends.proofs.Reports.{Together, takes as takes-above, reported-part}
 
@@ -227,7 +228,7 @@ module _ (s : Setting) (ls : ListedSetting s) where
       → Within [] (traceOf FromUnit (J.e s ls) (comes (unitData keys-used 1 bytes) random out ∷ [])) → ⊥
   unfolding traceOf Within
   used-before bytes random out b o within =
-      subst (λ x. AllSentAs [] x)
+      subst (λ x. AllSentAs [] (unitData keys-used 1 bytes) x)
       (data-out keys-used c₂ opened keyed sw (ls .shore-held) (0 ∷ []) (P.shore-window s ls) 1 few-1 low bytes (b .some) (b .most) random out (o .random-size) (o .room))
       (within .0) .0
 
@@ -281,12 +282,15 @@ module _ (s : Setting) (ls : ListedSetting s) where
       subst (Unreplaced c) (sym (acts-are c x random space lr lo ∙ ap (recordsIn random x) f))
       ((λ z. let y : C.Data ≡ C.Handshake = sym is-data ∙ z .handshake in let v : _≡_ {A = ℕ} 0 1 = cc in omega arith), tt)
 
-  module _ (bytes out random space : List ℕ) (b : ListedData bytes) (room : 23 + length bytes ≤ length out) (o : ListedRoom random space) where
+  module _ (bytes out random space : List ℕ) (b : ListedData bytes) (room : 3 + length bytes + sizeOf (keys-used .mac) ≤ length out) (o : ListedRoom random space) where
     few-now : P.u₂ s ls .protection .protected ≤ 65535
     few-now = let e = P.next-aboard s ls in omega arith
 
-    went : Ship.Sent (P.u₂ s ls) bytes out (b .some) (b .most) (P.together s ls .talks) few-now (omega (arith, size-most (P.u₂ s ls .protection .keys .mac), room))
-    went = Ship.sends (P.u₂ s ls) bytes out (b .some) (b .most) (P.together s ls .talks) few-now (omega (arith, size-most (P.u₂ s ls .protection .keys .mac), room))
+    fits : 3 + length bytes + sizeOf (P.u₂ s ls .protection .keys .mac) ≤ length out
+    fits = subst (λ (k : Keys). 3 + length bytes + sizeOf (k .mac) ≤ length out) (sym (P.unit-keys s ls)) room
+
+    went : Ship.Sent (P.u₂ s ls) bytes out (b .some) (b .most) (P.together s ls .talks) few-now fits
+    went = Ship.sends (P.u₂ s ls) bytes out (b .some) (b .most) (P.together s ls .talks) few-now fits
 
     abbrev x : List ℕ
     x = reportDatagram (J.e s ls) bytes out
@@ -320,13 +324,9 @@ module _ (s : Setting) (ls : ListedSetting s) where
           link-to-ship = silent;
         }
 
-  pub needed : Needed s
+  pub needed : Needed (J.e s ls) keys-used (J.by-unit s ls) (J.by-shore s ls) sw
   needed =
       record {
-        e = J.e s ls;
-        k = keys-used;
-        by-unit = J.by-unit s ls;
-        by-shore = J.by-shore s ls;
         just-open = J.just-open s ls;
         met = a-run;
         used-before = used-before;
@@ -334,6 +334,35 @@ module _ (s : Setting) (ls : ListedSetting s) where
         too-late = too-late;
       }
 
-pub each-needed : EachNeeded
-unfolding EachNeeded
-each-needed s ls = needed s ls
+module _ (s : Setting) (r : Rooms) (ls : ListedSetting s) (lr : ListedRooms r) (m : Met s r) where
+  abbrev p : Met s r
+  p = P.met s ls r lr
+
+  unit-is : P.u₂ s ls ≡ m .u₂
+  unit-is = sym (same-unit s r m p ∙ P.met-at s ls r lr .0)
+
+  shore-is : P.c₂ s ls ≡ m .c₂
+  shore-is = sym (same-shore s r m p ∙ P.met-at s ls r lr .1)
+
+  hello-is : P.hello s ls ≡ m .hello
+  hello-is = sym (same-hello s r m p ∙ P.met-at s ls r lr .2)
+
+  reply-is : P.reply s ls ≡ m .reply
+  reply-is = sym (same-reply s r m p ∙ P.met-at s ls r lr .3)
+
+  flight-is : P.flight s ls ≡ m .flight
+  flight-is = sym (same-flight s r m p ∙ P.met-at s ls r lr .4)
+
+  keys-are : P.k s ls ≡ m .u₂ .protection .keys
+  keys-are = sym (P.unit-keys s ls) ∙ ap (λ (u : ShipsUnit). u .protection .keys) unit-is
+
+  pub needed-behind : Needed (endsOf (m .u₂) (m .c₂)) (m .u₂ .protection .keys) (m .flight ∷ m .hello ∷ []) (m .reply ∷ []) (s .shore-width)
+  needed-behind =
+      subst (λ x. Needed (endsOf (m .u₂) (m .c₂)) (m .u₂ .protection .keys) (m .flight ∷ m .hello ∷ []) x (s .shore-width)) (λ i. reply-is i ∷ [])
+      (subst (λ x. Needed (endsOf (m .u₂) (m .c₂)) (m .u₂ .protection .keys) x (J.by-shore s ls) (s .shore-width)) (λ i. flight-is i ∷ hello-is i ∷ [])
+      (subst (λ x. Needed (endsOf (m .u₂) (m .c₂)) x (J.by-unit s ls) (J.by-shore s ls) (s .shore-width)) keys-are
+      (subst (λ x. Needed x (P.k s ls) (J.by-unit s ls) (J.by-shore s ls) (s .shore-width)) (λ i. endsOf (unit-is i) (shore-is i)) (needed s ls))))
+
+pub three-needed : ThreeNeeded
+unfolding ThreeNeeded
+three-needed s r ls lr m = needed-behind s r ls lr m

@@ -118,6 +118,7 @@ pub record Handed (unit-width shore-width : ℕ) (e : Ends) (t : Turn) : Type 0 
   pub sent : sendOf e t ≡ O.Done
   pub handed : handedIn e t ≡ reportIn t ∷ []
   pub together : Together unit-width shore-width (turned e t)
+  pub keys-kept : turned e t .unit .protection .keys ≡ e .unit .protection .keys
   pub unit-next : turned e t .unit .protection .protected + unitTurns [] ≡ e .unit .protection .protected + unitTurns (t ∷ [])
   pub shore-next : turned e t .shore .handshake .protection .protected + shoreTurns [] ≡ e .shore .handshake .protection .protected + shoreTurns (t ∷ [])
 
@@ -142,7 +143,7 @@ module _ (uw sw : ℕ) (held-unit : Held uw) (held-shore : Held sw) (e : Ends) (
 
   -- ---- from the unit
 
-  module _ (bytes out random space : List ℕ) (some : 1 ≤ length bytes) (most : length bytes ≤ 1300) (room : 23 + length bytes ≤ length out)
+  module _ (bytes out random space : List ℕ) (some : 1 ≤ length bytes) (most : length bytes ≤ 1300) (room : 3 + length bytes + sizeOf (u .protection .keys .mac) ≤ length out)
       (lr : length random ≡ 16) (ls : 128 ≤ length space) (few : u .protection .protected ≤ 65535) where
     abbrev n : ℕ
     n = u .protection .protected
@@ -156,8 +157,8 @@ module _ (uw sw : ℕ) (held-unit : Held uw) (held-shore : Held sw) (e : Ends) (
     abbrev w : Window
     w = windowOf sw (n ∷ t .ashore)
 
-    went : Ship.Sent u bytes out some most (t .talks) few (omega (arith, size-most (u .protection .keys .mac), room))
-    went = Ship.sends u bytes out some most (t .talks) few (omega (arith, size-most (u .protection .keys .mac), room))
+    went : Ship.Sent u bytes out some most (t .talks) few room
+    went = Ship.sends u bytes out some most (t .talks) few room
 
     datagram : sentAboard u bytes out ≡ d
     datagram = went .datagram ∙ ap (λ k. recordUnder k FromUnit C.Data n bytes) (t .same-keys)
@@ -211,13 +212,14 @@ module _ (uw sw : ℕ) (held-unit : Held uw) (held-shore : Held sw) (e : Ends) (
             aboard-is = t .aboard-is;
             aboard-below = t .aboard-below;
           });
+          keys-kept = ap (λ (x : ShipsUnit). x .protection .keys) (went .leaves);
           unit-next = omega (arith, ap (λ (x : ShipsUnit). x .protection .protected) (went .leaves));
           shore-next = omega (arith, ap (λ (x : Connection). x .handshake .protection .protected) shore-is);
         }
 
   -- ---- from the shore
 
-  module _ (bytes out space : List ℕ) (some : 1 ≤ length bytes) (most : length bytes ≤ 1300) (room : 23 + length bytes ≤ length out)
+  module _ (bytes out space : List ℕ) (some : 1 ≤ length bytes) (most : length bytes ≤ 1300) (room : 3 + length bytes + sizeOf (h .protection .keys .mac) ≤ length out)
       (ls : 128 ≤ length space) (few : h .protection .protected ≤ 65535) where
     abbrev n₂ : ℕ
     n₂ = h .protection .protected
@@ -231,8 +233,8 @@ module _ (uw sw : ℕ) (held-unit : Held uw) (held-shore : Held sw) (e : Ends) (
     abbrev w₂ : Window
     w₂ = windowOf uw (n₂ ∷ t .aboard)
 
-    sent₂ : Shore.Sent c bytes out (record { some = some; most = most }) (t .is-open) few (omega (arith, size-most (h .protection .keys .mac), room))
-    sent₂ = Shore.sends c bytes out (record { some = some; most = most }) (t .is-open) few (omega (arith, size-most (h .protection .keys .mac), room))
+    sent₂ : Shore.Sent c bytes out (record { some = some; most = most }) (t .is-open) few room
+    sent₂ = Shore.sends c bytes out (record { some = some; most = most }) (t .is-open) few room
 
     datagram₂ : sentAshore c bytes out ≡ d₂
     unfolding nextProtected
@@ -275,6 +277,7 @@ module _ (uw sw : ℕ) (held-unit : Held uw) (held-shore : Held sw) (e : Ends) (
             aboard-is = refl;
             aboard-below = highest-next n₂ (t .aboard) (t .aboard-below);
           });
+          keys-kept = ap (λ (x : ShipsUnit). x .protection .keys) unit-is;
           unit-next = omega (arith, ap (λ (x : ShipsUnit). x .protection .protected) unit-is);
           shore-next = omega (arith, ap (λ (x : Connection). x .handshake .protection .protected) (sent₂ .leaves));
         }
@@ -282,7 +285,7 @@ module _ (uw sw : ℕ) (held-unit : Held uw) (held-shore : Held sw) (e : Ends) (
 -- ---- all of them
 
 module _ (uw sw : ℕ) (held-unit : Held uw) (held-shore : Held sw) where
-  pub all-handed : (turns : List Turn) (e : Ends) → Together uw sw e → ListedTurns turns
+  pub all-handed : (turns : List Turn) (e : Ends) → Together uw sw e → ListedTurns (e .unit .protection .keys .mac) turns
       → e .unit .protection .protected + unitTurns turns ≤ 65536 → e .shore .handshake .protection .protected + shoreTurns turns ≤ 65536
       → AllHanded e turns
   unfolding unitTurns shoreTurns
@@ -291,11 +294,14 @@ module _ (uw sw : ℕ) (held-unit : Held uw) (held-shore : Held sw) where
       let q = unit-turn uw sw held-unit held-shore e t bytes out random space (l .0) (l .1) (l .2) (l .3) (l .4) (omega arith) in (
         q .sent,
         q .handed,
-        all-handed turns (turned e (from-unit bytes out random space)) (q .together) ls (omega (arith, q .unit-next)) (omega (arith, q .shore-next)),
+        all-handed turns (turned e (from-unit bytes out random space)) (q .together)
+            (subst (λ (k : Keys). ListedTurns (k .mac) turns) (sym (q .keys-kept)) ls) (omega (arith, q .unit-next)) (omega (arith, q .shore-next)),
       )
   all-handed (from-shore bytes out space ∷ turns) e t (l, ls) a b =
-      let q = shore-turn uw sw held-unit held-shore e t bytes out space (l .0) (l .1) (l .2) (l .3) (omega arith) in (
+      let q = shore-turn uw sw held-unit held-shore e t bytes out space (l .0) (l .1)
+      (subst (λ (k : Keys). 3 + length bytes + sizeOf (k .mac) ≤ length out) (t .same-keys) (l .2)) (l .3) (omega arith) in (
         q .sent,
         q .handed,
-        all-handed turns (turned e (from-shore bytes out space)) (q .together) ls (omega (arith, q .unit-next)) (omega (arith, q .shore-next)),
+        all-handed turns (turned e (from-shore bytes out space)) (q .together)
+            (subst (λ (k : Keys). ListedTurns (k .mac) turns) (sym (q .keys-kept)) ls) (omega (arith, q .unit-next)) (omega (arith, q .shore-next)),
       )

@@ -110,7 +110,7 @@ pub record Met (s : Setting) (r : Rooms) : Type 0 where
       }
   pub nothing-written : Ashore.outputOf c₁ flight (r .random) (r .for-none) ≡ r .for-none
   -- ".. and data": every report of either is sent and handed out by the other, as sent and in order, "up to number 65,535"
-  pub reports : (turns : List Turn) → ListedTurns turns → unitTurns turns ≤ 65535 → shoreTurns turns ≤ 65535
+  pub reports : (turns : List Turn) → ListedTurns (u₂ .protection .keys .mac) turns → unitTurns turns ≤ 65535 → shoreTurns turns ≤ 65535
       → AllHanded (endsOf u₂ c₂) turns
 
 unfoldable pub InOrder : Type 0

@@ -2,6 +2,7 @@
 use mathlib.Core.List.{List, [], _∷_}
 use Prim.Native.Nat.{ℕ}
 use lib.ListN.{replicate}
+use Rattle.digest.specs.declared.mac.Mac.{Mac}
 use Rattle.demands.specs.Example.{exampleId, exampleSecret, exampleRandom, exampleOut, exampleData}
 use Rattle.ends.specs.Sides.{Turn, from-unit, from-shore, ListedTurns}
 use Rattle.ends.specs.InOrder.{Setting, ListedSetting, Rooms, ListedRooms, Met}
@@ -30,5 +31,5 @@ exampleTurns = from-unit exampleData exampleOut exampleRandom exampleOut ∷ fro
 pub record InOrderInstances : Type 0 where
   pub setting : ListedSetting exampleSetting
   pub rooms : ListedRooms exampleRooms
-  pub turns : ListedTurns exampleTurns
+  pub turns : (mac : Mac) → ListedTurns mac exampleTurns
   pub met : Met exampleSetting exampleRooms

@@ -199,21 +199,23 @@ Linked k sense written (takes d out ∷ entries) = (In d written ⊎ OtherFor k 
 
 -- ---- what is said of a course
 
--- one of these reports has this number and these bytes
-abbrev pub SentAs : List Report → Handed → Type 0
-SentAs [] x = ⊥
-SentAs (report ∷ reports) x = ((report .number ≡ x .number) × (report .bytes ≡ x .bytes)) ⊎ SentAs reports x
+-- one of these reports has this number and these bytes, and was written as this datagram
+abbrev pub SentAs : List Report → List ℕ → Handed → Type 0
+SentAs [] d x = ⊥
+SentAs (report ∷ reports) d x =
+    ((report .number ≡ x .number) × (report .bytes ≡ x .bytes) × (report .datagram ≡ d)) ⊎ SentAs reports d x
 
-abbrev pub AllSentAs : List Report → List Handed → Type 0
-AllSentAs reports [] = Unit
-AllSentAs reports (x ∷ xs) = SentAs reports x × AllSentAs reports xs
+abbrev pub AllSentAs : List Report → List ℕ → List Handed → Type 0
+AllSentAs reports d [] = Unit
+AllSentAs reports d (x ∷ xs) = SentAs reports d x × AllSentAs reports d xs
 
--- "The data handed out ashore are then reports that the unit sent": each was sent before, under that number, with those bytes
+-- "The data handed out ashore are then reports that the unit sent .. and exactly those that arrived at all", none but those: each was
+-- sent before, under that number, with those bytes, and the datagram that came is the one that was written for it
 unfoldable pub Within : List Report → List Entry → Type 0
 Within sent [] = Unit
 Within sent (sends report ∷ entries) = Within (report ∷ sent) entries
 Within sent (writes d ∷ entries) = Within sent entries
-Within sent (takes d out ∷ entries) = AllSentAs sent out × Within sent entries
+Within sent (takes d out ∷ entries) = AllSentAs sent d out × Within sent entries
 
 -- "each at most once": no number is handed out that was handed out before
 abbrev pub NewIn : List ℕ → List Handed → Type 0
@@ -240,8 +242,8 @@ abbrev pub AllBelow : Keys → Sense → ℕ → List ℕ → Type 0
 AllBelow k sense most d = (r : Record) (c : List ℕ) → GenuineFor k sense d r c → r .number < most
 
 -- "exactly those that arrived at all, provided that each first arrives before any record whose number is higher by the window's width
--- or more": a report is handed out by the delivery at which it first arrives, if all that came before it is below its number and the
--- width. For each report by itself.
+-- or more", all of those: a report is handed out by the delivery at which it first arrives, if all that came before it is below its
+-- number and the width. For each report by itself.
 unfoldable pub Arrives : Keys → Sense → ℕ → Report → List Entry → Type 0
 Arrives k sense width report [] = Unit
 Arrives k sense width report (sends other ∷ entries) = Arrives k sense width report entries

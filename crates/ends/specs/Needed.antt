@@ -1,9 +1,10 @@
--- The premises of P14 are met, and each is needed. After the handshake of P7, for every setting, both ends are just open; and from there
--- what is said of the courses fails where one premise is dropped.
+-- The premises of P14 are met, and three of them are shown to be needed. After the handshake of P7, for every setting and every room,
+-- both ends are just open; and from there what is said of the courses fails where one of the three is dropped.
 use mathlib.Core.Path.{_≡_}
 use mathlib.Core.List.{List, [], _∷_}
 use Prim.Native.Nat.{ℕ, _+_, _≤_}
 use lib.ListN.{length, take}
+use Rattle.digest.specs.Mac.{sizeOf}
 use Rattle.record.specs.Protection.{recordUnder}
 use Rattle.record.specs.declared.header.Content.the-variants as C
 use Rattle.record.specs.declared.keys.Keys.{Keys}
@@ -14,8 +15,8 @@ use Rattle.message.specs.declared.alert.Level.the-variants as L
 use Rattle.unit.specs.Send.{dataSent, dataOutput}
 use Rattle.demands.specs.Runs as Shore
 use Rattle.demands.specs.Ship.Runs as Ship
-use Rattle.ends.specs.Sides.{Ends}
-use Rattle.ends.specs.InOrder.{Setting, ListedSetting}
+use Rattle.ends.specs.Sides.{Ends, endsOf}
+use Rattle.ends.specs.InOrder.{Setting, ListedSetting, Rooms, ListedRooms, Met}
 use Rattle.ends.specs.Link.{Doing, ashore, aboard, doneBy, takes, traceOf, Within}
 use Rattle.ends.specs.BothEnds.{JustOpen, Premises, StayOpen}
 
@@ -50,15 +51,12 @@ broughtTwice e bytes out random space =
     ∷ comes (reportDatagram e bytes out) random space
     ∷ []
 
-pub record Needed (s : Setting) : Type 0 where
-  -- both ends behind the handshake: its keys, and what each has written
-  pub e : Ends
-  pub k : Keys
-  pub by-unit : List (List ℕ)
-  pub by-shore : List (List ℕ)
+-- of both ends, the unit's keys, what each has written to the other, and the width of the shore's window
+pub record Needed (e : Ends) (k : Keys) (by-unit by-shore : List (List ℕ)) (width : ℕ) : Type 0 where
   pub just-open : JustOpen k e by-unit by-shore
   -- all premises are met, by a run in which a report is sent and comes twice
-  pub met : (bytes out random space : List ℕ) → ListedData bytes → 23 + length bytes ≤ length out → ListedRoom random space
+  pub met : (bytes out random space : List ℕ) → ListedData bytes → 3 + length bytes + sizeOf (k .mac) ≤ length out
+      → ListedRoom random space
       → Premises k e by-unit by-shore (broughtTwice e bytes out random space)
   -- "no data sent yet", under these keys: a report of an earlier connection with the same randoms comes and is handed out, but the unit
   -- has not sent it
@@ -68,8 +66,11 @@ pub record Needed (s : Setting) : Type 0 where
   pub on-its-way : (random out : List ℕ) → ListedRoom random out → StayOpen e (comes (criticalAlert k 1) random out ∷ []) → ⊥
   -- "before any record whose number is higher by the window's width or more": behind such a one a report is not handed out
   pub too-late : (first later random out : List ℕ) → ListedData first → ListedData later → ListedRoom random out
-      → traceOf FromUnit (doneBy e (comes (unitData k (1 + s .shore-width) later) random out)) (comes (unitData k 1 first) random out ∷ [])
+      → traceOf FromUnit (doneBy e (comes (unitData k (1 + width) later) random out)) (comes (unitData k 1 first) random out ∷ [])
       ≡ takes (unitData k 1 first) [] ∷ []
 
-unfoldable pub EachNeeded : Type 0
-EachNeeded = (s : Setting) → ListedSetting s → Needed s
+-- behind the handshake of P7, whatever its calls gave: the unit wrote the hello and the flight, the shore the reply
+unfoldable pub ThreeNeeded : Type 0
+ThreeNeeded =
+    (s : Setting) (r : Rooms) → ListedSetting s → ListedRooms r → (m : Met s r)
+    → Needed (endsOf (m .u₂) (m .c₂)) (m .u₂ .protection .keys) (m .flight ∷ m .hello ∷ []) (m .reply ∷ []) (s .shore-width)

@@ -4,7 +4,9 @@ use mathlib.Core.Path.{_≡_}
 use mathlib.Core.List.{List, [], _∷_}
 use Prim.Native.Nat.{ℕ, zero, suc, _+_, _≤_}
 use lib.ListN.{length, take}
+use Rattle.digest.specs.Mac.{sizeOf}
 use Rattle.digest.specs.Pick.{pick}
+use Rattle.digest.specs.declared.mac.Mac.{Mac}
 use Rattle.connection.specs.Answer.{handedOf}
 use Rattle.connection.specs.declared.answer.Slot.{Slot as SlotAshore}
 use Rattle.connection.specs.declared.calls.Outcome.{Outcome}
@@ -74,17 +76,18 @@ abbrev pub reportIn : Turn → List ℕ
 reportIn (from-unit bytes out random space) = bytes
 reportIn (from-shore bytes out space) = bytes
 
--- "arguments and room as listed": data of 1 to 1,300 bytes, room for its record under either kind of code, a random of 16 bytes, and
+-- "arguments and room as listed": data of 1 to 1,300 bytes, room for its record under this kind of code, a random of 16 bytes, and
 -- room of 128 for the receive
-abbrev pub ListedTurn : Turn → Type 0
-ListedTurn (from-unit bytes out random space) =
-    (1 ≤ length bytes) × (length bytes ≤ 1300) × (23 + length bytes ≤ length out) × (length random ≡ 16) × (128 ≤ length space)
-ListedTurn (from-shore bytes out space) =
-    (1 ≤ length bytes) × (length bytes ≤ 1300) × (23 + length bytes ≤ length out) × (128 ≤ length space)
+abbrev pub ListedTurn : Mac → Turn → Type 0
+ListedTurn mac (from-unit bytes out random space) =
+    (1 ≤ length bytes) × (length bytes ≤ 1300) × (3 + length bytes + sizeOf mac ≤ length out) × (length random ≡ 16)
+    × (128 ≤ length space)
+ListedTurn mac (from-shore bytes out space) =
+    (1 ≤ length bytes) × (length bytes ≤ 1300) × (3 + length bytes + sizeOf mac ≤ length out) × (128 ≤ length space)
 
-abbrev pub ListedTurns : List Turn → Type 0
-ListedTurns [] = Unit
-ListedTurns (t ∷ turns) = ListedTurn t × ListedTurns turns
+abbrev pub ListedTurns : Mac → List Turn → Type 0
+ListedTurns mac [] = Unit
+ListedTurns mac (t ∷ turns) = ListedTurn mac t × ListedTurns mac turns
 
 -- how many of them are the unit's, and how many the shore's
 unfoldable pub unitTurns : List Turn → ℕ
