@@ -11,6 +11,7 @@ pub mod InCalls
 pub mod Writes
 pub mod Refusals
 pub mod LeftOut
+pub mod Opens
 pub mod Barred
 pub mod Kept
 pub mod Finished

@@ -12,6 +12,7 @@ pub mod ExactlyReceive
 pub mod InCalls
 pub mod Refusals
 pub mod Writes
+pub mod Opens
 pub mod LeftOut
 pub mod Barred
 pub mod Past

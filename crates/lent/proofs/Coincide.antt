@@ -25,6 +25,9 @@ use Rattle.lent.proofs.counts.tally_within as counts-tally-within
 use Rattle.lent.proofs.counts.lay_tally as counts-lay-tally
 use Rattle.lent.proofs.report.lay_entry as report-lay-entry
 use Rattle.lent.proofs.load.sent_within as load-sent-within
+use Rattle.lent.proofs.load.is_saved as load-is-saved
+use Rattle.lent.proofs.load.connection_within as load-connection-within
+use Rattle.lent.proofs.save.state_number as save-state-number
 use Rattle.lent.proofs.save.lay_sent as save-lay-sent
 
 pub fresh-one : OneOutcome fresh.ended fresh.Reads.Learnt
@@ -107,6 +110,15 @@ counts-tally-within-one κs a x y s u e f = (e ∙ sym f, refl)
 
 pub load-sent-within-one : OneOutcome load-sent-within.ended load-sent-within.Reads.Learnt
 load-sent-within-one κs a x y s u e f = (e ∙ sym f, refl)
+
+pub load-is-saved-one : OneOutcome load-is-saved.ended load-is-saved.Reads.Learnt
+load-is-saved-one κs a x y s u e f = (e ∙ sym f, refl)
+
+pub load-connection-within-one : OneOutcome load-connection-within.ended load-connection-within.Reads.Learnt
+load-connection-within-one κs a x y s u e f = (e ∙ sym f, refl)
+
+pub save-state-number-one : OneOutcome save-state-number.ended save-state-number.Reads.Learnt
+save-state-number-one κs a x y s u e f = (e ∙ sym f, refl)
 
 pub counts-lay-tally-one : OneOutcome counts-lay-tally.ended counts-lay-tally.Reads.Learnt
 counts-lay-tally-one κs a x y s u e f = (refl, λ i. ((e ∙ sym f) i, (tt, tt)))

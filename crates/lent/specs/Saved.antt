@@ -42,7 +42,8 @@ use Rattle.digest.specs.declared.mac.Mac.the-variants.{Sha80, Sha}
 use Rattle.record.specs.declared.keys.Keys.{Keys}
 use Rattle.record.specs.declared.protection.Protection.{Protection}
 use Rattle.record.specs.declared.window.Window.{Window}
-use Rattle.connection.specs.Handshake.{planted}
+use Rattle.connection.specs.Handshake.{planted, blankHandshake}
+use Rattle.connection.specs.Connection.{alone}
 use Rattle.connection.specs.Sent.{noRecords}
 use Rattle.connection.specs.declared.state.State.{State}
 use Rattle.connection.specs.declared.state.State.the-variants.{Idle, Replied, Spec, Open, Closed, Barred}
@@ -205,6 +206,10 @@ connectionIn b =
       started = handshakeIn (bytesIn b startedPlace handshakeSize);
       sent = sentIn b;
     }
+
+-- that of bytes of any size: a blank one where they are not as many
+unfoldable pub connectionWithin : List ℕ → Connection
+connectionWithin b = pick (eqb (length b) stateSize) (connectionIn b) (alone blankHandshake)
 
 -- what bytes load as: a connection, or none
 pub data Loaded : Type 0 where

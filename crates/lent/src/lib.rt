@@ -36,7 +36,8 @@ use leave::leave_called;
 use leave::leave_received;
 use leave::leave_sent;
 use load::connection_in;
-use load::is_saved;
+pub use load::connection_within;
+pub use load::is_saved;
 pub use load::lent_for;
 use load::open_window;
 pub use load::sent_within;
@@ -47,6 +48,7 @@ use result::not_taken;
 pub use result::result_of;
 use save::SIZE;
 pub use save::lay_sent;
+pub use save::state_number;
 
 // A fresh connection of a planted session, with a window of this width, 32 to 64, in 940 bytes. Refusal: 16.
 pub fn fresh(id: &[u8], secret: &[u8], width: u32, state: &mut [u8]) -> u64

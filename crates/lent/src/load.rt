@@ -3,7 +3,7 @@ ghost use mathlib.Core.Path.{_≡_};
 ghost use mathlib.Core.Bool.{true};
 ghost use Prim.Native.Nat.{_≤_};
 ghost use lib.ListN.{length};
-ghost use Rattle.lent.specs.Saved.{isSaved, isHandshake, stateSize, handshakeSize, stateNumbered, macNumbered, connectionIn};
+ghost use Rattle.lent.specs.Saved.{isSaved, isHandshake, stateSize, handshakeSize, stateNumbered, macNumbered, connectionIn, connectionWithin};
 ghost use Rattle.lent.specs.Saved.{keysIn, keptIn, windowIn, protectionIn, handshakeIn, sentIn, sentWithin};
 ghost use Rattle.lent.specs.Calls.{lentFor};
 ghost use Rattle.lent.specs.Fields.{bytesIn};
@@ -13,8 +13,10 @@ use crate::bytes::two_in;
 use crate::save::MARK;
 use crate::save::SIZE;
 use connection::connection::Connection;
+use connection::connection::alone;
 use connection::handshake::Handshake;
 use connection::handshake::Kept;
+use connection::handshake::blank;
 use connection::sent::SentRecords;
 use connection::state::State;
 use digest::Mac;
@@ -23,8 +25,8 @@ use record::protection::Protection;
 use record::window::Window;
 
 // Whether bytes are a saved connection: the size, the mark, two handshakes. Nothing else in them can be wrong.
-pub(crate) fn is_saved(b: &[u8]) -> bool
-    ensures { λ r. ⌜ r ≡ isSaved (now (b .entry)) ⌝ }
+pub fn is_saved(b: &[u8]) -> bool
+    ensures exact { λ r. ⌜ r ≡ isSaved (now (b .entry)) ⌝ }
 {
     if b.len() != SIZE {
         return false;
@@ -63,6 +65,16 @@ pub fn lent_for(state: &[u8], counts: usize, places: usize) -> bool
         return false;
     }
     is_saved(state)
+}
+
+// The connection that bytes of any size hold; a blank one where they are not as many.
+pub fn connection_within(b: &[u8]) -> Connection
+    ensures exact { λ r. ⌜ r ≡ connectionWithin (now (b .entry)) ⌝ }
+{
+    if b.len() != SIZE {
+        return alone(blank());
+    }
+    connection_in(b)
 }
 
 // The connection that the bytes hold.

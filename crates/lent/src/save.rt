@@ -113,8 +113,8 @@ fn put_handshake(d: &mut [u8], h: Handshake)
     put_sending(d, protection);
 }
 
-fn state_number(state: State) -> u8
-    ensures { λ r. ⌜ r ≡ stateNumber state ⌝ }
+pub fn state_number(state: State) -> u8
+    ensures exact { λ r. ⌜ r ≡ stateNumber state ⌝ }
 {
     match state {
         State::Idle => 0,

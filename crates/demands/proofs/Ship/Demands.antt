@@ -12,6 +12,7 @@ use Rattle.demands.proofs.Ship.LeftOut.{leaves-out}
 use Rattle.demands.proofs.Ship.HandedOut.{goes-along, handed-out, handed-once}
 use Rattle.demands.proofs.Ship.InCalls.{runs-are-events, answers-in-place}
 use Rattle.demands.proofs.Ship.Writes.{again-gives, hello-said-next, nothing-without-open, data-written, alert-written}
+use Rattle.demands.proofs.Ship.Opens.{open-writes}
 use Rattle.demands.proofs.Ship.Counts.{counts-right}
 
 pub demands : Demands
@@ -25,6 +26,7 @@ demands =
         again-same = again-same-datagram;
         again-gives = again-gives;
         hello-said = hello-said-next;
+        open-writes = open-writes;
         unwritten = nothing-without-open;
         data-written = data-written;
         alert-written = alert-written;

@@ -13,6 +13,7 @@ use Rattle.demands.specs.Ship.LeftOut.{LeavesOutRecords}
 use Rattle.demands.specs.Ship.HandedOut.{GoesAlong, HandedOut, HandedOnce}
 use Rattle.demands.specs.Ship.InCalls.{RunsAreEvents, AnswersInPlace}
 use Rattle.demands.specs.Ship.Writes.{AgainGives, HelloSaidNext, NothingWithoutOpen, DataWritten, AlertWritten}
+use Rattle.demands.specs.Ship.Opens.{OpenWrites}
 use Rattle.demands.specs.Ship.Counts.{CountsRight}
 
 -- "Bad input is refused with a number from the list. A refused call writes nothing into the output we lend, and the connection is as
@@ -31,6 +32,7 @@ pub record Second : Type 0 where
   -- "A success writes the counted bytes at the front and no others."
   pub again-gives : AgainGives stepOf
   pub hello-said : HelloSaidNext stepOf
+  pub open-writes : OpenWrites stepOf
   pub unwritten : NothingWithoutOpen stepOf
   pub data-written : DataWritten stepOf
   pub alert-written : AlertWritten stepOf
