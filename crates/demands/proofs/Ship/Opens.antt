@@ -13,7 +13,6 @@ use Rattle.record.specs.declared.keys.Keys.{Keys}
 use Rattle.record.specs.declared.reader.Record.{Record}
 use Rattle.unit.specs.Agree.{judged}
 use Rattle.unit.specs.Answer.{opensBy, opensTo}
-use Rattle.unit.specs.Clear.{requestIn}
 use Rattle.unit.specs.Judge.{judgedRecord}
 use Rattle.unit.specs.Protected.{flightSize}
 use Rattle.unit.specs.Receive.{endOf, answersOf, flightIn, runOf, receivedOf, outputOf}
@@ -26,29 +25,19 @@ use Rattle.unit.specs.declared.state.State.the-variants as S
 use Rattle.unit.specs.declared.state.Rule.the-variants as T
 use Rattle.unit.specs.declared.unit.Unit.{Unit as Ship}
 use Rattle.demands.specs.Ship.Table.{Up, Over, Stays, Shuts, Marked, Row}
-use Rattle.demands.specs.Ship.Table.{at-end, not-allowed, not-first, forged, too-old, repeated, bad-hello, bad-request, bad-change, bad-alert, unacceptable, checksum, request, warning}
-use Rattle.demands.specs.Ship.Table.{critical, fatal, no-change, no-alert, no-message, no-data, some-data, protected-warning, repeated-finished, protected-critical, protected-request, finished-again, wrong-finished}
+use Rattle.demands.specs.Ship.Table.{at-end, not-allowed, not-first, forged, too-old, repeated, bad-hello, bad-request, bad-change, bad-alert, unacceptable, checksum, ignored-request, reported-request, warning}
+use Rattle.demands.specs.Ship.Table.{critical, fatal, no-change, no-alert, no-message, no-data, some-data, protected-warning, repeated-finished, protected-critical, protected-ignored, protected-reported, finished-again, wrong-finished}
 use Rattle.demands.specs.Ship.Table.{row-stays, row-shuts, row-hello, row-change, row-marked, row-opens, row-bars}
 use Rattle.demands.specs.Ship.Runs.{receive, stepOf}
 use Rattle.demands.specs.Ship.Refusals.{writtenBy}
 use Rattle.demands.specs.Ship.Opens.{FlightWritten, OpenWrites}
 use Rattle.demands.proofs.Ship.Table.{ruled-says, row-of}
-use Rattle.demands.proofs.Ship.HandedOut.{up-not-midway, up-not-over, settled-up}
+use Rattle.demands.proofs.Ship.HandedOut.{up-not-midway, up-not-over}
 use Rattle.demands.proofs.Ship.LeftOut.{over-seven}
 
 -- an answer that does not open
 abbrev Silent : Answer → Type 0
 Silent a = (n : ℕ) → opensBy n a ≡ n
-
-request-silent : (s : State) → Silent (requestIn s)
-request-silent S.Idle n = refl
-request-silent S.Sent n = refl
-request-silent S.Replied n = refl
-request-silent S.Spec n = refl
-request-silent S.Opening n = refl
-request-silent S.Open n = refl
-request-silent S.Closed n = refl
-request-silent S.Barred n = refl
 
 -- what an answer that opens says of the unit that is left
 abbrev OpensAs : Answer → Ship → Type 0
@@ -99,7 +88,8 @@ module _ (u : Ship) (d : List ℕ) (r : Record) where
   stays-silent (bad-alert e q) n = refl
   stays-silent (unacceptable term e z q) n = refl
   stays-silent (checksum a e q m) n = refl
-  stays-silent (request e q) n = request-silent (u .state) n
+  stays-silent (ignored-request e q m) n = refl
+  stays-silent (reported-request e q m) n = refl
   stays-silent (warning a e q m l) n = refl
 
   shuts-silent : {a : Answer} → Shuts u d r a → Silent a
@@ -113,9 +103,10 @@ module _ (u : Ship) (d : List ℕ) (r : Record) where
   marked-silent c (no-data k z) n = refl
   marked-silent c (some-data k z) n = refl
   marked-silent c (protected-warning a k q l z) n = refl
-  marked-silent c (repeated-finished a k q l z) n = refl
+  marked-silent c (repeated-finished a k q l z o) n = refl
   marked-silent c (protected-critical a k q l) n = refl
-  marked-silent c (protected-request k q) n = request-silent (u .state) n
+  marked-silent c (protected-ignored k q o) n = refl
+  marked-silent c (protected-reported k q o) n = refl
   marked-silent c (finished-again k q v o) n = refl
   marked-silent c (wrong-finished k q v) n = refl
 
@@ -136,11 +127,12 @@ module _ (u : Ship) (d : List ℕ) (r : Record) where
     marked-later c o e (no-alert x q) = inl (o, e)
     marked-later c o e (no-message x q v) = inl (o, e)
     marked-later c o e (no-data x z) = inl (o, e)
-    marked-later c o e (some-data x z) = inl (settled-up (u .state) o, e)
+    marked-later c o e (some-data x z) = inl (inr refl, e)
     marked-later c o e (protected-warning a x q l z) = inl (o, e)
-    marked-later c o e (repeated-finished a x q l z) = inl (settled-up (u .state) o, e)
+    marked-later c o e (repeated-finished a x q l z y) = inl (inr refl, e)
     marked-later c o e (protected-critical a x q l) = inr (inl refl)
-    marked-later c o e (protected-request x q) = inl (o, e)
+    marked-later c o e (protected-ignored x q y) = inl (o, e)
+    marked-later c o e (protected-reported x q y) = inl (o, e)
     marked-later c o e (finished-again x q v p) = inl (o, e)
     marked-later c o e (wrong-finished x q v) = inr (inl refl)
 
