@@ -211,7 +211,11 @@ fn two_gateways_and_their_server_killed() {
                     stops.fetch_add(1, Ordering::Relaxed);
                 }
             }
-            running.iter_mut().for_each(|one| drop(one.take().unwrap().end()));
+            // The server may just have begun again: then a gateway ends with 6, as it says.
+            for one in &mut running {
+                let (status, _) = one.take().unwrap().end_as_it_may();
+                assert!(matches!(status, Some(0 | 6)), "{status:?}");
+            }
         });
         let _ends = SetAtEnd(&done);
         let mut rng = Rng::new(SEED + 1);

@@ -240,12 +240,18 @@ impl Gatewayd {
     }
 
     /// SIGTERM; gives what it prints at its end.
-    pub fn end(mut self) -> String {
+    pub fn end(self) -> String {
+        let (status, text) = self.end_as_it_may();
+        assert_eq!(status, Some(0));
+        text
+    }
+
+    /// The same where the store may be away: its status, too.
+    pub fn end_as_it_may(mut self) -> (Option<i32>, String) {
         signal(&self.child, "TERM");
         let mut text = String::new();
         self.out.read_to_string(&mut text).unwrap();
-        assert_eq!(self.child.wait().unwrap().code(), Some(0));
-        text
+        (self.child.wait().unwrap().code(), text)
     }
 
     pub fn kill(mut self) {
