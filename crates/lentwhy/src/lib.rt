@@ -1,5 +1,5 @@
 // Why a record is refused, asked of a connection that lives in bytes which the caller lends, as `lent` has its calls: the reason
-// with its facts goes into lent bytes of a fixed layout (specs/Facts.antt). The crate `gateway` exports it to C and Rust.
+// with its facts goes into lent bytes of a fixed layout (specs/Facts.antt). It is not exported yet.
 ghost use mathlib.Core.Path.{_≡_};
 ghost use lib.ListN.{length};
 ghost use Rattle.lentwhy.specs.Calls.{whyResult, whyFacts};
