@@ -13,7 +13,7 @@ const ROOM: usize = 2048;
 // The most that nine digits spell.
 pub(crate) const NUMBER: usize = 999999999;
 
-#[derive(Drop)]
+#[derive(Clone, Copy)]
 pub enum Call {
     Fresh,
     Receive,

@@ -6,7 +6,7 @@ use crate::call::{both, receive_words};
 use lines::said::{named, number_at};
 use lines::words::spaces;
 
-#[derive(Drop)]
+#[derive(Clone, Copy)]
 pub enum Short {
     Message,
     Drop,

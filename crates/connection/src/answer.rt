@@ -6,7 +6,7 @@ use crate::handshake::Handshake;
 use crate::refusal::{Refusal, number};
 use message::alert::Description;
 
-#[derive(Drop)]
+#[derive(Clone, Copy)]
 pub enum Answer {
     // no record stood in this place
     Nothing,
@@ -35,7 +35,7 @@ pub enum Answer {
 }
 
 // The answer to a record, and the handshake that it leaves.
-#[derive(Drop)]
+#[derive(Clone, Copy)]
 pub struct Judged {
     pub answer: Answer,
     pub handshake: Handshake,
@@ -52,7 +52,7 @@ pub(crate) fn refuse(h: Handshake, refusal: Refusal) -> Judged
 }
 
 // An answer in its place among eight.
-#[derive(Drop)]
+#[derive(Clone, Copy)]
 pub struct Slot {
     pub answer: Answer,
 }

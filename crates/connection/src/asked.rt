@@ -12,7 +12,7 @@ use record::code::genuine;
 use record::keys::Sense;
 use record::reader::Record;
 
-#[derive(Drop)]
+#[derive(Clone, Copy)]
 pub enum Whom {
     // the only handshake: none is open
     Only,

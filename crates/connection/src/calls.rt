@@ -8,14 +8,14 @@ use crate::handshake::{Session, blank, made, none_started};
 use crate::refusal::{Refusal, number};
 use crate::state::State;
 
-#[derive(Drop)]
+#[derive(Clone, Copy)]
 pub enum Outcome {
     Done,
     Refused(Refusal),
 }
 
 // The outcome of a call, and the connection that it leaves.
-#[derive(Drop)]
+#[derive(Clone, Copy)]
 pub struct Called {
     pub outcome: Outcome,
     pub connection: Connection,

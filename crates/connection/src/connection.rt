@@ -7,7 +7,7 @@ use crate::sent::SentRecords;
 
 // One connection with a unit. A unit that rebooted says hello while our side is still Open: the handshake that it starts is
 // held beside the open one until its Finished is verified.
-#[derive(Drop)]
+#[derive(Clone, Copy)]
 pub struct Connection {
     // the open handshake, or the only one
     pub handshake: Handshake,

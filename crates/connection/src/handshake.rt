@@ -10,14 +10,14 @@ use record::protection::Protection;
 use record::window::{WIDTH, Window};
 
 // The session planted at fitting out. In a handshake its secret is what the protection's keys are made of.
-#[derive(Drop)]
+#[derive(Clone, Copy)]
 pub struct Session {
     pub id: [u8; 8],
     pub secret: [u8; 20],
 }
 
 // The hello that was answered, as a whole message, and the reply to it; each at the front of its array.
-#[derive(Drop)]
+#[derive(Clone, Copy)]
 pub struct Kept {
     pub hello: [u8; 256],
     pub heard: usize,
@@ -25,7 +25,7 @@ pub struct Kept {
     pub size: usize,
 }
 
-#[derive(Drop)]
+#[derive(Clone, Copy)]
 pub struct Handshake {
     pub state: State,
     // the session's identifier

@@ -1,5 +1,7 @@
 // Layer 4 of the gateway: one connection with a ship's unit (01). Its calls are fresh, receive, send data, send alert,
 // close and start again. No call has a `requires`: every value that a caller can make is safe to pass in.
+#![tactic(auto)]
+
 pub mod answer;
 pub mod asked;
 pub mod calls;

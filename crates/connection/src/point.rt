@@ -18,7 +18,7 @@ use record::reader::Record;
 
 // How the datagram is taken; and of the record that is asked about the connection that the records before it left, whom it
 // is for, and its answer. Where there is no such record, the connection as it was, a blank record and no answer.
-#[derive(Drop)]
+#[derive(Clone, Copy)]
 pub struct Point {
     pub taken: Taken,
     pub connection: Connection,

@@ -24,14 +24,14 @@ use record::reader::{Reading, Record, read};
 
 // How a datagram was taken: so many records, each with its answer; or refused as a whole, a framing fault with the offset
 // of the record at fault.
-#[derive(Drop)]
+#[derive(Clone, Copy)]
 pub enum Taken {
     Records(usize),
     Refused(Refusal),
     Misframed(Refusal, usize),
 }
 
-#[derive(Drop)]
+#[derive(Clone, Copy)]
 pub struct Received {
     pub taken: Taken,
     // an answer for each record, and Nothing behind them
@@ -127,7 +127,7 @@ fn whole(c: Connection, taken: Taken) -> Received
 
 // A datagram begun: the answer to its first record, how many bytes were written, and the connection after it, where that is a
 // ClientHello; else nothing yet. So many records are done, and the next begins at `at`.
-#[derive(Drop)]
+#[derive(Clone, Copy)]
 pub struct Begun {
     pub answer: Answer,
     pub written: usize,

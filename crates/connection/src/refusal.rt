@@ -5,7 +5,7 @@ ghost use Rattle.connection.specs.Refusal.{refusal_number};
 
 use record::reader::Fault;
 
-#[derive(Drop)]
+#[derive(Clone, Copy)]
 pub enum Refusal {
     // 1 to 5: the framing of the datagram
     Framing(Fault),

@@ -17,7 +17,7 @@ use record::keys::Sense;
 use record::written::write_clear;
 
 // The outcome of a send, how many bytes stand at the front of the output, and the connection that it leaves.
-#[derive(Drop)]
+#[derive(Clone, Copy)]
 pub struct Sent {
     pub outcome: Outcome,
     pub written: usize,

@@ -6,7 +6,7 @@ ghost use Rattle.connection.specs.Sent.{no_records, with_record, with_reply, mat
 const KEPT: u32 = 8;
 
 // The newest first, `count` of them. Every value is safe to pass in: a count over eight counts as eight.
-#[derive(Drop)]
+#[derive(Clone, Copy)]
 pub struct SentRecords {
     pub count: u32,
     pub checksums: [u32; 8],

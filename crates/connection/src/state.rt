@@ -4,7 +4,7 @@ ghost use Rattle.connection.specs.State.{kind_of, rule_of};
 
 use record::header::Content;
 
-#[derive(Drop)]
+#[derive(Clone, Copy)]
 pub enum State {
     Idle,
     Replied,
@@ -15,7 +15,7 @@ pub enum State {
 }
 
 // What a record is, as the table tells records apart: clear ones, and protected ones.
-#[derive(Drop)]
+#[derive(Clone, Copy)]
 pub enum Kind {
     ClearHello,
     ClearChange,
@@ -28,7 +28,7 @@ pub enum Kind {
 }
 
 // What the table does with a record.
-#[derive(Drop)]
+#[derive(Clone, Copy)]
 pub enum Rule {
     // 7
     Ended,

@@ -10,7 +10,7 @@ use crate::state::State;
 use record::window::Window;
 
 // Where a step leads.
-#[derive(Drop)]
+#[derive(Clone, Copy)]
 pub enum Move {
     // the state stays
     Stay,
@@ -25,7 +25,7 @@ pub enum Move {
 }
 
 // The answer to a record, the window that it leaves, and where it leads.
-#[derive(Drop)]
+#[derive(Clone, Copy)]
 pub struct Step {
     pub answer: Answer,
     pub window: Window,

@@ -6,7 +6,7 @@ use crate::answer::{Answer, Slot};
 use crate::refusal::Refusal;
 
 // Each count stops at 2^32 - 1.
-#[derive(Drop)]
+#[derive(Clone, Copy)]
 pub struct Tally {
     pub handed: u32,
     pub forged: u32,

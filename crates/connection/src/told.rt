@@ -18,7 +18,7 @@ use record::window::Window;
 
 // The answer to a record, the connection that it leaves, and whether the started handshake, as it is left, has the reply
 // that is sent; else the other has it.
-#[derive(Drop)]
+#[derive(Clone, Copy)]
 pub struct Told {
     pub answer: Answer,
     pub connection: Connection,
@@ -26,7 +26,7 @@ pub struct Told {
 }
 
 // Where the handshake that was asked goes, as it is left.
-#[derive(Drop)]
+#[derive(Clone, Copy)]
 pub enum Place {
     // it is the open one, or the only one, as before
     Kept,

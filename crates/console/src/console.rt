@@ -6,7 +6,7 @@ use connection::tally::Tally;
 use gather::Gatherer;
 
 // One connection, one tally and one gatherer with its store; no connection while no `fresh` has succeeded.
-#[derive(Drop)]
+#[derive(Clone, Copy)]
 pub struct Console {
     pub connected: bool,
     pub connection: Connection,
@@ -67,7 +67,7 @@ impl Console {
 }
 
 // The console that a line leaves, and how much of the text is in use.
-#[derive(Drop)]
+#[derive(Clone, Copy)]
 pub struct Ran {
     pub console: Console,
     pub at: usize,

@@ -1,5 +1,7 @@
 // The console: one connection, one tally and one gatherer, driven by lines. Each line of standard input is a call; what the call gave, and the
 // state that it left, are written to standard output.
+#![tactic(auto)]
+
 mod console;
 mod gathering;
 mod line;

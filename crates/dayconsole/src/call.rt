@@ -5,7 +5,7 @@ use lines::words::spaces;
 // The most bytes of room that a line may lend.
 const ROOM: usize = 70000;
 
-#[derive(Drop)]
+#[derive(Clone, Copy)]
 pub enum Call {
     Report,
     File,

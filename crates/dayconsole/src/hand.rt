@@ -1,6 +1,6 @@
 // What is at hand from line to line: how many reports the list has, how many bytes they have in all,
 // and how many bytes the file has. The list and the file themselves stand in lent buffers.
-#[derive(Drop)]
+#[derive(Clone, Copy)]
 pub struct Hand {
     pub reports: usize,
     pub used: usize,
@@ -32,7 +32,7 @@ impl Hand {
 }
 
 // What a line leaves at hand, and how much of the text is in use.
-#[derive(Drop)]
+#[derive(Clone, Copy)]
 pub struct Ran {
     pub hand: Hand,
     pub at: usize,

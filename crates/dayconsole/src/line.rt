@@ -7,7 +7,7 @@ use lines::held::{hold, is_newline};
 use lines::text::flush;
 
 // What is at hand after a chunk, and the size of the line that is held.
-#[derive(Drop)]
+#[derive(Clone, Copy)]
 pub struct Fed {
     pub hand: Hand,
     pub size: usize,

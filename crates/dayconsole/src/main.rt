@@ -1,6 +1,8 @@
 // The day console: a list of reports and a file at hand, driven by lines. Each line of standard
 // input is a call; what the call gave, and how much is at hand afterwards, are written to standard
 // output.
+#![tactic(auto)]
+
 mod call;
 mod hand;
 mod line;
@@ -60,7 +62,7 @@ fn take_input(
 }
 
 // What is at hand after one chunk, the size of the line that is held, and whether more may come.
-#[derive(Drop)]
+#[derive(Clone, Copy)]
 pub struct Taken {
     pub hand: Hand,
     pub size: usize,

@@ -1,6 +1,8 @@
 // The day's list as a file (02 P9) and its mending (02 P10), for Rattle and, by the calls of this page, for C and Rust. There
 // is no heap; everything is lent. No call has a `requires`: what is lent is tested. A refused call
 // leaves every lent byte as it was.
+#![tactic(auto)]
+
 ghost use Rattle.std.specs.Prelude.{◌≡◌, ◌+◌, ◌*◌, ◌≤◌, length, drop};
 ghost use Rattle.dayfile.specs.Runs.{front_of};
 ghost use Rattle.dayfile.specs.Writing.{write_lent, writing_told, left_by};

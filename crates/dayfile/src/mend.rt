@@ -8,14 +8,14 @@ use crate::trailer::{put_trailer, trailer_stands};
 use digest::put;
 
 // How many reports were kept, how many bytes stood after them, and whether the file changed.
-#[derive(Drop)]
+#[derive(Clone, Copy)]
 pub struct Mended {
     pub kept: usize,
     pub after: usize,
     pub changed: bool,
 }
 
-#[derive(Drop)]
+#[derive(Clone, Copy)]
 pub enum Mending {
     Done(Mended),
     Refused(Refusal),

@@ -7,7 +7,7 @@ use crate::refusal::Refusal;
 use crate::run::run_in;
 use crate::trailer::trailer_stands;
 
-#[derive(Drop)]
+#[derive(Clone, Copy)]
 pub enum Reading {
     Reports(usize),
     Refused(Refusal),

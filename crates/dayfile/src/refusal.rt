@@ -4,7 +4,7 @@ ghost use Rattle.dayfile.specs.Writing.{refusal_number};
 
 // A report or an argument out of range; too many reports or too many bytes; too little room; bytes
 // that are the file of no list. `refusal_number` gives the number of each.
-#[derive(Drop)]
+#[derive(Clone, Copy)]
 pub enum Refusal {
     Argument,
     Limit,

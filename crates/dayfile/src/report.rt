@@ -9,7 +9,7 @@ pub(crate) const OPENING: u8 = 0xD1;
 pub(crate) const HEAD: usize = 5;
 
 // The number of the report and how many bytes it has; they stand behind the five of its head.
-#[derive(Drop)]
+#[derive(Clone, Copy)]
 pub enum Found {
     Whole(u16, usize),
     Nothing,

@@ -6,7 +6,7 @@ ghost use Rattle.dayfile.specs.Runs.{run_of, counted};
 use crate::report::{Found, HEAD, report_at};
 
 // How many reports the run has, and where it ends.
-#[derive(Drop)]
+#[derive(Clone, Copy)]
 pub struct Run {
     pub count: usize,
     pub end: usize,

@@ -11,7 +11,7 @@ use crate::report::{HEAD, OPENING};
 use crate::trailer::{put_pair, put_trailer};
 use digest::put;
 
-#[derive(Drop)]
+#[derive(Clone, Copy)]
 pub enum Writing {
     // how many bytes the file has
     Written(usize),

@@ -12,7 +12,7 @@ ghost use Rattle.digest.specs.Sha1.{shifted, f, k, initial_state, words, round, 
 use std::num::wrapping_add_u32;
 
 // The five words of FIPS 180-1 section 7.
-#[derive(Drop)]
+#[derive(Clone, Copy)]
 pub struct State {
     pub a: u32,
     pub b: u32,
@@ -22,7 +22,7 @@ pub struct State {
 }
 
 // A block on its way: the state after some rounds, and the words of the last sixteen of them, that of round t at t mod 16.
-#[derive(Drop)]
+#[derive(Clone, Copy)]
 struct Midway {
     state: State,
     words: [u32; 16],

@@ -6,14 +6,14 @@ ghost use Rattle.digest.specs.declared.edition.Listing.TheVariants.{Unlisted};
 ghost use Rattle.digest.specs.Edition.{entry_of, named_in, row, named, nameless};
 
 // The key size and the code size, where the list shows them.
-#[derive(Drop)]
+#[derive(Clone, Copy)]
 pub enum Sizes {
     Shown(usize, usize),
     Unshown,
 }
 
 // An entry: its name with zeros behind it and how many bytes the name has, its sizes, and which editions list it.
-#[derive(Drop)]
+#[derive(Clone, Copy)]
 struct Entry {
     name: [u8; 10],
     length: usize,
@@ -23,7 +23,7 @@ struct Entry {
 }
 
 // Whether an edition lists a number. An edition other than 1 and 2 is unknown: 16.
-#[derive(Drop)]
+#[derive(Clone, Copy)]
 pub enum Listing {
     Listed,
     Unlisted,
@@ -31,7 +31,7 @@ pub enum Listing {
 }
 
 // What an edition says of a number; without a name where it is not listed.
-#[derive(Drop)]
+#[derive(Clone, Copy)]
 pub struct Named {
     pub listing: Listing,
     pub name: [u8; 10],

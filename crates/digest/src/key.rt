@@ -14,7 +14,7 @@ use crate::bytes::lay;
 use crate::pieces::{Hasher, closed, ending, sha1, spelled};
 
 // A key with both pads absorbed, so that codes under one key do not absorb them again. Every value of it is safe.
-#[derive(Drop)]
+#[derive(Clone, Copy)]
 pub struct Key {
     pub inner: State,
     pub outer: State,

@@ -1,5 +1,7 @@
 // Layer 1: digest and MAC. SHA-1 (FIPS 180-1), HMAC (RFC 2104), the expansion and the pseudo-random
 // function (002 section 11.3), the MAC kinds (002 appendix A), and the comparison of codes.
+#![tactic(auto)]
+
 mod block;
 mod bytes;
 mod edition;

@@ -4,14 +4,14 @@ ghost use Rattle.digest.specs.Mac.{number_of, size_of, listed_as, same_bytes};
 ghost use Rattle.digest.specs.Mac.{secret_size, client_expansion, server_expansion};
 
 // SHA_80: the first ten bytes of the code. SHA: all twenty.
-#[derive(Drop)]
+#[derive(Clone, Copy)]
 pub enum Mac {
     Sha80,
     Sha,
 }
 
 // The kind that a number of table 6 names, where the profile has it.
-#[derive(Drop)]
+#[derive(Clone, Copy)]
 pub enum Listed {
     Is(Mac),
     Other,

@@ -11,7 +11,7 @@ use crate::bytes::{lay, put_word};
 // A message that comes in pieces: the bytes behind its whole blocks at the front of `rest`, how many bytes came,
 // modulo 2^64, and the state after the whole blocks. Every value of it is safe to use: how much of `rest` counts
 // follows from the count. (In this order of the fields less stack is taken, docs/SPEED.md.)
-#[derive(Drop)]
+#[derive(Clone, Copy)]
 pub struct Hasher {
     pub rest: [u8; 64],
     pub count: u64,

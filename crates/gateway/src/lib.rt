@@ -1,5 +1,7 @@
 // What C and Rust link: each call is one of `lent`, or for short messages of `lentshort`, under a name of its own.
 // include/gateway.h is the manual. A crate apart, since the archive's build proves its crate once more: so little is proved twice.
+#![tactic(auto)]
+
 ghost use Rattle.std.specs.Prelude.{◌≡◌, length};
 ghost use Rattle.lent.specs.Calls.{fresh_result, fresh_state, close_result, close_state, start_result, start_state};
 ghost use Rattle.lent.specs.Calls.{state_result, arrived_result, width_result};

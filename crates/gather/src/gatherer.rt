@@ -12,7 +12,7 @@ use crate::refusal::Refusal;
 use crate::slot::{Slot, bytes_below, freed, holding, new, places, with_size};
 
 // Four slots. Slot k has the bytes k * 1,400 up to (k + 1) * 1,400 of the store.
-#[derive(Drop)]
+#[derive(Clone, Copy)]
 pub struct Gatherer {
     pub first: Slot,
     pub second: Slot,
@@ -20,7 +20,7 @@ pub struct Gatherer {
     pub fourth: Slot,
 }
 
-#[derive(Drop)]
+#[derive(Clone, Copy)]
 pub enum Answer {
     Refused(Refusal),
     // the reference, how many places are held, and the total
@@ -31,7 +31,7 @@ pub enum Answer {
     Gathered(Ports, usize),
 }
 
-#[derive(Drop)]
+#[derive(Clone, Copy)]
 pub struct Step {
     pub gatherer: Gatherer,
     pub answer: Answer,

@@ -4,14 +4,14 @@ ghost use Rattle.std.specs.Prelude.{◌≡◌, ◌+◌, ◌*◌, ◌≤◌, ◌<
 ghost use Rattle.gather.specs.Header.{heading_of, walked_of, element_of, placed_of, judged_of, nothing};
 
 // Port addressing with 16-bit ports (element 05).
-#[derive(Drop)]
+#[derive(Clone, Copy)]
 pub struct Ports {
     pub destination: u16,
     pub originator: u16,
 }
 
 // Concatenation (element 00): which message, of how many parts, and which of them.
-#[derive(Drop)]
+#[derive(Clone, Copy)]
 pub struct Place {
     pub reference: u8,
     pub total: u8,
@@ -19,7 +19,7 @@ pub struct Place {
 }
 
 // What the header says. The part begins at the number given.
-#[derive(Drop)]
+#[derive(Clone, Copy)]
 pub enum Heading {
     // 19
     Refused,
@@ -29,7 +29,7 @@ pub enum Heading {
 }
 
 // The elements noted so far: of two alike the last.
-#[derive(Drop)]
+#[derive(Clone, Copy)]
 pub struct Noted {
     pub ported: bool,
     pub ports: Ports,
@@ -37,7 +37,7 @@ pub struct Noted {
     pub place: Place,
 }
 
-#[derive(Drop)]
+#[derive(Clone, Copy)]
 pub enum Elements {
     Fault,
     Whole(Noted),

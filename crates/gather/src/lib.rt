@@ -1,4 +1,6 @@
 // Reports that come as short messages (02, P2): the user data header of GSM 03.40, and the gatherer of parts.
+#![tactic(auto)]
+
 mod gatherer;
 mod header;
 mod refusal;

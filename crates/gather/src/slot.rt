@@ -5,7 +5,7 @@ ghost use Rattle.gather.specs.Slot.{free, begun, holds, held_in, count_of, below
 
 // A slot with total 0 is free. A size of 0: the place is not held; n + 1: it is held, with n bytes. Every value is safe to
 // use: sizes that pass the 1,400 bytes count up to them.
-#[derive(Drop)]
+#[derive(Clone, Copy)]
 pub struct Slot {
     pub reference: u8,
     pub total: u8,

@@ -1,6 +1,8 @@
 // Two worked handshakes, one for each MAC kind, with every value on the way: a line for each, the kind and the name of
 // the value, then its bytes. All of them are computed by the crates below; what they must be is computed by the second
 // implementation in host/ (tests/handshakes).
+#![tactic(auto)]
+
 mod datagrams;
 mod messages;
 mod protection;

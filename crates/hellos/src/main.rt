@@ -1,5 +1,7 @@
 // Hears each of the messages on standard input, a 2-byte length before each, against the identifier 1 to 8, and writes
 // a line for each: the refusal number with the field or the condition, or 0 with MAC number and refresh.
+#![tactic(auto)]
+
 use message::acceptance::{Condition, Heard};
 use message::hello::Field;
 use message::{acceptance, field};

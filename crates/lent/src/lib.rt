@@ -1,6 +1,8 @@
 // The calls of the connection, on a connection and a tally that live in bytes which the caller lends. Nothing is kept
 // between calls. No call has a `requires`: what is lent is tested. Each call answers one number of three parts
 // (`result`), and a refused call leaves every lent byte as it was. The crate `gateway` exports them to C and Rust.
+#![tactic(auto)]
+
 ghost use Rattle.std.specs.Prelude.{◌≡◌, length};
 ghost use Rattle.lent.specs.Calls.{fresh_result, fresh_state, close_result, close_state, start_result, start_state};
 ghost use Rattle.lent.specs.Calls.{state_result, arrived_result, width_result};

@@ -10,7 +10,7 @@ use digest::put;
 use message::alert::description_number;
 
 // The numbers of an answer.
-#[derive(Drop)]
+#[derive(Clone, Copy)]
 pub struct Entry {
     pub kind: u8,
     pub refusal: u8,

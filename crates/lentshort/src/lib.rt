@@ -1,6 +1,8 @@
 // Short messages on lent bytes (02, P2): the gatherer lives in bytes which the caller lends, as the connection does in `lent`, and
 // the datagram that a message shows goes to `lent`'s receive. Nothing is kept between calls, and no call has a `requires`: what is
 // lent is tested. The crate `gateway` exports the calls to C and Rust.
+#![tactic(auto)]
+
 ghost use Rattle.std.specs.Prelude.{◌≡◌, length};
 ghost use Rattle.lent.specs.Saved.{loaded};
 ghost use Rattle.lentshort.specs.Saved.{loaded_gatherer};

@@ -1,6 +1,8 @@
 // The calls of the shipboard end, on a unit and a tally that live in bytes which the caller lends, as the shore's are in `lent`.
 // Nothing is kept between calls. No call has a `requires`: what is lent is tested. Each call answers one number of three parts
 // (`lent::result_of`), and a refused call leaves every lent byte as it was. The crate `shipboard` exports them to C and Rust.
+#![tactic(auto)]
+
 ghost use Rattle.std.specs.Prelude.{◌≡◌, length};
 ghost use Rattle.lentunit.specs.Saved.{loaded};
 ghost use Rattle.lentunit.specs.Calls.{fresh_result, fresh_state, close_result, close_state, start_result, start_state};

@@ -1,5 +1,7 @@
 // Why a record is refused, asked of a connection that lives in bytes which the caller lends, as `lent` has its calls: the reason
 // with its facts goes into lent bytes of a fixed layout (specs/Facts.antt). It is not exported yet.
+#![tactic(auto)]
+
 ghost use Rattle.std.specs.Prelude.{◌≡◌, length};
 ghost use Rattle.lentwhy.specs.Calls.{why_result, why_facts};
 

@@ -1,5 +1,7 @@
 // The frame lister (01): reads one datagram from standard input and prints its records, or the
 // refusal.
+#![tactic(auto)]
+
 ghost use Rattle.std.specs.Prelude.{◌≡◌, ◌+◌, ◌^◌, ◌<◌};
 ghost use Rattle.record.specs.Datagram.{walk_of};
 

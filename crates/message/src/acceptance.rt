@@ -8,7 +8,7 @@ use crate::{field, hello};
 use digest::{Listed, Mac};
 
 // What the handshake that follows an accepted hello goes by.
-#[derive(Drop)]
+#[derive(Clone, Copy)]
 pub struct Plan {
     pub mac: Mac,
     pub refresh: u8,
@@ -17,7 +17,7 @@ pub struct Plan {
 }
 
 // The first condition that a hello does not meet.
-#[derive(Drop)]
+#[derive(Clone, Copy)]
 pub enum Condition {
     Version,
     SessionId,
@@ -26,14 +26,14 @@ pub enum Condition {
     Numbering,
 }
 
-#[derive(Drop)]
+#[derive(Clone, Copy)]
 pub enum Acceptance {
     Accepted(Plan),
     Unacceptable(Condition),
 }
 
 // What becomes of a message that is to be a ClientHello.
-#[derive(Drop)]
+#[derive(Clone, Copy)]
 pub enum Heard {
     Accepted(Plan),
     Unacceptable(Condition),

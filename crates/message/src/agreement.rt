@@ -9,7 +9,7 @@ use crate::{field, server_hello};
 use digest::{Listed, Mac};
 
 // The first term of a ServerHello that does not answer the offer, in the order of its layout.
-#[derive(Drop)]
+#[derive(Clone, Copy)]
 pub enum Term {
     Version,
     SessionId,
@@ -21,7 +21,7 @@ pub enum Term {
 }
 
 // What becomes of a message that is to be a ServerHello.
-#[derive(Drop)]
+#[derive(Clone, Copy)]
 pub enum Agreement {
     Agreed(Plan),
     Unacceptable(Term),

@@ -2,7 +2,7 @@
 ghost use Rattle.std.specs.Prelude.{◌≡◌, ◌+◌, ◌*◌};
 ghost use Rattle.message.specs.Alert.{level_number, level_of, description_number, sorted_of, alert_of, alert_bytes};
 
-#[derive(Drop)]
+#[derive(Clone, Copy)]
 pub enum Level {
     Warning,
     Critical,
@@ -10,13 +10,13 @@ pub enum Level {
 }
 
 // What a level byte says.
-#[derive(Drop)]
+#[derive(Clone, Copy)]
 pub enum Graded {
     Is(Level),
     Unassigned,
 }
 
-#[derive(Drop)]
+#[derive(Clone, Copy)]
 pub enum Description {
     ConnectionCloseNotify,
     SessionCloseNotify,
@@ -53,20 +53,20 @@ pub enum Description {
 }
 
 // What a description byte says.
-#[derive(Drop)]
+#[derive(Clone, Copy)]
 pub enum Sorted {
     Assigned(Description),
     Unassigned,
 }
 
-#[derive(Drop)]
+#[derive(Clone, Copy)]
 pub struct Alert {
     pub level: Level,
     pub description: Description,
     pub checksum: u32,
 }
 
-#[derive(Drop)]
+#[derive(Clone, Copy)]
 pub enum Reading {
     WellFormed(Alert),
     Malformed,

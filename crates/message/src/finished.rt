@@ -6,7 +6,7 @@ use crate::{field, handshake};
 use digest::Hasher;
 
 // What a message that is to be a Finished is.
-#[derive(Drop)]
+#[derive(Clone, Copy)]
 pub enum Verified {
     Right,
     // a Finished with other contents

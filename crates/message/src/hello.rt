@@ -5,14 +5,14 @@ ghost use Rattle.message.specs.Hello.{read_of, told_by, suites_end, placed};
 use crate::{field, handshake, keys};
 
 // Where the contents of a field stand in the message: from the first byte up to the end.
-#[derive(Drop)]
+#[derive(Clone, Copy)]
 pub struct Place {
     pub from: usize,
     pub end: usize,
 }
 
 // A well-formed hello's fields, in their order.
-#[derive(Drop)]
+#[derive(Clone, Copy)]
 pub struct Hello {
     pub version: Place,
     pub random: Place,
@@ -26,7 +26,7 @@ pub struct Hello {
 }
 
 // The first field at fault of a malformed hello.
-#[derive(Drop)]
+#[derive(Clone, Copy)]
 pub enum Field {
     // not one ClientHello message that fills the bytes
     Header,
@@ -45,7 +45,7 @@ pub enum Field {
     Rest,
 }
 
-#[derive(Drop)]
+#[derive(Clone, Copy)]
 pub enum Reading {
     WellFormed(Hello),
     Malformed(Field),

@@ -1,4 +1,6 @@
 // Layer 3: messages (002 section 10). Hellos, alerts, change cipher spec and Finished, read and written exactly.
+#![tactic(auto)]
+
 pub mod acceptance;
 pub mod agreement;
 pub mod alert;

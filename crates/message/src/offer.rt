@@ -8,7 +8,7 @@ use crate::writer;
 use digest::Mac;
 
 // The MAC kinds of the profile, in the order of preference: one of them or both.
-#[derive(Drop)]
+#[derive(Clone, Copy)]
 pub enum Kinds {
     Sha80,
     Sha,
@@ -17,14 +17,14 @@ pub enum Kinds {
 }
 
 // The kinds that a list of numbers names.
-#[derive(Drop)]
+#[derive(Clone, Copy)]
 pub enum Named {
     Are(Kinds),
     Others,
 }
 
 // The kinds that are offered, and the key refresh that is suggested.
-#[derive(Drop)]
+#[derive(Clone, Copy)]
 pub struct Offer {
     pub kinds: Kinds,
     pub refresh: u8,

@@ -6,7 +6,7 @@ ghost use Rattle.message.specs.ServerHello.{server_read};
 use crate::acceptance::byte_at;
 use crate::handshake;
 
-#[derive(Drop)]
+#[derive(Clone, Copy)]
 pub enum Reading {
     WellFormed(usize),
     Malformed,

@@ -9,7 +9,7 @@ use crate::field;
 use crate::hello::Place;
 
 // ECFieldID and ECBasisType with their numbers; a prime or a polynomial is told by its place.
-#[derive(Drop)]
+#[derive(Clone, Copy)]
 pub enum FieldId {
     Prime(Place),
     Onb(u16),
@@ -18,14 +18,14 @@ pub enum FieldId {
     Polynomial(u16, Place),
 }
 
-#[derive(Drop)]
+#[derive(Clone, Copy)]
 pub struct DhParameters {
     pub e: u8,
     pub p: Place,
     pub g: Place,
 }
 
-#[derive(Drop)]
+#[derive(Clone, Copy)]
 pub struct EcParameters {
     pub field: FieldId,
     pub a: Place,
@@ -36,7 +36,7 @@ pub struct EcParameters {
     pub cofactor: Place,
 }
 
-#[derive(Drop)]
+#[derive(Clone, Copy)]
 pub enum Reading {
     // the suite's sets are not read
     Skipped,

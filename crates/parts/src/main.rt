@@ -1,5 +1,7 @@
 // Gathers the short messages on standard input, a 2-byte length before each, and writes two lines for each: what its header
 // says, and what the gatherer answers. A length of 65535 is a drop: one byte follows, the reference.
+#![tactic(auto)]
+
 ghost use Rattle.std.specs.Prelude.{◌≤◌, ◌<◌, length};
 
 use gather::{Answer, Gatherer, Heading, Ports};

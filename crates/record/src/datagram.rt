@@ -8,7 +8,7 @@ use crate::header::Content;
 use crate::reader::{Fault, Reading, Record, read};
 
 // Whether the framing is sound, and if not, the fault and the offset of the record at fault.
-#[derive(Drop)]
+#[derive(Clone, Copy)]
 pub enum Outcome {
     Sound,
     Refused(Fault, usize),
@@ -16,7 +16,7 @@ pub enum Outcome {
 
 // What the walk found: `count` records in the order of the datagram, each with its start; the
 // places after them are blank. A refused datagram has no records.
-#[derive(Drop)]
+#[derive(Clone, Copy)]
 pub struct Walk {
     pub outcome: Outcome,
     pub count: usize,

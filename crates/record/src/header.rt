@@ -4,7 +4,7 @@ ghost use Rattle.std.specs.Prelude.{◌≡◌};
 ghost use Rattle.record.specs.Header.{kind_of, byte_of, sound_kind, content_of, number_of};
 
 // What the type byte says.
-#[derive(Drop)]
+#[derive(Clone, Copy)]
 pub struct Kind {
     // bit 0: the record has a length
     pub long: bool,
@@ -19,7 +19,7 @@ pub struct Kind {
 }
 
 // The four kinds of content, 1 to 4 on the wire.
-#[derive(Drop)]
+#[derive(Clone, Copy)]
 pub enum Content {
     ChangeCipherSpec,
     Alert,

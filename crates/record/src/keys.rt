@@ -8,7 +8,7 @@ use digest::{Key, Mac};
 
 // What the keys of a handshake are made of: the master secret, both randoms, the MAC kind and the key
 // refresh.
-#[derive(Drop)]
+#[derive(Clone, Copy)]
 pub struct Keys {
     pub secret: [u8; 20],
     pub server: [u8; 16],
@@ -18,7 +18,7 @@ pub struct Keys {
 }
 
 // Whose records: each end has keys of its own.
-#[derive(Drop)]
+#[derive(Clone, Copy)]
 pub enum Sense {
     FromUnit,
     FromShore,

@@ -10,7 +10,7 @@ use crate::keys::{Keys, Sense};
 use crate::window::{Acceptance, Window};
 
 // The next protected and clear numbers are 65,536 once spent.
-#[derive(Drop)]
+#[derive(Clone, Copy)]
 pub struct Protection {
     pub keys: Keys,
     pub window: Window,
@@ -20,7 +20,7 @@ pub struct Protection {
 
 // What becomes of a protected record. Of a new one so many bytes of the fragment are its content: they stand at the
 // front, the code behind them.
-#[derive(Drop)]
+#[derive(Clone, Copy)]
 pub enum Opened {
     Forged,
     TooOld,
@@ -29,7 +29,7 @@ pub enum Opened {
 }
 
 // The same, and the protection that it leaves: a new number has its mark, and nothing else changes.
-#[derive(Drop)]
+#[derive(Clone, Copy)]
 pub struct Opening {
     pub opened: Opened,
     pub protection: Protection,
@@ -37,7 +37,7 @@ pub struct Opening {
 
 // What becomes of a record that is to be written: the numbers are spent, the room is too small, or so many bytes of it
 // stand at the front of the output.
-#[derive(Drop)]
+#[derive(Clone, Copy)]
 pub enum Wrote {
     Spent,
     NoRoom,
@@ -45,7 +45,7 @@ pub enum Wrote {
 }
 
 // The same, and the protection after it.
-#[derive(Drop)]
+#[derive(Clone, Copy)]
 pub struct Writing {
     pub wrote: Wrote,
     pub protection: Protection,

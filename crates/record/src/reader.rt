@@ -6,7 +6,7 @@ ghost use Rattle.record.specs.Reader.{fault_number, read_of, read_as, head_of, s
 use crate::header::{Content, Kind, content_of, sound, split};
 
 // What is wrong with the framing of a datagram. `fault_number` gives the number of each.
-#[derive(Drop)]
+#[derive(Clone, Copy)]
 pub enum Fault {
     Size,
     Header,
@@ -29,7 +29,7 @@ pub fn fault_number(fault: Fault) -> u8
 }
 
 // A record, its places counted from its type byte.
-#[derive(Drop)]
+#[derive(Clone, Copy)]
 pub struct Record {
     // the type byte as on the wire
     pub byte: u8,
@@ -46,7 +46,7 @@ pub struct Record {
     pub used: usize,
 }
 
-#[derive(Drop)]
+#[derive(Clone, Copy)]
 pub enum Reading {
     Sound(Record),
     Refused(Fault),

@@ -10,7 +10,7 @@ pub const WIDTH: u8 = 32;
 // The mark of the highest number is the lowest bit, and the mark of the number j below it is bit j.
 // No mark at all is a fresh window. Marks above the width do not count, and a width outside 32 to 64
 // counts as the nearest of these.
-#[derive(Drop)]
+#[derive(Clone, Copy)]
 pub struct Window {
     pub width: u8,
     pub highest: u16,
@@ -19,7 +19,7 @@ pub struct Window {
 
 // What becomes of a number: new, with the window that has it and how many of its newest numbers
 // have arrived, this one included; or refused.
-#[derive(Drop)]
+#[derive(Clone, Copy)]
 pub enum Acceptance {
     New(Window, u32),
     TooOld,

@@ -1,5 +1,7 @@
 // What C and Rust link of the shipboard end: each call is one of `lentunit`, under a name of its own. include/unit.h is the manual. A
 // crate apart, since the archive's build proves its crate once more: so little is proved twice.
+#![tactic(auto)]
+
 ghost use Rattle.std.specs.Prelude.{◌≡◌, length};
 ghost use Rattle.lentunit.specs.Saved.{loaded};
 ghost use Rattle.lentunit.specs.Calls.{fresh_result, fresh_state, close_result, close_state, start_result, start_state};

@@ -5,7 +5,7 @@ use unit::tally;
 use unit::unit::{Unit, blank};
 
 // One unit and one tally; no unit while no `fresh` has succeeded.
-#[derive(Drop)]
+#[derive(Clone, Copy)]
 pub struct Console {
     pub connected: bool,
     pub unit: Unit,
@@ -50,7 +50,7 @@ impl Console {
 }
 
 // The console that a line leaves, and how much of the text is in use.
-#[derive(Drop)]
+#[derive(Clone, Copy)]
 pub struct Ran {
     pub console: Console,
     pub at: usize,

@@ -1,5 +1,7 @@
 // The ship's console: one unit and one tally, driven by lines. Each line of standard input is a call; what the call gave, and the
 // state that it left, are written to standard output.
+#![tactic(auto)]
+
 mod call;
 mod console;
 mod line;

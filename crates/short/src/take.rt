@@ -7,7 +7,7 @@ use connection::connection::Connection;
 use connection::receive::{Received, receive};
 use gather::{Answer, Gatherer, Refusal, datagram};
 
-#[derive(Drop)]
+#[derive(Clone, Copy)]
 pub struct Messaged {
     pub gatherer: Gatherer,
     pub answer: Answer,

@@ -22,7 +22,7 @@ pub fn put_parts(g: Gatherer, text: &mut [u8], at: usize) -> usize {
 }
 
 // How much of the text is in use, and whether a reference was written already (0 for none).
-#[derive(Drop)]
+#[derive(Clone, Copy)]
 struct Written {
     end: usize,
     before: usize,

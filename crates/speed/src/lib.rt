@@ -1,4 +1,6 @@
 // What the benchmark (bench/) times and weighs: the calls of the crate digest, for C to call.
+#![tactic(auto)]
+
 ghost use Rattle.std.specs.Prelude.{◌≡◌, List, ◌++◌, length, ℕ};
 ghost use Rattle.digest.specs.Bytes.{laid_within};
 ghost use Rattle.digest.specs.Sha1.{sha1};

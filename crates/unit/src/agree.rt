@@ -17,14 +17,14 @@ use record::protection::Protection;
 use record::written::write_clear;
 
 // The answer to a record, and the unit that it leaves.
-#[derive(Drop)]
+#[derive(Clone, Copy)]
 pub struct Judged {
     pub answer: Answer,
     pub unit: Unit,
 }
 
 // A message at the front of its array.
-#[derive(Drop)]
+#[derive(Clone, Copy)]
 pub struct Message {
     pub bytes: [u8; 42],
     pub size: usize,

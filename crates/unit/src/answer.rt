@@ -6,7 +6,7 @@ use connection::answer;
 use connection::refusal::Refusal;
 use message::alert::Description;
 
-#[derive(Drop)]
+#[derive(Clone, Copy)]
 pub enum Answer {
     // no record stood in this place
     Nothing,
@@ -37,7 +37,7 @@ pub enum Answer {
 }
 
 // An answer in its place among eight.
-#[derive(Drop)]
+#[derive(Clone, Copy)]
 pub struct Slot {
     pub answer: Answer,
 }

@@ -10,7 +10,7 @@ use connection::calls::Outcome;
 use connection::refusal::Refusal;
 
 // The outcome of a call, and the unit that it leaves.
-#[derive(Drop)]
+#[derive(Clone, Copy)]
 pub struct Called {
     pub outcome: Outcome,
     pub unit: Unit,

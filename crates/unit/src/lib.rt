@@ -1,6 +1,8 @@
 // The shipboard end of the link: one connection of a ship's unit with the shore (02, P7), built to the shore's rules. Its calls
 // are fresh, hello, again, receive, send data, send alert, close and start again. No call has a `requires`: every value that a
 // caller can make is safe to pass in.
+#![tactic(auto)]
+
 pub mod agree;
 pub mod answer;
 pub mod calls;

@@ -11,7 +11,7 @@ use connection::receive::Taken;
 use connection::refusal::Refusal;
 use record::datagram::{Outcome, Walk, walked};
 
-#[derive(Drop)]
+#[derive(Clone, Copy)]
 pub struct Received {
     pub taken: Taken,
     // an answer for each record, and Nothing behind them

@@ -17,7 +17,7 @@ use record::protection::Wrote;
 use record::written::write_clear;
 
 // The outcome of a call that writes, how many bytes stand at the front of the output, and the unit that it leaves.
-#[derive(Drop)]
+#[derive(Clone, Copy)]
 pub struct Sent {
     pub outcome: Outcome,
     pub written: usize,

@@ -4,7 +4,7 @@ ghost use Rattle.unit.specs.State.{kind_of, rule_of, opened_rule, settled};
 
 use record::header::Content;
 
-#[derive(Drop)]
+#[derive(Clone, Copy)]
 pub enum State {
     Idle,
     // the hello is written
@@ -22,7 +22,7 @@ pub enum State {
 }
 
 // What a record is, as the table tells records apart: clear ones, and protected ones.
-#[derive(Drop)]
+#[derive(Clone, Copy)]
 pub enum Kind {
     ClearHello,
     ClearRequest,
@@ -36,7 +36,7 @@ pub enum Kind {
 }
 
 // What the table does with a record.
-#[derive(Drop)]
+#[derive(Clone, Copy)]
 pub enum Rule {
     // 7
     Ended,

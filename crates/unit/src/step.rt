@@ -7,7 +7,7 @@ use connection::refusal::Refusal;
 use record::window::Window;
 
 // Where a step leads.
-#[derive(Drop)]
+#[derive(Clone, Copy)]
 pub enum Move {
     // the state stays
     Stay,
@@ -24,7 +24,7 @@ pub enum Move {
 }
 
 // The answer to a record, the window that it leaves, and where it leads.
-#[derive(Drop)]
+#[derive(Clone, Copy)]
 pub struct Step {
     pub answer: Answer,
     pub window: Window,

@@ -13,7 +13,7 @@ use record::keys::Keys;
 use record::protection::Protection;
 use record::window::{WIDTH, Window};
 
-#[derive(Drop)]
+#[derive(Clone, Copy)]
 pub struct Unit {
     pub state: State,
     // the session's identifier

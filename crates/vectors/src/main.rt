@@ -3,6 +3,8 @@
 //
 // The published values are those of FIPS 180-1 (abc, the 448-bit message, one million a) and RFC 2202. The others
 // come from Python's hashlib and hmac, as tools/vectors prints them.
+#![tactic(auto)]
+
 mod show;
 
 use show::line;

@@ -9,14 +9,14 @@ use message::hello::Field;
 use record::header::Content;
 
 // Under which keys a protected record was judged: those of the open handshake, or those of one whose Finished has not come.
-#[derive(Drop)]
+#[derive(Clone, Copy)]
 pub enum Under {
     Open,
     Started,
 }
 
 // Places count from the datagram's front.
-#[derive(Drop)]
+#[derive(Clone, Copy)]
 pub enum Reason {
     // no refusal
     NotRefused,
@@ -120,7 +120,7 @@ pub enum Reason {
 // The reason, and what goes with every reason of a record: the state of the connection there, that of the handshake started
 // beside it (Idle where there is none), what the record is, its place, and the records that we sent, newest first. Where the
 // datagram is refused as a whole, or 16 is, the record's facts are blank.
-#[derive(Drop)]
+#[derive(Clone, Copy)]
 pub struct Why {
     pub reason: Reason,
     pub state: State,

@@ -1,4 +1,6 @@
 // The line `why EDITION DATAGRAM RANDOM INDEX` of the console: the reason in words, with its facts (02, "Why was this report dropped?").
+#![tactic(auto)]
+
 mod asked;
 mod content;
 mod facts;
