@@ -118,10 +118,10 @@ pub record Progress (session : Session) (width : ℕ) (past : List Happened) (h 
 module _ (session : Session) {width : ℕ} (past : List Happened) (h : Handshake) (p : Progress session width past h) where
   -- the keys and the expected contents of a connection that is not ended are those of the history
   pub keys_are : barred_in past ≡ false → keys_of h ≡ keys_in session past
-  keys_are l = ap₂ keys_with (p.kept.session-is l) (p.kept.agreed-is l)
+  keys_are l = ap₂ keys_with (p.kept.session-is l) (p.kept.agreed_is l)
 
   pub expected_is : barred_in past ≡ false → h.expected ≡ expected_in session past
-  expected_is l = ap (λ a. a.expected) (p.kept.agreed-is l)
+  expected_is l = ap (λ a. a.expected) (p.kept.agreed_is l)
 
   greeted_expects : (g : Greeted session past) → expected_in session past ≡ expected_of session g.ours g.hello g.plan
   greeted_expects g =

@@ -127,7 +127,7 @@ module _ (k : Keys) (expected : List ℕ) (course : Course) (h : Handshake) (a :
           ap₂ (λ b c. pick b course (pick c (pick (is_new course.width course.numbers r.number) (record { width = course.width; numbers = r.number ∷ course.numbers; shut = content_shuts r.content (content_bytes k d r) expected }) course) course)) z g
 
       right_code : (c : List ℕ) → Protected (keys_of h) d r c → Protected k d r c
-      right_code c s = subst (λ x. Protected x d r c) (a.keys-same z) s
+      right_code c s = subst (λ x. Protected x d r c) (a.keys_same z) s
 
       genuine_yes : (c : List ℕ) → Protected k d r c → genuine_bytes k d r ≡ true
       genuine_yes c s =
@@ -175,7 +175,7 @@ module _ (k : Keys) (expected : List ℕ) (course : Course) (h : Handshake) (a :
       stays_open : (c : List ℕ) (w : Window) → New h d r c w → (t : Content) → r.content ≡ t → content_shuts t c expected ≡ false
           → Along k expected (with_record k expected course d r) (with_window h w)
       stays_open c w n t ec f =
-          used c w n (with_window h w) refl (λ _. (a.is_open z, a.keys-same z, a.expected-same z))
+          used c w n (with_window h w) refl (λ _. (a.is_open z, a.keys_same z, a.expected_same z))
           (λ g. true_false (content_shuts r.content c expected) g (ap (λ y. content_shuts y c expected) ec ∙ f))
 
       closes_by : (c : List ℕ) (w : Window) → New h d r c w → (t : Content) → r.content ≡ t → content_shuts t c expected ≡ true → (x : Handshake) → x.protection.window ≡ w
@@ -184,7 +184,7 @@ module _ (k : Keys) (expected : List ℕ) (course : Course) (h : Handshake) (a :
           used c w n x ew (λ y. true_false (content_shuts r.content c expected) (ap (λ v. content_shuts v c expected) ec ∙ f) y) (λ _. g)
 
       verdict_at : (c : List ℕ) (x : Verdict) → verdictOf c h.expected ≡ x → verdictOf c expected ≡ x
-      verdict_at c x e = sym (ap (verdictOf c) (a.expected-same z)) ∙ e
+      verdict_at c x e = sym (ap (verdictOf c) (a.expected_same z)) ∙ e
 
       malformed_shuts : (c : List ℕ) (t : Content) → MalformedAs t c h.expected → content_shuts t c expected ≡ false
       malformed_shuts c C.ChangeCipherSpec m = refl
@@ -219,7 +219,7 @@ module _ (k : Keys) (expected : List ℕ) (course : Course) (h : Handshake) (a :
           forged_bytes g f true e =
               let code : genuine_by (hmac (unit_key k r.number)) (size_of k.mac) r.number r.byte (fragment_of d r) ≡ true
               = sym (ap (λ b. pick b (genuine_by (hmac (unit_key k r.number)) (size_of k.mac) r.number r.byte (fragment_of d r)) false) g.protection) ∙ e in
-              absurd (f (content_bytes k d r) (subst (λ x. Protected x d r (content_bytes k d r)) (sym (a.keys-same z)) (right_protected k d r g.protection code)))
+              absurd (f (content_bytes k d r) (subst (λ x. Protected x d r (content_bytes k d r)) (sym (a.keys_same z)) (right_protected k d r g.protection code)))
       by_row (row_old c g s e) =
           unchanged (not_new c (right_code c s) (old_is course.width a.held course.numbers r.number (window_at_lem A.TooOld e)))
       by_row (row_repeated c g s e) =
@@ -241,9 +241,9 @@ module _ (k : Keys) (expected : List ℕ) (course : Course) (h : Handshake) (a :
   -- a send changes neither
   sent_along : (protected : Bool) → Along k expected course (after_alert protected h)
   sent_along true =
-      record { is_open = a.is_open; keys_same = a.keys-same; expected_same = a.expected-same; held = a.held; window_same = a.window_same; is_ended = a.is-ended }
+      record { is_open = a.is_open; keys_same = a.keys_same; expected_same = a.expected_same; held = a.held; window_same = a.window_same; is_ended = a.is-ended }
   sent_along false =
-      record { is_open = a.is_open; keys_same = a.keys-same; expected_same = a.expected-same; held = a.held; window_same = a.window_same; is_ended = a.is-ended }
+      record { is_open = a.is_open; keys_same = a.keys_same; expected_same = a.expected_same; held = a.held; window_same = a.window_same; is_ended = a.is-ended }
 
   by_data : (bytes out : List ℕ) {s : Step} → CallRow (alone h) (send_data bytes out) s → Along k expected course s.connection.handshake
   by_data bytes out (data_16 b) = a
@@ -252,7 +252,7 @@ module _ (k : Keys) (expected : List ℕ) (course : Course) (h : Handshake) (a :
   by_data bytes out (data_15 g e n) = a
   by_data bytes out (data_6 g e n l) = a
   by_data bytes out (data_sent_lem g e n l) =
-      record { is_open = a.is_open; keys_same = a.keys-same; expected_same = a.expected-same; held = a.held; window_same = a.window_same; is_ended = a.is-ended }
+      record { is_open = a.is_open; keys_same = a.keys_same; expected_same = a.expected_same; held = a.held; window_same = a.window_same; is_ended = a.is-ended }
 
   by_alert : (protected : Bool) (level description : ℕ) (lent out : List ℕ) {s : Step} → CallRow (alone h) (send_alert protected level description lent out) s
       → Along k expected course s.connection.handshake
@@ -423,7 +423,7 @@ module _ (k : Keys) (expected : List ℕ) (course : Course) (h : Handshake) (a :
         f.c,
         record {
           not_shut = z;
-          genuine = record { in_place = at; protected_as = subst (λ x. Protected x d r f.c) (a.keys-same z) f.new.coded };
+          genuine = record { in_place = at; protected_as = subst (λ x. Protected x d r f.c) (a.keys_same z) f.new.coded };
           is_data_lem = f.is-data;
           some = f.some;
           not_before = q.1;
@@ -440,7 +440,7 @@ module _ (k : Keys) (expected : List ℕ) (course : Course) (h : Handshake) (a :
       let z = u.not-shut in
       let n : New h d r c (window_of course.width (r.number ∷ course.numbers)) = record {
         guarded = record { protection = u.genuine.protected-as.is-protected; kind = inr (a.is_open z) };
-        coded = subst (λ x. Protected x d r c) (sym (a.keys-same z)) u.genuine.protected-as;
+        coded = subst (λ x. Protected x d r c) (sym (a.keys_same z)) u.genuine.protected-as;
         arrived = arrived_of course.width (r.number ∷ course.numbers);
         accepted = ap (λ w. accept_of w r.number) (a.window_same z) ∙ due_new course.width a.held course.numbers r.number u.not-before u.recent;
       } in

@@ -108,11 +108,11 @@ module _ (session : Session) {width : ℕ} (past : List Happened) (h : Handshake
         let bar : pick (is_barred a) true (barred_in past) ≡ barred_in past = ap (λ b. pick b true (barred_in past)) nb in
         record {
           session_is = λ f. es ∙ k.session-is (sym bar ∙ f);
-          agreed_is = λ f. ea ∙ k.agreed-is (sym bar ∙ f) ∙ sym (ap (λ b. agreed_for session (pick b (greeting (fragment_of d r) random) (last_reply past))) nr);
-          hello_is = λ f. ap (λ y. take y.heard y.hello) ek ∙ k.hello-is (sym bar ∙ f) ∙ sym (ap (λ b. hello_as (pick b (greeting (fragment_of d r) random) (kept_greeting past))) nr);
-          reply_is = λ f. ap (λ y. take y.size y.reply) ek ∙ k.reply-is (sym bar ∙ f) ∙ sym (ap (λ b. reply_for session (pick b (greeting (fragment_of d r) random) (kept_greeting past))) nr);
-          protected_is = ap (λ y. y.protected) en ∙ k.protected-is ∙ sym (ap (λ b. pick b 1 (protected_next past)) nr);
-          clear_is = ap (λ y. y.clear) en ∙ k.clear-is ∙ sym (ap (λ b. pick b 2 (next_clear_number past)) nr);
+          agreed_is = λ f. ea ∙ k.agreed_is (sym bar ∙ f) ∙ sym (ap (λ b. agreed_for session (pick b (greeting (fragment_of d r) random) (last_reply past))) nr);
+          hello_is = λ f. ap (λ y. take y.heard y.hello) ek ∙ k.hello_is (sym bar ∙ f) ∙ sym (ap (λ b. hello_as (pick b (greeting (fragment_of d r) random) (kept_greeting past))) nr);
+          reply_is = λ f. ap (λ y. take y.size y.reply) ek ∙ k.reply_is (sym bar ∙ f) ∙ sym (ap (λ b. reply_for session (pick b (greeting (fragment_of d r) random) (kept_greeting past))) nr);
+          protected_is = ap (λ y. y.protected) en ∙ k.protected_is ∙ sym (ap (λ b. pick b 1 (protected_next past)) nr);
+          clear_is = ap (λ y. y.clear) en ∙ k.clear_is ∙ sym (ap (λ b. pick b 2 (next_clear_number past)) nr);
           window_is = ew;
           held = k.held;
           barred_is = λ f. (
@@ -199,8 +199,8 @@ module _ (session : Session) {width : ℕ} (past : List Happened) (h : Handshake
           agreed_is = λ f. true_false true refl f;
           hello_is = λ f. true_false true refl f;
           reply_is = λ f. true_false true refl f;
-          protected_is = k.protected-is;
-          clear_is = k.clear-is;
+          protected_is = k.protected_is;
+          clear_is = k.clear_is;
           window_is = window_marked c w n (W.Barred x) refl refl;
           held = k.held;
           barred_is = λ f. (refl, refl, refl, refl);
@@ -250,11 +250,11 @@ module _ (session : Session) {width : ℕ} (past : List Happened) (h : Handshake
   refused_more =
       record {
         session_is = k.session-is;
-        agreed_is = k.agreed-is;
-        hello_is = k.hello-is;
-        reply_is = k.reply-is;
-        protected_is = k.protected-is;
-        clear_is = k.clear-is;
+        agreed_is = k.agreed_is;
+        hello_is = k.hello_is;
+        reply_is = k.reply_is;
+        protected_is = k.protected_is;
+        clear_is = k.clear_is;
         window_is = k.window-is;
         held = k.held;
         barred_is = k.barred-is;
@@ -266,11 +266,11 @@ module _ (session : Session) {width : ℕ} (past : List Happened) (h : Handshake
   wrote_more true front =
       record {
         session_is = k.session-is;
-        agreed_is = k.agreed-is;
-        hello_is = k.hello-is;
-        reply_is = k.reply-is;
-        protected_is = ap (λ n. n + 1) k.protected-is;
-        clear_is = k.clear-is;
+        agreed_is = k.agreed_is;
+        hello_is = k.hello_is;
+        reply_is = k.reply_is;
+        protected_is = ap (λ n. n + 1) k.protected_is;
+        clear_is = k.clear_is;
         window_is = k.window-is;
         held = k.held;
         barred_is = k.barred-is;
@@ -278,11 +278,11 @@ module _ (session : Session) {width : ℕ} (past : List Happened) (h : Handshake
   wrote_more false front =
       record {
         session_is = k.session-is;
-        agreed_is = k.agreed-is;
-        hello_is = k.hello-is;
-        reply_is = k.reply-is;
-        protected_is = k.protected-is;
-        clear_is = ap (λ n. n + 1) k.clear-is;
+        agreed_is = k.agreed_is;
+        hello_is = k.hello_is;
+        reply_is = k.reply_is;
+        protected_is = k.protected_is;
+        clear_is = ap (λ n. n + 1) k.clear_is;
         window_is = k.window-is;
         held = k.held;
         barred_is = k.barred-is;
@@ -293,11 +293,11 @@ module _ (session : Session) {width : ℕ} (past : List Happened) (h : Handshake
   closed_more l =
       record {
         session_is = k.session-is;
-        agreed_is = k.agreed-is;
-        hello_is = k.hello-is;
-        reply_is = k.reply-is;
-        protected_is = k.protected-is;
-        clear_is = k.clear-is;
+        agreed_is = k.agreed_is;
+        hello_is = k.hello_is;
+        reply_is = k.reply_is;
+        protected_is = k.protected_is;
+        clear_is = k.clear_is;
         window_is = k.window-is;
         held = k.held;
         barred_is = λ f. true_false (barred_in past) f l;
@@ -308,11 +308,11 @@ module _ (session : Session) {width : ℕ} (past : List Happened) (h : Handshake
   started_more l =
       record {
         session_is = k.session-is;
-        agreed_is = k.agreed-is;
+        agreed_is = k.agreed_is;
         hello_is = λ f. refl;
         reply_is = λ f. refl;
-        protected_is = k.protected-is;
-        clear_is = k.clear-is;
+        protected_is = k.protected_is;
+        clear_is = k.clear_is;
         window_is = ap emptied k.window-is ∙ fresh_means width;
         held = k.held;
         barred_is = λ f. true_false (barred_in past) f l;

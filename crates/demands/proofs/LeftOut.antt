@@ -210,7 +210,7 @@ handed_none : (d : List ℕ) (slots : List Slot) → SlotsSilent slots → hande
 unfolding handed_parts SlotsSilent
 handed_none d [] s = refl
 handed_none d (x ∷ slots) s =
-    ap (λ b. pick b (handed_of d x.answer ∷ handed_parts d slots) (handed_parts d slots)) s.0.no-data ∙ handed_none d slots s.1
+    ap (λ b. pick b (handed_of d x.answer ∷ handed_parts d slots) (handed_parts d slots)) s.0.no_data ∙ handed_none d slots s.1
 
 silent_at : (slots : List Slot) (n : ℕ) → SlotsSilent slots → Silent (get_or slots n (slot W.Nothing)).answer
 unfolding SlotsSilent
@@ -470,7 +470,7 @@ module _ (k : Keys) (c e : Connection) (same : SameOpen c e) (random d : List �
 -- ---- record by record
 
 handed_of_lem : (d : List ℕ) (a : Answer) → Silent a → pick (is_data a) (handed_of d a ∷ []) [] ≡ []
-handed_of_lem d a s = ap (λ b. pick b (handed_of d a ∷ []) []) s.no-data
+handed_of_lem d a s = ap (λ b. pick b (handed_of d a ∷ []) []) s.no_data
 
 handed_alike : (d : List ℕ) (a b : Answer) → Alike a b → pick (is_data a) (handed_of d a ∷ []) [] ≡ pick (is_data b) (handed_of d b ∷ []) []
 unfolding Alike

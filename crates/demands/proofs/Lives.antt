@@ -633,10 +633,10 @@ record SoundLives (l : Lives) : Type 0 where
 
 module _ (l : Lives) (s : SoundLives l) where
   own_of : (e : Event) → Sound e → SoundLives (record { own = more l.own e; beside = l.beside })
-  own_of e x = record { own_sound = sound_more l.own e s.own-sound x; beside_sound = s.beside-sound }
+  own_of e x = record { own_sound = sound_more l.own e s.own_sound x; beside_sound = s.beside_sound }
 
   own_alone : (e : Event) → Sound e → SoundLives (record { own = more l.own e; beside = [] })
-  own_alone e x = record { own_sound = sound_more l.own e s.own-sound x; beside_sound = tt }
+  own_alone e x = record { own_sound = sound_more l.own e s.own_sound x; beside_sound = tt }
 
   open_sound : (e : Event) → Sound e → (z : State) → SoundLives (open_lives l e z)
   open_sound e x S.Idle = own_alone e x
@@ -647,18 +647,18 @@ module _ (l : Lives) (s : SoundLives l) where
   open_sound e x S.Barred = own_alone e x
 
   beside_of_lem : (e : Event) → Sound e → SoundLives (record { own = l.own; beside = more l.beside e })
-  beside_of_lem e x = record { own_sound = s.own-sound; beside_sound = sound_more l.beside e s.beside-sound x }
+  beside_of_lem e x = record { own_sound = s.own_sound; beside_sound = sound_more l.beside e s.beside_sound x }
 
   started_sound : (e : Event) → Sound e → (z : State) → SoundLives (started_lives l e z)
   started_sound e x S.Idle = beside_of_lem e x
   started_sound e x S.Replied = beside_of_lem e x
   started_sound e x S.Spec = beside_of_lem e x
-  started_sound e x S.Open = record { own_sound = sound_more l.beside e s.beside-sound x; beside_sound = tt }
-  started_sound e x S.Closed = record { own_sound = s.own-sound; beside_sound = tt }
-  started_sound e x S.Barred = record { own_sound = s.own-sound; beside_sound = tt }
+  started_sound e x S.Open = record { own_sound = sound_more l.beside e s.beside_sound x; beside_sound = tt }
+  started_sound e x S.Closed = record { own_sound = s.own_sound; beside_sound = tt }
+  started_sound e x S.Barred = record { own_sound = s.own_sound; beside_sound = tt }
 
   new_sound : (e : Event) → Sound e → (b : Bool) → SoundLives (new_lives l e b)
-  new_sound e x true = record { own_sound = s.own-sound; beside_sound = (x, tt) }
+  new_sound e x true = record { own_sound = s.own_sound; beside_sound = (x, tt) }
   new_sound e x false = s
 
   told_sound : (e : Event) → Sound e → (w : Whom) (z : State) → SoundLives (told_lives l e w z)
@@ -675,7 +675,7 @@ module _ (l : Lives) (s : SoundLives l) where
   clear_sound e x S.Idle = own_of e x
   clear_sound e x S.Replied = own_of e x
   clear_sound e x S.Spec = own_of e x
-  clear_sound e x S.Open = record { own_sound = s.own-sound; beside_sound = more_sound l.beside e s.beside-sound x }
+  clear_sound e x S.Open = record { own_sound = s.own_sound; beside_sound = more_sound l.beside e s.beside_sound x }
   clear_sound e x S.Closed = own_of e x
   clear_sound e x S.Barred = own_of e x
 
@@ -696,7 +696,7 @@ pub lives_sound_at : (id secret : List ℕ) (width : ℕ) (acts : List Act) → 
     → AllSound (lives_of (fresh_one id secret width) no_lives acts).own × AllSound (lives_of (fresh_one id secret width) no_lives acts).beside
 lives_sound_at id secret width acts x =
     let s : SoundLives (lives_of (fresh_one id secret width) no_lives acts) = acts_sound acts no_lives (fresh_one id secret width) (record { own_sound = tt; beside_sound = tt }) x in
-    (s.own-sound, s.beside-sound)
+    (s.own_sound, s.beside_sound)
 
 pub lives_sound : LivesSound
 unfolding LivesSound

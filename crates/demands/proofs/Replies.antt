@@ -64,7 +64,7 @@ module _ (session : Session) {width : ℕ} (past : List Happened) (h : Handshake
 
   resent : ended h.state ≡ false → Sent (judged (W.Resent (length (kept_reply h))) h)
   resent e =
-      let kept : kept_reply h ≡ reply_for session (kept_greeting past) = k.reply-is (live session past h k e) in
+      let kept : kept_reply h ≡ reply_for session (kept_greeting past) = k.reply_is (live session past h k e) in
       (reply_for session (kept_greeting past), (refl, ap length (sym kept)), take_taken h.kept.size h.kept.reply ∙ kept)
 
   by_row : {j : Judged} → Row h sent random d r j → Sent j

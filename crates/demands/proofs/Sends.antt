@@ -103,13 +103,13 @@ module _ (session : Session) {width : ℕ} (past : List Happened) (h : Handshake
   protected_by_lem content body n l =
       let e : keys_of h ≡ keys_in session past = keys_are session past h p (live session past h p.kept l) in
       subst (λ k. ProtectedRecord k content (protected_next past) body (next_protected h content body)) e
-      (subst (λ s. ProtectedRecord (keys_of h) content s body (next_protected h content body)) p.kept.protected-is
+      (subst (λ s. ProtectedRecord (keys_of h) content s body (next_protected h content body)) p.kept.protected_is
       (protected_record (keys_of h) content h.protection.protected body n))
 
   clear_by : (body : List ℕ) → 1 ≤ length body → h.protection.clear ≤ 65535 → ClearRecord (next_clear_number past) body (next_clear h body)
   unfolding next_clear
   clear_by body some n =
-      subst (λ s. ClearRecord s body (next_clear h body)) p.kept.clear-is (clear_record h.protection.clear body some n)
+      subst (λ s. ClearRecord s body (next_clear h body)) p.kept.clear_is (clear_record h.protection.clear body some n)
 
   alert_bytes_lem : (protected : Bool) (l : Level) (k : Description) (lent : List ℕ) → may_alert protected h.state ≡ true → number_for protected h ≤ 65535
       → AlertRecord protected (keys_in session past) past (alert_body l k lent) (next_alert protected h (alert_body l k lent))
@@ -139,7 +139,7 @@ module _ (session : Session) {width : ℕ} (past : List Happened) (c : Connectio
   alert_by_lem protected p level description l k lent out el ek (alert_15 g e n) x = refused_done X.Spent x
   alert_by_lem protected p level description l k lent out el ek (alert_6 g e n m) x = refused_done X.Room x
   alert_by_lem protected p level description l k lent out el ek (alert_sent_lem {l = v} {k = m} g e n q) x =
-      let ev : v ≡ l = one_level l v (level_of level) el g.level-is in
+      let ev : v ≡ l = one_level l v (level_of level) el g.level_is in
       let em : m ≡ k = one_description k m (sorted_of description) ek g.description-is in
       let bytes : List ℕ = next_alert protected (sender_of protected c) (alert_body v m lent) in
       subst (AlertRecord protected (keys_in session past) past (alert_body l k lent)) (sym (laid_front out bytes))

@@ -154,7 +154,7 @@ absorbed_more g n h m s z a =
     let left : length q ≡ (h.count + length s) % 2 ^ 64 % 64
     = length-drop (64 * blocks_of p) p ∙ bytes_left (length m) (length s) (length p) n h.count size z a.counts in
     record {
-      state_is = ap₂ (λ x k. absorb x (blocks_of x) k) p-is a.state-is ∙ sym (absorb_cut m s g);
+      state_is = ap₂ (λ x k. absorb x (blocks_of x) k) p-is a.state_is ∙ sym (absorb_cut m s g);
       waits =
           take_at q (drop (0 + length q) h.rest) ((h.count + length s) % 2 ^ 64 % 64) left
           ∙ ap (drop (64 * blocks_of p)) (p-is ∙ sym (drop-append-le (64 * blocks_of m) m s inside))
@@ -222,7 +222,7 @@ finished_from g n h m z a =
     let pad : padding h.count ≡ padding (n + length m)
     = ap₂ (λ x y. (128 ∷ replicate ((119 - x) % 64) 0) ++ bytes8 y) fill_is bits_are in
     ap spelled
-    (ap₂ (λ x k. absorb x (blocks_of x) k) (ap₂ (λ x y. x ++ y) a.waits pad) a.state-is
+    (ap₂ (λ x k. absorb x (blocks_of x) k) (ap₂ (λ x y. x ++ y) a.waits pad) a.state_is
     ∙ sym (absorb_cut m (padding (n + length m)) g))
 
 pub finished_means : (h : Hasher) (m : List ℕ) → Absorbed h m → finished h ≡ sha1 m

@@ -188,5 +188,5 @@ round_more m v t x h g r l p word e =
           ∙ ap (λ y. get_or (schedule m 64) y 0) (sym same))
           (λ c. get_or-set_other v (t % 16) (i % 16) x 0 (λ q. omega arith) ∙ p.words_are i (omega arith) (omega arith));
       state_is =
-          e ∙ ap₂ (round t) word p.state-is ∙ sym (ap (λ n. rounds (schedule m 64) n h) (add-one t));
+          e ∙ ap₂ (round t) word p.state_is ∙ sym (ap (λ n. rounds (schedule m 64) n h) (add-one t));
     }

@@ -277,7 +277,7 @@ module _ (c : Connection) (level description : ℕ) (answered out : List ℕ) wh
   alert_by_lem (alert_15 g x n) e = alert_refused_lem X.Spent (ap (λ (s : Step). outcome_in s.result) e) (ap (λ (s : Step). s.connection) e)
   alert_by_lem (alert_6 g x n l) e = alert_refused_lem X.Room (ap (λ (s : Step). outcome_in s.result) e) (ap (λ (s : Step). s.connection) e)
   alert_by_lem (alert_sent_lem {l = v} {k = m} g x n l) e =
-      alert_done v m g.level-is n (ap (λ (s : Step). outcome_in s.result) e)
+      alert_done v m g.level_is n (ap (λ (s : Step). outcome_in s.result) e)
       (ap₂ take (ap (λ (s : Step). written_in s.result) e) (ap (λ (s : Step). s.output) e) ∙ laid_front out (next_protected c.handshake C.Alert (alert_body v m answered)))
       (ap (λ (s : Step). s.connection) e)
 

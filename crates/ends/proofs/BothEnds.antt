@@ -186,11 +186,11 @@ module _ (k : Keys) (ashore_expected aboard-expected : List ℕ) (unit_first sho
     shore_next_is : (content : Content) (body : List ℕ)
         → AshoreSends.next_protected e.shore.handshake content body ≡ record_under k FromShore content e.shore.handshake.protection.protected body
     unfolding AshoreSends.next_protected
-    shore_next_is content body = ap (λ x. record_under x FromShore content e.shore.handshake.protection.protected body) (along.keys-same h.not-shut)
+    shore_next_is content body = ap (λ x. record_under x FromShore content e.shore.handshake.protection.protected body) (along.keys_same h.not-shut)
 
     unit_next_is : (content : Content) (body : List ℕ)
         → next_record e.unit.protection FromUnit content body ≡ record_under k FromUnit content e.unit.protection.protected body
-    unit_next_is content body = ap (λ x. record_under x FromUnit content e.unit.protection.protected body) (along'.keys-same h'.not-shut)
+    unit_next_is content body = ap (λ x. record_under x FromUnit content e.unit.protection.protected body) (along'.keys_same h'.not-shut)
 
     -- ---- the shore sends data
 
@@ -486,10 +486,10 @@ module _ (k : Keys) (ashore_expected aboard-expected : List ℕ) (unit_first sho
       let s = step e a a' z z' b b' n n' q q' h h' along along' un sn (trace_of FromUnit (done_by e doing) doings) (trace_of FromShore (done_by e doing) doings) doing
       keep.0 none.0 l l' in
       let more = run doings (done_by e doing) s.on.written' s.on'.written' s.on.seen' s.on'.seen' s.on.sent' s.on'.sent' s.next s.next'
-      s.course s.course' s.on.holds s.on'.holds s.along-shore s.along-unit s.unit-number s.shore-number keep.1 none.1 s.on.linked s.on'.linked in
+      s.course s.course' s.on.holds s.on'.holds s.along_shore s.along_unit s.unit-number s.shore-number keep.1 none.1 s.on.linked s.on'.linked in
       record {
-        to_shore = s.on.runs more.to-shore;
-        to_ship = s.on'.runs more.to-ship;
+        to_shore = s.on.runs more.to_shore;
+        to_ship = s.on'.runs more.to_ship;
         stay_open = (along.is_open h.not-shut, along'.is_up h'.not-shut, more.stay-open);
       }
 
@@ -498,13 +498,13 @@ module _ (k : Keys) (ashore_expected aboard-expected : List ℕ) (unit_first sho
 quiet_fine : (k : Keys) (sense : Sense) (expected : List ℕ) (next : ℕ) (d : List ℕ) (r : Record) (c : List ℕ) → Quiet next r c
     → Fine k sense expected [] next d r c
 quiet_fine k sense expected next d r c q =
-    record { numbered = q.numbered; harmless = by r.content refl; data_sent_lem = λ e. absurd (q.no-data e) }
+    record { numbered = q.numbered; harmless = by r.content refl; data_sent_lem = λ e. absurd (q.no_data e) }
   where
     by : (x : Content) → r.content ≡ x → (content_shuts r.content c expected ≡ false) ⊎ (r.number ≡ 0)
     by C.ChangeCipherSpec e = inl (ap (λ y. content_shuts y c expected) e)
     by C.Alert e = inl (ap (λ y. content_shuts y c expected) e ∙ q.no-closing e)
     by C.Handshake e = inr (q.finished e)
-    by C.Data e = absurd (q.no-data e)
+    by C.Data e = absurd (q.no_data e)
 
 begun_holds : (k : Keys) (sense : Sense) (expected : List ℕ) (before : List (List ℕ)) (next width : ℕ) (numbers : List ℕ) → Held width → Begun k sense before next numbers
     → Holds k sense expected next width before [] next [] (record { width = width; numbers = numbers; shut = false })
@@ -544,13 +544,13 @@ module _ (k : Keys) (e : Ends) (by_unit by_shore : List (List ℕ)) (doings : Li
   along_shore : Along k ashore_expected shore_course e.shore.handshake
   unfolding ashore_expected course_of behind Unreplaced
   along_shore =
-      subst (λ (c : Connection). Along k ashore_expected shore_course c.handshake) (sym j.shore-is)
-      (subst (λ x. Along x ashore_expected shore_course (behind (Shore.fresh_one j.id j.secret j.width) j.acts).handshake) j.keys-ashore
+      subst (λ (c : Connection). Along k ashore_expected shore_course c.handshake) (sym j.shore_is)
+      (subst (λ x. Along x ashore_expected shore_course (behind (Shore.fresh_one j.id j.secret j.width) j.acts).handshake) j.keys_ashore
       (along_run j.id j.secret j.width j.held j.acts j.sound j.is_open [] tt tt))
 
   along_unit : ShipHanded.Along k e.unit.expected unit_course e.unit
   along_unit =
-      subst (λ x. ShipHanded.Along x e.unit.expected unit_course e.unit) j.keys-aboard (ShipAlong.along-start e.unit j.numbers j.is_up j.holds)
+      subst (λ x. ShipHanded.Along x e.unit.expected unit_course e.unit) j.keys_aboard (ShipAlong.along-start e.unit j.numbers j.is_up j.holds)
 
   abbrev unit_first : ℕ
   unit_first = e.unit.protection.protected
@@ -562,10 +562,10 @@ module _ (k : Keys) (e : Ends) (by_unit by_shore : List (List ℕ)) (doings : Li
   unit_width = e.unit.protection.window.width
 
   to_shore : Holds k FromUnit ashore_expected unit_first j.width by_unit [] unit_first [] shore_course
-  to_shore = begun_holds k FromUnit ashore_expected by_unit unit_first j.width (accepted_in (past_of j.id j.secret j.width j.acts)) j.held j.from-unit
+  to_shore = begun_holds k FromUnit ashore_expected by_unit unit_first j.width (accepted_in (past_of j.id j.secret j.width j.acts)) j.held j.from_unit_lem
 
   to_ship : Holds k FromShore e.unit.expected shore_first unit_width by_shore [] shore_first [] unit_course
-  to_ship = begun_holds k FromShore e.unit.expected by_shore shore_first unit_width j.numbers j.holds.held j.from-shore
+  to_ship = begun_holds k FromShore e.unit.expected by_shore shore_first unit_width j.numbers j.holds.held j.from_shore_lem
 
   ran : Ran k ashore_expected e.unit.expected unit_first shore_first j.width unit_width e by_unit by_shore [] [] unit_first shore_first shore_course unit_course doings
   ran =
@@ -574,8 +574,8 @@ module _ (k : Keys) (e : Ends) (by_unit by_shore : List (List ℕ)) (doings : Li
 
   pub reported : Reported k e j.width doings
   reported =
-      let s = delivered k FromUnit ashore_expected unit_first j.width ran.to-shore [] to_shore [] (λ n a. none_accepted n a) in
-      let u = delivered k FromShore e.unit.expected shore_first unit_width ran.to-ship [] to_ship [] (λ n a. none_accepted n a) in
+      let s = delivered k FromUnit ashore_expected unit_first j.width ran.to_shore [] to_shore [] (λ n a. none_accepted n a) in
+      let u = delivered k FromShore e.unit.expected shore_first unit_width ran.to_ship [] to_ship [] (λ n a. none_accepted n a) in
       record {
         to_shore = record { within = s.0; once = s.1; exactly = s.2 };
         to_ship = record { within = u.0; once = u.1; exactly = u.2 };

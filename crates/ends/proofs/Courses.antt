@@ -265,7 +265,7 @@ module _ (k : Keys) (sense : Sense) (expected : List ℕ) where
           fine_more d (inl i) r c g = fine_here d i r c (subst (λ x. GenuineFor k sense x r c) i g)
           fine_more d (inr i) r c g =
               let f = h.fine d i r c g in
-              record { numbered = let q = f.numbered in omega arith; harmless = f.harmless; data_sent_lem = λ z. inr (f.data-sent z) }
+              record { numbered = let q = f.numbered in omega arith; harmless = f.harmless; data_sent_lem = λ z. inr (f.data_sent_lem z) }
 
           singles_more : (x : Report) → Sent x (report ∷ sent) → Single x × (first ≤ x.number) × (x.number < next + 1)
           singles_more x (inl i) =
@@ -327,7 +327,7 @@ module _ (k : Keys) (sense : Sense) (expected : List ℕ) where
           fine_more d (inl i) r c g = fine_here d r c (subst (λ x. GenuineFor k sense x r c) i g)
           fine_more d (inr i) r c g =
               let f = h.fine d i r c g in
-              record { numbered = let q = f.numbered in omega arith; harmless = f.harmless; data_sent_lem = f.data-sent }
+              record { numbered = let q = f.numbered in omega arith; harmless = f.harmless; data_sent_lem = f.data_sent_lem }
 
           unique_more : (x : Report) → Sent x sent → (d : List ℕ) → In d (new ∷ written) → (r : Record) (c : List ℕ)
               → GenuineFor k sense d r c → r.number ≡ x.number → d ≡ x.datagram

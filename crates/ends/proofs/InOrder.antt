@@ -542,8 +542,8 @@ module _ (s : Setting) (ls : ListedSetting s) where
         reply_written = reply_written r.for-reply lr.reply-room;
         opens = opens r.for-flight lr.flight-room;
         flight_written = flight_written r.for-flight lr.flight-room;
-        opens_ashore = opens_ashore r.random r.for-none lr.random-size lr.none-room;
-        nothing_written = nothing_written r.random r.for-none lr.random-size lr.none-room;
+        opens_ashore = opens_ashore r.random r.for-none lr.random_size lr.none-room;
+        nothing_written = nothing_written r.random r.for-none lr.random_size lr.none-room;
         reports = λ turns l a b.
             all_handed s.unit-width s.shore-width ls.unit-held ls.shore-held turns (ends_of u₂ c₂) together l
             (omega (arith, next_aboard, a)) (omega (arith, next_ashore, b));

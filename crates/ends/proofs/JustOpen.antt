@@ -264,7 +264,7 @@ module _ (s : Setting) (ls : ListedSetting s) where
       sym (along.window_same refl) ∙ ap (λ (c : Connection). c.handshake.protection.window) (sym shore_is) ∙ P.shore_window s ls
 
   keys_are : keys_in (session_of s.id s.secret) (past_of s.id s.secret s.shore-width run) ≡ kk
-  keys_are = sym (along.keys-same refl) ∙ ap (λ (c : Connection). keys_of c.handshake) (sym shore_is) ∙ sym tog.same_keys ∙ P.unit_keys s ls
+  keys_are = sym (along.keys_same refl) ∙ ap (λ (c : Connection). keys_of c.handshake) (sym shore_is) ∙ sym tog.same_keys ∙ P.unit_keys s ls
 
   holds : HoldsNumbers (P.u₂ s ls) (0 ∷ [])
   holds =

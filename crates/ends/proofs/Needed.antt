@@ -229,25 +229,25 @@ module _ (s : Setting) (ls : ListedSetting s) where
   unfolding trace_of Within
   used_before bytes random out b o within =
       (subst (λ x. AllSentAs [] (unit_data keys_used 1 bytes) x)
-      (data_out_lem keys_used c₂ opened keyed sw ls.shore-held (0 ∷ []) (P.shore_window s ls) 1 few_1 low bytes b.some b.most random out o.random-size o.room)
+      (data_out_lem keys_used c₂ opened keyed sw ls.shore-held (0 ∷ []) (P.shore_window s ls) 1 few_1 low bytes b.some b.most random out o.random_size o.room)
       within.0).0
 
   on_its_way : (random out : List ℕ) → ListedRoom random out → StayOpen (J.e s ls) (comes (critical_alert keys_used 1) random out ∷ []) → ⊥
   unfolding Shore.step_of
   on_its_way random out o stays =
-      let closed = shuts keys_used c₂ opened keyed sw ls.shore-held (0 ∷ []) (P.shore_window s ls) 1 few_1 low random out o.random-size o.room in
+      let closed = shuts keys_used c₂ opened keyed sw ls.shore-held (0 ∷ []) (P.shore_window s ls) 1 few_1 low random out o.random_size o.room in
       let z : S.Closed ≡ S.Open = sym closed ∙ stays.2.0 in
       let y : ◌≡◌ {A = ℕ} 0 1 = cc in
       omega arith
 
   module _ (first later random out : List ℕ) (b : ListedData first) (f : ListedData later) (o : ListedRoom random out) where
     behind_it : Connection
-    behind_it = left keys_used c₂ opened keyed sw ls.shore-held (0 ∷ []) (P.shore_window s ls) (1 + sw) few_far low_far later f.some f.most random out o.random-size o.room
+    behind_it = left keys_used c₂ opened keyed sw ls.shore-held (0 ∷ []) (P.shore_window s ls) (1 + sw) few_far low_far later f.some f.most random out o.random_size o.room
 
     late_leaves : (Ashore.received_of c₂ (unit_data keys_used (1 + sw) later) random (length out)).connection ≡ behind_it
     unfolding behind_it
     late_leaves =
-        data_leaves keys_used c₂ opened keyed sw ls.shore-held (0 ∷ []) (P.shore_window s ls) (1 + sw) few_far low_far later f.some f.most random out o.random-size o.room
+        data_leaves keys_used c₂ opened keyed sw ls.shore-held (0 ∷ []) (P.shore_window s ls) (1 + sw) few_far low_far later f.some f.most random out o.random_size o.room
 
     late_open : behind_it.handshake.state ≡ S.Open
     unfolding behind_it left
@@ -263,7 +263,7 @@ module _ (s : Setting) (ls : ListedSetting s) where
 
     late_out : out_ashore (unit_data keys_used 1 first) (Ashore.received_of behind_it (unit_data keys_used 1 first) random (length out)).answers ≡ []
     late_out =
-        old_out keys_used behind_it late_open late_keyed sw ls.shore-held ((1 + sw) ∷ 0 ∷ []) late_window 1 few_1 far first b.most random out o.random-size o.room
+        old_out keys_used behind_it late_open late_keyed sw ls.shore-held ((1 + sw) ∷ 0 ∷ []) late_window 1 few_1 far first b.most random out o.random_size o.room
 
     too_late : trace_of FromUnit (done_by (J.e s ls) (comes (unit_data keys_used (1 + sw) later) random out)) (comes (unit_data keys_used 1 first) random out ∷ [])
         ≡ takes (unit_data keys_used 1 first) [] ∷ []
@@ -318,8 +318,8 @@ module _ (s : Setting) (ls : ListedSetting s) where
     a_run =
         record {
           just_open = J.just_open s ls;
-          calls = (tt, ((o.random-size, o.room), ((o.random-size, o.room), tt)));
-          none_beside = (tt, (unreplaced _ x random space q o.random-size o.room x_framed refl, (unreplaced _ x random space q o.random-size o.room x_framed refl, tt)));
+          calls = (tt, ((o.random_size, o.room), ((o.random_size, o.room), tt)));
+          none_beside = (tt, (unreplaced _ x random space q o.random_size o.room x_framed refl, (unreplaced _ x random space q o.random_size o.room x_framed refl, tt)));
           link_to_shore = linked;
           link_to_ship = silent;
         }

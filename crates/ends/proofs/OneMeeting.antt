@@ -25,7 +25,7 @@ same_laid out a b size same = sym (laid_front out a) ∙ ap₂ take size same �
 
 module _ (s : Setting) (r : Rooms) (m p : Met s r) where
   planted_same : m.u₀ ≡ p.u₀
-  planted_same = ap (λ (x : CalledAboard). x.unit) (sym m.planted-aboard ∙ p.planted-aboard)
+  planted_same = ap (λ (x : CalledAboard). x.unit) (sym m.planted_aboard ∙ p.planted_aboard)
 
   ashore_same : m.c₀ ≡ p.c₀
   ashore_same = ap (λ (x : CalledAshore). x.connection) (sym m.planted-ashore ∙ p.planted-ashore)
@@ -38,7 +38,7 @@ module _ (s : Setting) (r : Rooms) (m p : Met s r) where
   pub same_hello : m.hello ≡ p.hello
   same_hello =
       same_laid r.for-hello m.hello p.hello (ap (λ (x : SentAboard). x.written) greeted)
-      (sym m.hello-written ∙ ap (λ u. hello_output u s.client s.kinds s.refresh r.for-hello) planted_same ∙ p.hello-written)
+      (sym m.hello_written ∙ ap (λ u. hello_output u s.client s.kinds s.refresh r.for-hello) planted_same ∙ p.hello_written)
 
   greeted_same : m.u₁ ≡ p.u₁
   greeted_same = ap (λ (x : SentAboard). x.unit) greeted
@@ -50,7 +50,7 @@ module _ (s : Setting) (r : Rooms) (m p : Met s r) where
   pub same_reply : m.reply ≡ p.reply
   same_reply =
       same_laid r.for-reply m.reply p.reply (ap (λ (x : ReceivedAshore). x.written) (sym m.replies ∙ replied ∙ p.replies))
-      (sym m.reply-written ∙ ap₂ (λ c x. Ashore.output_of c x s.server r.for-reply) ashore_same same_hello ∙ p.reply-written)
+      (sym m.reply_written ∙ ap₂ (λ c x. Ashore.output_of c x s.server r.for-reply) ashore_same same_hello ∙ p.reply_written)
 
   replied_same : m.c₁ ≡ p.c₁
   replied_same = ap (λ (x : ReceivedAshore). x.connection) (sym m.replies ∙ replied ∙ p.replies)
@@ -62,7 +62,7 @@ module _ (s : Setting) (r : Rooms) (m p : Met s r) where
   pub same_flight : m.flight ≡ p.flight
   same_flight =
       same_laid r.for-flight m.flight p.flight (ap (λ (x : ReceivedAboard). x.written) (sym m.opens ∙ opened ∙ p.opens))
-      (sym m.flight-written ∙ ap₂ (λ u x. Aboard.output_of u x r.for-flight) greeted_same same_reply ∙ p.flight-written)
+      (sym m.flight_written ∙ ap₂ (λ u x. Aboard.output_of u x r.for-flight) greeted_same same_reply ∙ p.flight_written)
 
   -- both open
   pub same_unit : m.u₂ ≡ p.u₂

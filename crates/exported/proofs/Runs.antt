@@ -468,7 +468,7 @@ module _ (state tally : List ℕ) where
       let p = picked (lent_for state (length tally) (length answers)) (R.receive d random out) (taken_result r.written r.taken)
       (where_taken r.taken (saved_of r.connection) state) (where_taken r.taken (tally_bytes (counted_of (tally_in tally) r.answers)) tally)
       (output_of (connection_in state) d random out) (where_taken r.taken (report_of r.answers) answers) out answers none in
-      record { result = p.result-is; state_same = p.state-is; tally_same = p.tally-is; out_same = p.out-is; answers_same = p.answers-is }
+      record { result = p.result_is; state_same = p.state_is; tally_same = p.tally_is; out_same = p.out_is; answers_same = p.answers_is }
 
   data_16_first : (bytes out : List ℕ) → calls_in state tally (send_data bytes out) ≡ [] → Refused16 state tally (send_data bytes out)
   unfolding data_result data_state data_out
@@ -476,7 +476,7 @@ module _ (state tally : List ℕ) where
       let s = data_sent (connection_in state) bytes (length out) in
       let p = picked (is_saved state) (R.send_data bytes out) (result_of (refusal_in s.outcome) s.written 0) (left_in state s.connection s.outcome) tally
       (data_output (connection_in state) bytes out) [] out [] none in
-      record { result = p.result-is; state_same = p.state-is; tally_same = refl; out_same = p.out-is; answers_same = refl }
+      record { result = p.result_is; state_same = p.state_is; tally_same = refl; out_same = p.out_is; answers_same = refl }
 
   called_16_first : (of : Connection → Called) (call : Call) → pick (is_saved state) (call ∷ []) [] ≡ []
       → (pick (is_saved state) (result_of (refusal_in (of (connection_in state)).outcome) 0 0) not_taken ≡ not_taken)
@@ -484,7 +484,7 @@ module _ (state tally : List ℕ) where
   called_16_first of call none =
       let p = picked (is_saved state) call (result_of (refusal_in (of (connection_in state)).outcome) 0 0)
       (left_in state (of (connection_in state)).connection (of (connection_in state)).outcome) tally [] [] [] [] none in
-      (p.result-is, p.state-is)
+      (p.result_is, p.state_is)
 
   close_16_first : calls_in state tally close ≡ [] → Refused16 state tally close
   unfolding close_result close_state

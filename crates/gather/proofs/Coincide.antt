@@ -5,34 +5,41 @@ use mathlib.Core.Path.{◌≡◌, refl, sym, ◌∙◌, ap}
 use Rattle.digest.specs.Determined.{OneOutcome, OneOutcomeBy}
 use Rattle.gather.specs.Gatherer.{Left}
 use Rattle.gather.proofs.refusal.refusal_number as refusal-refusal-number
+use Rattle.gather.specs.contracts.refusal.refusal_number as refusal-refusal-number-contract
 use Rattle.gather.proofs.header.read as header_read
+use Rattle.gather.specs.contracts.header.read as header_read-contract
 use Rattle.gather.proofs.gatherer.Gatherer.fresh as gatherer-gatherer-fresh
+use Rattle.gather.specs.contracts.gatherer.Gatherer.fresh as gatherer-gatherer-fresh-contract
 use Rattle.gather.proofs.gatherer.Gatherer.drop as gatherer-gatherer-drop
+use Rattle.gather.specs.contracts.gatherer.Gatherer.drop as gatherer-gatherer-drop-contract
 use Rattle.gather.proofs.gatherer.Gatherer.step as gatherer-gatherer-step
+use Rattle.gather.specs.contracts.gatherer.Gatherer.step as gatherer-gatherer-step-contract
 use Rattle.gather.proofs.gatherer.datagram as gatherer-datagram
+use Rattle.gather.specs.contracts.gatherer.datagram as gatherer-datagram-contract
 use Rattle.gather.proofs.slot.held_places as slot-held-places
+use Rattle.gather.specs.contracts.slot.held_places as slot-held-places-contract
 
-pub refusal_refusal_number_one : OneOutcome refusal-refusal-number.ended refusal-refusal-number.Reads.Learnt
+pub refusal_refusal_number_one : OneOutcome refusal-refusal-number-contract.ended refusal-refusal-number.Reads.Learnt
 refusal_refusal_number_one κs a x y s u e f = (e ∙ sym f, refl)
 
-pub header_read_one : OneOutcome header_read.ended header_read.Reads.Learnt
+pub header_read_one : OneOutcome header_read-contract.ended header_read.Reads.Learnt
 header_read_one κs a x y s u e f = (e ∙ sym f, refl)
 
-pub gatherer_gatherer_fresh_one : OneOutcome gatherer-gatherer-fresh.ended gatherer-gatherer-fresh.Reads.Learnt
+pub gatherer_gatherer_fresh_one : OneOutcome gatherer-gatherer-fresh-contract.ended gatherer-gatherer-fresh.Reads.Learnt
 gatherer_gatherer_fresh_one κs a x y s u e f = (e ∙ sym f, refl)
 
-pub gatherer_gatherer_drop_one : OneOutcome gatherer-gatherer-drop.ended gatherer-gatherer-drop.Reads.Learnt
+pub gatherer_gatherer_drop_one : OneOutcome gatherer-gatherer-drop-contract.ended gatherer-gatherer-drop.Reads.Learnt
 gatherer_gatherer_drop_one κs a x y s u e f = (e ∙ sym f, refl)
 
-pub gatherer_gatherer_step_one : OneOutcome gatherer-gatherer-step.ended gatherer-gatherer-step.Reads.Learnt
+pub gatherer_gatherer_step_one : OneOutcome gatherer-gatherer-step-contract.ended gatherer-gatherer-step.Reads.Learnt
 gatherer_gatherer_step_one κs a x y s u e f =
     let same = e ∙ sym f in (
       ap (λ (l : Left). record { gatherer = l.gatherer; answer = l.answer }) same,
       ap (λ (l : Left). (tt, (l.store, (tt, (l.assembly, tt))))) same,
     )
 
-pub gatherer_datagram_one : OneOutcomeBy gatherer-datagram.ended (λ κs x y. x.now ≡ y.now) gatherer-datagram.Reads.Learnt
+pub gatherer_datagram_one : OneOutcomeBy gatherer-datagram-contract.ended (λ κs x y. x.now ≡ y.now) gatherer-datagram.Reads.Learnt
 gatherer_datagram_one κs a x y s u e f = (e ∙ sym f, refl)
 
-pub slot_held_places_one : OneOutcome slot-held-places.ended slot-held-places.Reads.Learnt
+pub slot_held_places_one : OneOutcome slot-held-places-contract.ended slot-held-places.Reads.Learnt
 slot_held_places_one κs a x y s u e f = (e ∙ sym f, refl)

@@ -3,8 +3,9 @@
 use mathlib.Core.Path.{◌≡◌, refl, sym, ◌∙◌}
 use Rattle.digest.specs.Determined.{OneOutcome}
 use Rattle.lentwhy.proofs.why as why
+use Rattle.lentwhy.specs.contracts.why as why-contract
 
-pub why_one : OneOutcome why.ended why.Reads.Learnt
+pub why_one : OneOutcome why-contract.ended why.Reads.Learnt
 why_one κs a x y s u e f = (
   e.0 ∙ sym f.0,
   λ i. (tt, (tt, (tt, (tt, (tt, ((e.1 ∙ sym f.1) i, tt)))))),

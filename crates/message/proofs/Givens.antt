@@ -46,8 +46,8 @@ pub allowed_of : (v : Given) → Allowed v → given_allowed v ≡ true
 unfolding given_allowed fields_given offers_allowed
 allowed_of v w =
     rw (
-      eq-eqb (length v.random) 16 w.random-size,
-      le-leb (length v.session) 8 w.session-size,
+      eq-eqb (length v.random) 16 w.random_size,
+      le-leb (length v.session) 8 w.session_size,
       w.client-list,
       w.trusted-list,
       eq-eqb (length v.suites % 2) 0 w.suites-even,
@@ -107,8 +107,8 @@ allowed_parts v h =
     let f = fields_parts v.random v.session v.client v.trusted a.0 in
     let o = offers_parts v.suites v.methods b.0 in
     record {
-      random_size = f.random-size;
-      session_size = f.session-size;
+      random_size = f.random_size;
+      session_size = f.session_size;
       client_list = f.client-list;
       trusted_list = f.trusted-list;
       suites_even = o.suites-even;
@@ -436,7 +436,7 @@ module _ (v : Given) (w : Allowed v) where
   r1 = front_rest sent 3 1 (v.version ∷ []) (v.random ++ from_session) r0 refl
 
   r2 : rests.Rest sent 20 from_session
-  r2 = front_rest sent 4 16 v.random from_session r1 w.random-size
+  r2 = front_rest sent 4 16 v.random from_session r1 w.random_size
 
   r3 : rests.Rest sent s from_client
   r3 = short_rest 0 8 sent 20 v.session from_client r2
@@ -465,12 +465,12 @@ module _ (v : Given) (w : Allowed v) where
   e2 : random_end sent ≡ 20
   e2 =
       ap (λ (a : ℕ). field_end sent a 16) e1
-      ∙ front_end sent 4 16 v.random from_session r1 w.random-size
+      ∙ front_end sent 4 16 v.random from_session r1 w.random_size
 
   e3 : session_end sent ≡ s
   e3 =
       ap (short_end 0 8 sent) e2
-      ∙ short_end_lem 0 8 sent 20 v.session from_client r2 (omega arith) w.session-size
+      ∙ short_end_lem 0 8 sent 20 v.session from_client r2 (omega arith) w.session_size
 
   e4 : client_end sent ≡ c
   e4 =
@@ -526,7 +526,7 @@ module _ (v : Given) (w : Allowed v) where
   values_sent : given_at sent (places_from v) ≡ v
   values_sent =
       let a0 = rest_byte sent 3 v.version (v.random ++ from_session) r0 in
-      let a1 = front_part sent 4 16 v.random from_session r1 w.random-size in
+      let a1 = front_part sent 4 16 v.random from_session r1 w.random_size in
       let a2 = short_part 0 8 sent 20 v.session from_client r2 in
       let a3 = long_part sent s v.client from_trusted r3 in
       let a4 = long_part sent c v.trusted from_suites r4 in

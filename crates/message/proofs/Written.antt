@@ -76,8 +76,8 @@ values_can g bc bt h =
     let again : bytes_of (values_in g) ≡ g =
     λ i. given_of g.version g.random g.session (c.1 i) (t.1 i) g.suites g.methods g.numbering g.refresh in (
       rw (
-        eq-eqb (length g.random) 16 p.random-size,
-        le-leb (length g.session) 8 p.session-size,
+        eq-eqb (length g.random) 16 p.random_size,
+        le-leb (length g.session) 8 p.session_size,
         c.0,
         t.0,
         o.0,

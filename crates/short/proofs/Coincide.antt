@@ -5,14 +5,16 @@ use mathlib.Core.Path.{refl, sym, ◌∙◌, ap}
 use Rattle.digest.specs.Determined.{OneOutcome}
 use Rattle.short.specs.Message.{Leaves}
 use Rattle.short.proofs.take.message as take-message
+use Rattle.short.specs.contracts.take.message as take-message-contract
 use Rattle.short.proofs.take.shows as take-shows
+use Rattle.short.specs.contracts.take.shows as take-shows-contract
 
-pub take_message_one : OneOutcome take-message.ended take-message.Reads.Learnt
+pub take_message_one : OneOutcome take-message-contract.ended take-message.Reads.Learnt
 take_message_one κs a x y s u e f =
     let same = e ∙ sym f in (
       ap (λ (l : Leaves). l.back) same,
       ap (λ (l : Leaves). (tt, (tt, (l.store, (tt, (l.assembly, (tt, (l.out, tt)))))))) same,
     )
 
-pub take_shows_one : OneOutcome take-shows.ended take-shows.Reads.Learnt
+pub take_shows_one : OneOutcome take-shows-contract.ended take-shows.Reads.Learnt
 take_shows_one κs a x y s u e f = (e ∙ sym f, refl)

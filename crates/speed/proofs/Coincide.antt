@@ -3,18 +3,22 @@
 use mathlib.Core.Path.{◌≡◌, refl, sym, ◌∙◌, ap}
 use Rattle.digest.specs.Determined.{OneOutcome}
 use Rattle.speed.proofs.speed_sha1 as speed-sha1
+use Rattle.speed.specs.contracts.speed_sha1 as speed-sha1-contract
 use Rattle.speed.proofs.speed_hmac as speed-hmac
+use Rattle.speed.specs.contracts.speed_hmac as speed-hmac-contract
 use Rattle.speed.proofs.speed_codes as speed-codes
+use Rattle.speed.specs.contracts.speed_codes as speed-codes-contract
 use Rattle.speed.proofs.speed_prf as speed-prf
+use Rattle.speed.specs.contracts.speed_prf as speed-prf-contract
 
-pub speed_sha1_one : OneOutcome speed-sha1.ended speed-sha1.Reads.Learnt
+pub speed_sha1_one : OneOutcome speed-sha1-contract.ended speed-sha1.Reads.Learnt
 speed_sha1_one κs a x y s u e f = (refl, ap (λ w. (tt, (w, tt))) (e ∙ sym f))
 
-pub speed_hmac_one : OneOutcome speed-hmac.ended speed-hmac.Reads.Learnt
+pub speed_hmac_one : OneOutcome speed-hmac-contract.ended speed-hmac.Reads.Learnt
 speed_hmac_one κs a x y s u e f = (refl, ap (λ w. (tt, (tt, (w, tt)))) (e ∙ sym f))
 
-pub speed_codes_one : OneOutcome speed-codes.ended speed-codes.Reads.Learnt
+pub speed_codes_one : OneOutcome speed-codes-contract.ended speed-codes.Reads.Learnt
 speed_codes_one κs a x y s u e f = (refl, ap (λ w. (tt, (tt, (tt, (w, tt))))) (e ∙ sym f))
 
-pub speed_prf_one : OneOutcome speed-prf.ended speed-prf.Reads.Learnt
+pub speed_prf_one : OneOutcome speed-prf-contract.ended speed-prf.Reads.Learnt
 speed_prf_one κs a x y s u e f = (refl, ap (λ w. (tt, (tt, (tt, (tt, (tt, (w, tt))))))) (e ∙ sym f))

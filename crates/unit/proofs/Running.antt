@@ -89,7 +89,7 @@ ran_more u d records answers left opens i h l j n e f ran =
           ∙ slots_more (answers_of u d before) (judged_record (end_of u d before) d r).answer i size h
           ∙ ap slots_of all;
       opens_is =
-          f ∙ ap₂ opens_by ran.opens-is answer_is
+          f ∙ ap₂ opens_by ran.opens_is answer_is
           ∙ sym (opens_snoc 0 (answers_of u d before) (judged_record (end_of u d before) d r).answer)
           ∙ ap (opens_to 0) all;
     }
@@ -99,7 +99,7 @@ pub flight_is : (u : Unit) (d : List ℕ) (records : List Record) (count : ℕ) 
     → Ran u d records answers left opens count → take opens left.flight ≡ flight_in u d (take count records)
 unfolding flight_in
 flight_is u d records count answers left opens ran =
-    ap₂ take ran.opens-is (ap (λ (x : Unit). x.flight) ran.left_is)
+    ap₂ take ran.opens_is (ap (λ (x : Unit). x.flight) ran.left_is)
 
 -- a run to its end
 pub run_by : (u : Unit) (d : List ℕ) (records : List Record) (count : ℕ) (answers : List Slot) (left : Unit) (opens written : ℕ)

@@ -120,15 +120,15 @@ module _ (id secret : List ℕ) (past : List Happened) (u : Ship) (p : Progress 
   carry what x eh er q s =
       record {
         own = λ n. let o = p.own (s.barred-from n) in
-            (s.id_same n ∙ o.0, ap (λ k. k.secret) (s.keys-same n) ∙ o.1);
+            (s.id_same n ∙ o.0, ap (λ k. k.secret) (s.keys_same n) ∙ o.1);
         greeted-so = λ m.
             let g = p.greeted-so (s.midway-from m) in
             record {
               random = g.random;
               offer = g.offer;
               last = eh ∙ g.last;
-              client_is = ap (λ k. k.client) (s.keys-same (midway-live x.state m)) ∙ g.client-is;
-              offer-is = s.offer-same m ∙ g.offer-is;
+              client_is = ap (λ k. k.client) (s.keys_same (midway-live x.state m)) ∙ g.client_is;
+              offer-is = s.offer_same m ∙ g.offer-is;
             };
         read-so = λ m.
             let g = p.read-so (s.reading-from m) in
@@ -139,8 +139,8 @@ module _ (id secret : List ℕ) (past : List Happened) (u : Ship) (p : Progress 
               plan = g.plan;
               last = er ∙ g.last;
               agreed = g.agreed;
-              keys_are = s.keys-same (reading-live x.state m) ∙ g.keys-are;
-              expected_is = s.expected-same m ∙ g.expected-is;
+              keys_are = s.keys_same (reading-live x.state m) ∙ g.keys_are;
+              expected_is = s.expected_same m ∙ g.expected_is;
             };
         up-so = λ o.
             let v = p.up-so (s.up_from o) in
@@ -195,9 +195,9 @@ module _ (id secret : List ℕ) (past : List Happened) (u : Ship) (p : Progress 
         reading-from = λ m. subst Reading a.state-same m;
         up_from = λ o. subst Up a.state-same o;
         id_same = λ n. a.id_same;
-        keys_same = λ n. a.keys-same;
-        offer_same = λ m. a.offer-same;
-        expected_same = λ m. a.expected-same;
+        keys_same = λ n. a.keys_same;
+        offer_same = λ m. a.offer_same;
+        expected_same = λ m. a.expected_same;
       }
 
   -- a unit in none of these states
@@ -361,8 +361,8 @@ module _ (id secret : List ℕ) (past : List Happened) (u : Ship) (p : Progress 
             agreed = g.agreed;
             handshake = kind-content d r K.ProtectedHandshake n.coded.is-protected k;
             c = c;
-            coded = subst (λ x. Protected x d r c) g.keys-are n.coded;
-            finished = sym (ap (judged_of c) g.expected-is) ∙ v;
+            coded = subst (λ x. Protected x d r c) g.keys_are n.coded;
+            finished = sym (ap (judged_of c) g.expected_is) ∙ v;
           };
         }
 
@@ -375,7 +375,7 @@ module _ (id secret : List ℕ) (past : List Happened) (u : Ship) (p : Progress 
       let frag = fragment_of d r in
       record {
         own = λ y. o;
-        greeted-so = λ y. record { random = g.random; offer = g.offer; last = g.last; client_is = g.client-is; offer-is = g.offer-is };
+        greeted-so = λ y. record { random = g.random; offer = g.offer; last = g.last; client_is = g.client_is; offer-is = g.offer-is };
         read-so = λ y. record {
           random = g.random;
           offer = g.offer;
@@ -383,8 +383,8 @@ module _ (id secret : List ℕ) (past : List Happened) (u : Ship) (p : Progress 
           plan = plan;
           last = ap (λ x. read_as x frag) g.last;
           agreed = sym (ap₂ (λ x z. agreement_of frag x z) o.0 g.offer-is) ∙ q;
-          keys_are = ap₂ (λ x z. keys_for x z frag plan) o.1 g.client-is;
-          expected_is = λ i. server_verify (o.1 i) (offer_hello (g.client-is i) (o.0 i) (g.offer-is i)) frag;
+          keys_are = ap₂ (λ x z. keys_for x z frag plan) o.1 g.client_is;
+          expected_is = λ i. server_verify (o.1 i) (offer_hello (g.client_is i) (o.0 i) (g.offer-is i)) frag;
         };
         up-so = λ y. up-not-midway S.Replied y (inr (inl refl));
       }
@@ -491,11 +491,11 @@ module _ (id secret : List ℕ) (past : List Happened) (u : Ship) (p : Progress 
           random = random;
           offer = offer_named (kinds_named macs) refresh;
           last = refl;
-          client_is = s.client-is;
+          client_is = s.client_is;
           offer-is = s.offer-is;
         };
-        read-so = λ y. not-reading x.state s.state-is y;
-        up-so = λ y. up-not-midway x.state y (inl s.state-is);
+        read-so = λ y. not-reading x.state s.state_is y;
+        up-so = λ y. up-not-midway x.state y (inl s.state_is);
       }
     where
       not-reading : {P : Type 0} (s : State) → s ≡ S.Sent → Reading s → P

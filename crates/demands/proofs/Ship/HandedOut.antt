@@ -171,7 +171,7 @@ module _ (k : Keys) (expected : List ℕ) (course : Course) (u : Ship) (a : Alon
     shut_more z =
         let same : with_record k expected course d r ≡ course
         = ap (λ b. pick b course (pick (genuine_bytes k d r) (pick newBy more course) course)) z in
-        let left : (judged_record u d r).unit ≡ u = ap (λ j. j.unit) (over-seven d r (a.is-over z)) in
+        let left : (judged_record u d r).unit ≡ u = ap (λ j. j.unit) (over-seven d r (a.is_over z)) in
         subst (λ c. Along k expected c (judged_record u d r).unit) (sym same) (subst (Along k expected course) (sym left) a)
 
     module _ (z : course.shut ≡ false) where
@@ -179,7 +179,7 @@ module _ (k : Keys) (expected : List ℕ) (course : Course) (u : Ship) (a : Alon
       up = a.is_up z
 
       right_code : (c : List ℕ) → Protected u.protection.keys d r c → Protected k d r c
-      right_code c s = subst (λ x. Protected x d r c) (a.keys-same z) s
+      right_code c s = subst (λ x. Protected x d r c) (a.keys_same z) s
 
       not_genuine : genuine_bytes k d r ≡ false → with_record k expected course d r ≡ course
       not_genuine g = ap₂ (λ b c. pick b course (pick c (pick newBy more course) course)) z g
@@ -204,7 +204,7 @@ module _ (k : Keys) (expected : List ℕ) (course : Course) (u : Ship) (a : Alon
           clear_same (sym (is-protected-kind u d r) ∙ opened-clear (kind_in d r) (sym (up_rule u.state (kind_in d r) up) ∙ e))
       stays_same (not_first e y) = up-not-midway u.state up (ruled-says u d r T.Agree e).0
       stays_same (forged e never) =
-          not_genuine (bytes-wrong k d r (λ c s. never c (subst (λ x. Protected x d r c) (sym (a.keys-same z)) s)))
+          not_genuine (bytes-wrong k d r (λ c s. never c (subst (λ x. Protected x d r c) (sym (a.keys_same z)) s)))
       stays_same (too_old_lem c e s q) = not_new c s (old_is course.width a.held course.numbers r.number (window_at_lem A.TooOld q))
       stays_same (repeated c e s q) =
           not_new c s (repeated_is course.width a.held course.numbers r.number (window_at_lem A.Repeated q))
@@ -256,8 +256,8 @@ module _ (k : Keys) (expected : List ℕ) (course : Course) (u : Ship) (a : Alon
             (record {
               held = a.held;
               is_up = λ g. o;
-              keys_same = λ g. ek ∙ a.keys-same z;
-              expected_same = λ g. ee ∙ a.expected-same z;
+              keys_same = λ g. ek ∙ a.keys_same z;
+              expected_same = λ g. ee ∙ a.expected_same z;
               window_same = λ g. ew ∙ window_more course.width a.held course.numbers r.number w n.arrived accepted-so;
               is_over = λ g. true_false shuts g f;
             })
@@ -269,7 +269,7 @@ module _ (k : Keys) (expected : List ℕ) (course : Course) (u : Ship) (a : Alon
             ap (λ t. content_shuts t c expected) (kind-content d r x n.coded.is-protected e) ∙ f
 
         verdict_at : (x : Verified) → judged_of c u.expected ≡ x → judged_of c expected ≡ x
-        verdict_at x e = sym (ap (judged_of c) (a.expected-same z)) ∙ e
+        verdict_at x e = sym (ap (judged_of c) (a.expected_same z)) ∙ e
 
         marked_state : {x : Answer} {s : State} → Marked u d r c x s → ((shuts ≡ false) × Up s) ⊎ ((shuts ≡ true) × Over s)
         marked_state (no_change e) = inl (content-as K.ProtectedChange e false refl, up)
@@ -307,10 +307,10 @@ module _ (k : Keys) (expected : List ℕ) (course : Course) (u : Ship) (a : Alon
       record {
         held = a.held;
         is_up = λ z. subst Up (sym s.state-same) (a.is_up z);
-        keys_same = λ z. s.keys-same ∙ a.keys-same z;
-        expected_same = λ z. s.expected-same ∙ a.expected-same z;
+        keys_same = λ z. s.keys_same ∙ a.keys_same z;
+        expected_same = λ z. s.expected_same ∙ a.expected_same z;
         window_same = λ z. s.window_same ∙ a.window_same z;
-        is_over = λ z. subst Over (sym s.state-same) (a.is-over z);
+        is_over = λ z. subst Over (sym s.state-same) (a.is_over z);
       }
 
   -- our own close ends it
@@ -347,7 +347,7 @@ module _ (k : Keys) (expected : List ℕ) (course : Course) (u : Ship) (a : Alon
 
   hello-along : (b : Bool) → course.shut ≡ b → (random macs : List ℕ) (refresh room : ℕ) → (hello_sent u random macs refresh room).unit ≡ u
   hello-along false z random macs refresh room = hello-up u (a.is_up z) random macs refresh room
-  hello-along true z random macs refresh room = hello-over (a.is-over z) random macs refresh room
+  hello-along true z random macs refresh room = hello-over (a.is_over z) random macs refresh room
 
   event-along : (e : Event) → MayCome course e → Along k expected (with_event k expected course e) (next u e)
   event-along (took d r) m = record-along d r course.shut refl
@@ -465,7 +465,7 @@ module _ (k : Keys) (expected : List ℕ) (course : Course) (u : Ship) (a : Alon
         f.c,
         record {
           not_shut = z;
-          genuine = record { in_place = at; protected_as = subst (λ x. Protected x d r f.c) (a.keys-same z) f.new.coded };
+          genuine = record { in_place = at; protected_as = subst (λ x. Protected x d r f.c) (a.keys_same z) f.new.coded };
           is_data_lem = kind-content d r K.ProtectedData f.new.coded.is-protected f.kind;
           some = f.some;
           not_before = q.1;
@@ -478,7 +478,7 @@ module _ (k : Keys) (expected : List ℕ) (course : Course) (u : Ship) (a : Alon
 
   due_by : DataFacts u d r → (b : Bool) → course.shut ≡ b → (c : List ℕ) × Due k course d r c
   due_by f false z = due_open f z
-  due_by f true z = over-never (a.is-over z) f
+  due_by f true z = over-never (a.is_over z) f
 
   data_due : (c : List ℕ) → Due k course d r c → (judged_record u d r).answer ≡ W.Data r.number (r.start + r.head) (length c)
   data_due c x =
@@ -487,7 +487,7 @@ module _ (k : Keys) (expected : List ℕ) (course : Course) (u : Ship) (a : Alon
       let kind = content-kind-in d r C.Data p x.is-data in
       let n : New u d r c (window_of course.width (r.number ∷ course.numbers)) = record {
         ruled = ap (rule_of u.state) kind ∙ up-opens u.state C.Data (get_or (fragment_of d r) 0 0) (a.is_up z);
-        coded = subst (λ y. Protected y d r c) (sym (a.keys-same z)) x.genuine.protected-as;
+        coded = subst (λ y. Protected y d r c) (sym (a.keys_same z)) x.genuine.protected-as;
         arrived = arrived_of course.width (r.number ∷ course.numbers);
         accepted = ap (λ w. accept_of w r.number) (a.window_same z) ∙ due_new course.width a.held course.numbers r.number x.not-before x.recent;
       } in
