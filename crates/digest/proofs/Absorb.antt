@@ -1,5 +1,5 @@
 -- The laws of blocks absorbed in a row: a message may be cut anywhere.
-use Rattle.std.proofs.Common.{◌≡◌, ℕ, zero, suc, ◌+◌, ◌-◌, ◌*◌, ◌/◌, ◌%◌, ◌^◌, ◌<◌, ◌≤◌, List, [], ◌∷◌, ◌++◌, length, take, drop, sym, refl, ap, ◌∙◌, ap₂, add-zero, add-suc, add-one, arith, length-append, length-drop, drop-drop}
+use Rattle.std.proofs.Common.{◌≡◌, ℕ, zero, suc, ◌+◌, ◌-◌, ◌*◌, ◌/◌, ◌≤◌, List, ◌++◌, length, take, drop, sym, refl, ap, ◌∙◌, ap₂, add-zero, add-suc, add-one, arith, length-append, length-drop, drop-drop}
 use lib.Seq.{take-append-le, drop-append-le}
 use Rattle.digest.specs.Sha1.{compress, absorb, blocks_of}
 use Rattle.digest.specs.declared.block.State.{State}

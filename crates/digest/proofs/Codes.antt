@@ -1,5 +1,5 @@
 -- The laws of HMAC: a key with both pads absorbed gives HMAC's codes.
-use Rattle.std.proofs.Common.{◌≡◌, ℕ, zero, suc, ◌+◌, ◌-◌, ◌*◌, ◌/◌, ◌%◌, ◌<◌, ◌≤◌, ltb, List, [], ◌∷◌, ◌++◌, map, length, get_or, take, drop, set, replicate, sym, refl, ap, ◌∙◌, subst, ap₂, append_assoc, zero-add, add-one, arith, length-append, take_all, take-suc, le-ltb, lt-ltb}
+use Rattle.std.proofs.Common.{◌≡◌, ℕ, ◌+◌, ◌-◌, ◌*◌, ◌/◌, ◌<◌, ◌≤◌, ltb, List, [], ◌∷◌, ◌++◌, map, length, get_or, take, drop, set, replicate, sym, refl, ap, ◌∙◌, subst, ap₂, append_assoc, zero-add, add-one, arith, length-append, take_all, take-suc, le-ltb, lt-ltb}
 use mathlib.Core.Logic.{by_cases}
 use native.Mathlib.Decide.{dec_le}
 use lib.ListN.{length-replicate, length-map}
@@ -10,7 +10,6 @@ use Rattle.digest.proofs.Lay.{drop_replicate, length_laid}
 use Rattle.digest.proofs.Absorb.{absorb_cut}
 use Rattle.digest.proofs.Hashing.{absorbed_more, finished_from}
 use Rattle.digest.proofs.Picks.{pick_yes, pick_no}
-use Rattle.digest.specs.Pick.{pick}
 use Rattle.digest.specs.Bytes.{laid_over}
 use Rattle.digest.specs.Sha1.{absorb, blocks_of, compress, padding, spelled, sha1, initial_state}
 use Rattle.digest.specs.Hasher.{AbsorbedFrom, updated, finished, digest_from, begun, ended}

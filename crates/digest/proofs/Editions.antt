@@ -1,8 +1,8 @@
 -- The laws of the two editions of the list of MAC kinds (02, P11).
-use Rattle.std.proofs.Common.{◌≡◌, ℕ, ◌+◌, ◌<◌, ◌≤◌, Bool, true, false, eqb, ◌⊎◌, sym, refl, ap, ◌∙◌, subst, inl, inr, arith, eq-eqb, ne_eqb}
+use Rattle.std.proofs.Common.{◌≡◌, ℕ, ◌<◌, ◌≤◌, Bool, true, false, eqb, ◌⊎◌, sym, refl, ap, ◌∙◌, subst, inl, inr, arith}
 use mathlib.Core.Logic.{by_cases}
 use native.Mathlib.Decide.{dec_le}
-use Rattle.digest.proofs.Picks.{picks, pick_yes, pick_no}
+use Rattle.digest.proofs.Picks.{picks}
 use Rattle.digest.specs.Pick.{pick}
 use Rattle.digest.specs.Edition.{entry_of, named_in, named, nameless, blank, sha_xor40}
 use Rattle.digest.specs.declared.edition.Entry.{Entry}

@@ -1,5 +1,5 @@
 -- The laws of a message that comes in pieces: what each call of a hasher leaves, and what it means.
-use Rattle.std.proofs.Common.{◌≡◌, ℕ, zero, suc, ◌+◌, ◌-◌, ◌*◌, ◌/◌, ◌%◌, ◌^◌, ◌<◌, ◌≤◌, min, List, [], ◌∷◌, ◌++◌, length, take, drop, set, replicate, sym, refl, ap, ◌∙◌, subst, ap₂, append_assoc, zero-add, arith, length-append, length-drop, length-set, take-append-drop, length-take, length-take-le, take_all, drop-drop, take_at}
+use Rattle.std.proofs.Common.{◌≡◌, ℕ, suc, ◌+◌, ◌-◌, ◌*◌, ◌/◌, ◌%◌, ◌^◌, ◌<◌, ◌≤◌, min, List, [], ◌∷◌, ◌++◌, length, take, drop, set, replicate, sym, refl, ap, ◌∙◌, subst, ap₂, append_assoc, zero-add, arith, length-append, length-drop, length-set, take-append-drop, length-take, length-take-le, drop-drop, take_at}
 use lib.ListN.{length-replicate}
 use lib.Seq.{drop-append-add, drop-append-le}
 use Rattle.digest.proofs.Lay.{laid_front, length_laid, marked}

@@ -1,8 +1,8 @@
 -- The laws of bytes laid over others.
-use Rattle.std.proofs.Common.{◌≡◌, ℕ, zero, suc, ◌+◌, ◌-◌, ◌<◌, ◌≤◌, List, [], ◌∷◌, ◌++◌, length, take, drop, set, replicate, sym, refl, ap, ◌∙◌, ap₂, append_assoc, zero-add, add-one, arith, length-append, length-drop, length-take-le, drop-drop, take_at, drop_at}
+use Rattle.std.proofs.Common.{◌≡◌, ℕ, suc, ◌+◌, ◌-◌, ◌<◌, ◌≤◌, List, [], ◌∷◌, ◌++◌, length, take, drop, set, replicate, sym, refl, ap, ◌∙◌, ap₂, append_assoc, zero-add, arith, length-append, length-drop, length-take-le, drop-drop, take_at, drop_at}
 use native.Mathlib.Numerals.{towards_suc}
 use lib.ListN.{length-replicate, replicate-append-replicate}
-use lib.Seq.{paste, take-length, sets, sets-eq, set_at, take-append-add, drop-append-add}
+use lib.Seq.{paste, take-length, sets-eq, set_at, take-append-add, drop-append-add}
 use Rattle.digest.proofs.Picks.{picks}
 use Rattle.digest.specs.Bytes.{laid_over, laid_within, bytes4}
 

@@ -7,7 +7,7 @@ use lib.Seq.{get_or_at}
 use lib.Bits.{bit_and, bit_or, bit_xor}
 use Rattle.digest.proofs.Picks.{picks}
 use Rattle.digest.specs.Bytes.{word_at}
-use Rattle.digest.specs.Sha1.{shifted, f, k, inverted, words, round, rounds, schedule, next_word}
+use Rattle.digest.specs.Sha1.{f, k, inverted, words, round, rounds, schedule, next_word}
 use Rattle.digest.specs.Midway.{turned_over, Reached}
 use Rattle.digest.specs.declared.block.State.{State}
 use Rattle.digest.specs.declared.block.Midway.{Midway}

@@ -1,8 +1,8 @@
 -- The laws of the comparison of codes.
-use Rattle.std.proofs.Common.{◌≡◌, ℕ, zero, suc, ◌+◌, ◌*◌, ◌<◌, ◌≤◌, Bool, true, false, ◌&&◌, eqb, List, [], ◌∷◌, ◌++◌, length, get_or, take, sym, refl, ap, ◌∙◌, add-one, arith, take_all, get_or-take, take-suc, take-take, eq-eqb, ne_eqb}
+use Rattle.std.proofs.Common.{◌≡◌, ℕ, ◌+◌, ◌<◌, Bool, true, false, ◌&&◌, eqb, List, [], ◌∷◌, ◌++◌, length, get_or, take, sym, refl, ap, ◌∙◌, add-one, arith, take_all, get_or-take, take-suc, take-take, eq-eqb, ne_eqb}
 use mathlib.Core.Logic.{by_cases}
-use native.Mathlib.Decide.{dec_le, ℕ_discrete}
-use lib.Bits.{bit_and, bit_or, bit_xor, or_add_and, xor_add_and, and_le_l, and_le_r, xor_self, or_zero_l}
+use native.Mathlib.Decide.{ℕ_discrete}
+use lib.Bits.{bit_or, bit_xor, or_add_and, xor_add_and, and_le_l, and_le_r, xor_self, or_zero_l}
 use Rattle.digest.specs.Mac.{same_bytes}
 
 -- Codes that are the same are equal, and equal codes are the same.

@@ -1,11 +1,11 @@
 -- The laws of the expansion, over any MAC of twenty bytes.
-use Rattle.std.proofs.Common.{◌≡◌, ℕ, zero, suc, ◌+◌, ◌-◌, ◌*◌, ◌/◌, ◌<◌, ◌≤◌, List, [], ◌∷◌, ◌++◌, length, take, drop, sym, refl, ap, ◌∙◌, ap₂, add-one, arith, length-append, length-take-le, take_all}
+use Rattle.std.proofs.Common.{◌≡◌, ℕ, zero, suc, ◌+◌, ◌-◌, ◌*◌, ◌/◌, ◌<◌, ◌≤◌, List, [], ◌∷◌, ◌++◌, length, take, sym, refl, ap, ◌∙◌, ap₂, add-one, arith, length-append, length-take-le, take_all}
 use mathlib.Core.Path.{fun_ext}
 use lib.Seq.{take-append-add}
 use Rattle.digest.proofs.Lay.{laid_front, length_laid}
 use Rattle.digest.proofs.Codes.{code_is}
 use Rattle.digest.specs.Bytes.{laid_over}
-use Rattle.digest.specs.Hmac.{hmac, key_of, code_under}
+use Rattle.digest.specs.Hmac.{key_of, code_under}
 use Rattle.digest.specs.Expansion.{chain, terms, expansion, prf}
 use Rattle.digest.specs.declared.key.Key.{Key}
 

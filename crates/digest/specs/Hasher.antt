@@ -1,5 +1,5 @@
 -- A message that comes in pieces: what each call makes of any hasher, and what a hasher means.
-use Rattle.std.specs.Prelude.{◌≡◌, ℕ, ◌+◌, ◌*◌, ◌/◌, ◌%◌, ◌^◌, List, [], ◌∷◌, ◌++◌, length, take, drop, replicate}
+use Rattle.std.specs.Prelude.{◌≡◌, ℕ, ◌+◌, ◌*◌, ◌%◌, ◌^◌, List, ◌++◌, length, take, drop, replicate}
 use Rattle.digest.specs.Bytes.{laid_over}
 use Rattle.digest.specs.Sha1.{initial_state, absorb, blocks_of, padding, spelled}
 use Rattle.digest.specs.declared.block.State.{State}

@@ -1,0 +1,15 @@
+-- `block::absorbed`: after i turns the state has absorbed i blocks.
+use Rattle.std.proofs.Common.{◌≡◌, refl, arith}
+use Rattle.digest.specs.Sha1.{absorb}
+use Rattle.digest.proofs.Absorb.{absorb_more}
+use Rattle.digest.proofs.block.absorbed.Goals as goal
+
+pub loop-i-init : goal.loop-i-init
+unfolding absorb
+loop-i-init c = (omega arith, refl)
+
+pub loop-i-preserved : goal.loop-i-preserved
+loop-i-preserved c = let at = c.loop-i in (omega arith, absorb_more _ _ at.i _ at.g c.compressed-g.result c.compressed-g.ensures at.invariant.1)
+
+pub returns : goal.returns
+returns c = let last : c.loop-i.i ≡ c.args.blocks = omega arith in rw last at c.loop-i.invariant.1

@@ -1,0 +1,7 @@
+-- `block::turned` is a round, once its function value and its constant are those of round t.
+use Rattle.digest.specs.Sha1.{round}
+use Rattle.digest.proofs.block.turned.Goals as goal
+
+pub returns : goal.returns
+unfolding round
+returns c = λ t ef ek. cc

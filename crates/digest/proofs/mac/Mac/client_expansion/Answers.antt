@@ -1,0 +1,6 @@
+-- `client_expansion`: the constant is the value of the definition.
+use Rattle.std.proofs.Common.{refl}
+use Rattle.digest.proofs.mac.Mac.client_expansion.Goals as goal
+
+pub returns : goal.returns
+returns c = record { exact = refl }
