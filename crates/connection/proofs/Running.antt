@@ -123,7 +123,7 @@ ran_more d ours records count first answer answers left i h few l j e ran =
     record {
       left_is = ap (λ x. x.connection) j-is ∙ sym (end_snoc first ours d before r) ∙ sym (ap (end_of first ours d) more);
       answers_are =
-          ap₂ (λ x y. set x (i + 1) (slot y)) ran.answers-are (ap (λ x. x.answer) j-is)
+          ap₂ (λ x y. set x (i + 1) (slot y)) ran.answers_are (ap (λ x. x.answer) j-is)
           ∙ slots_more (answer ∷ answers_of first ours d before) (told_record (end_of first ours d before) ours d r).answer (i + 1) (ap suc size ∙ sym (add-one i)) (omega arith)
           ∙ ap (λ x. slots_of (answer ∷ x)) (sym (answers_snoc first ours d before r) ∙ sym (ap (answers_of first ours d) more));
     }
@@ -146,7 +146,7 @@ run_by c ours d records count i answers left j written some l done ej ran ew =
     let all = later_all records count i done l in
     let size : count ≡ length (take count records) = sym (length-take-le count records l) in
     let left_is = ran.left_is ∙ ap (end_of j.connection ours d) all in
-    let answers_are = ran.answers-are ∙ ap (λ x. slots_of (j.answer ∷ answers_of j.connection ours d x)) all in
+    let answers_are = ran.answers_are ∙ ap (λ x. slots_of (j.answer ∷ answers_of j.connection ours d x)) all in
     let made : ◌≡◌ {A = Received} (record { taken = Records count; answers = answers; written = written; connection = left })
     (record { taken = Records (length (take count records)); answers = slots_of (j.answer ∷ answers_of j.connection ours d (later records count)); written = length (sent_by j); connection = end_of j.connection ours d (later records count) })
     = λ k. record { taken = Records (size k); answers = answers_are k; written = ew k; connection = left_is k } in
@@ -254,10 +254,10 @@ going_more d ours c rs answers left i at h few covered t e g =
     record {
       left_is = ap (λ x. x.connection) t-is ∙ sym (end_snoc c ours d before r) ∙ sym (ap (end_of c ours d) more);
       answers_are =
-          ap₂ (λ x y. set x i (slot y)) g.answers-are (ap (λ x. x.answer) t-is)
+          ap₂ (λ x y. set x i (slot y)) g.answers_are (ap (λ x. x.answer) t-is)
           ∙ slots_more (answers_of c ours d before) (told_record (end_of c ours d before) ours d r).answer i size (omega arith)
           ∙ ap slots_of (sym (answers_snoc c ours d before r) ∙ sym (ap (answers_of c ours d) more));
-      at_is = λ n. ap (λ k. (get_or rs k blank).start) (add-one i) ∙ next_start rs i d 0 covered (omega (arith, n)) ∙ ap (λ a. a + r.used) (g.at-is h);
+      at_is = λ n. ap (λ k. (get_or rs k blank).start) (add-one i) ∙ next_start rs i d 0 covered (omega (arith, n)) ∙ ap (λ a. a + r.used) (g.at_is h);
       plain = λ j l k. g.plain j (omega arith) k;
     }
 
@@ -326,13 +326,13 @@ unfolding run_of
 gone d ours c rs answers left i at count written size done g ew =
     let all : take i rs ≡ rs = take_all i rs (omega arith) in
     let left_is = g.left_is ∙ ap (end_of c ours d) all in
-    let answers_are = g.answers-are ∙ ap (λ x. slots_of (answers_of c ours d x)) all in
+    let answers_are = g.answers_are ∙ ap (λ x. slots_of (answers_of c ours d x)) all in
     λ k. record { taken = Records (sym size k); answers = answers_are k; written = ew k; connection = left_is k }
 
 -- the record at the place is the next one
 pub record_next : (d ours : List ℕ) (c : Connection) (rs : List Record) (answers : List Slot) (left : Connection) (i at : ℕ) → i < length rs → CoversFrom d 0 rs
     → Going d ours c rs answers left i at → record_at d at ≡ get_or rs i blank
-record_next d ours c rs answers left i at h covered g = record_there d (get_or rs i blank) at (lies_at rs i d 0 (omega arith) covered h) (g.at-is h)
+record_next d ours c rs answers left i at h covered g = record_there d (get_or rs i blank) at (lies_at rs i d 0 (omega arith) covered h) (g.at_is h)
 
 -- one record more, as a step
 pub going_step : (d ours : List ℕ) (c : Connection) (rs : List Record) (answers : List Slot) (left : Connection) (i at : ℕ) (r : Record) (whom : Whom) (h : Handshake) (s : Step)
@@ -377,7 +377,7 @@ module _ {d : List ℕ} {count : ℕ} {answers₀ : List Slot} {left₀ : Connec
   pub next_within : i < count → at ≤ length d
   next_within h =
       let inside : i < length g.rs = omega (arith, g.size) in
-      omega (arith, (lies_at g.rs i d 0 (omega arith) g.covered inside).inside, now_going.at-is inside)
+      omega (arith, (lies_at g.rs i d 0 (omega arith) g.covered inside).inside, now_going.at_is inside)
 
   pub goes_on : (r : Record) (whom : Whom) (h : Handshake) (s : Step) (next : Connection) → i < count → r ≡ record_at d at → whom ≡ whom_of left d r → h ≡ asked_of left whom
       → stepped_by h s ≡ judged_else h left.sent d r → next ≡ left_with left (led_by h s.window s.next) left.sent whom
@@ -407,7 +407,7 @@ module _ {d : List ℕ} {count : ℕ} {answers₀ : List Slot} {left₀ : Connec
       let there = record_next d g.ours g.c g.rs answers left i at inside g.covered now_going in
       let l : Lies d (get_or g.rs i blank) = lies_at g.rs i d 0 (omega arith) g.covered inside in
       let same : r.used ≡ (get_or g.rs i blank).used = ap (λ (x : Record). x.used) (e ∙ there) in
-      omega (arith, l.inside, now_going.at-is inside)
+      omega (arith, l.inside, now_going.at_is inside)
 
 -- a run of what the walk found, begun; and at its end
 module _ (d ours : List ℕ) (c : Connection) (w : Walk) (b : Begun) (r : Record) (ew : w ≡ walk_of d) (some : 0 < w.count) (er : r ≡ record_at d 0)

@@ -279,7 +279,7 @@ unfolding is_list list_of sum_of
 lendable [] = record { numbers = []; sizes = []; bytes = []; is_list_lem = refl; same = refl }
 lendable (r ∷ l) =
     let w : Lendable l = lendable l in
-    let tests = lent_tests w.numbers w.sizes w.bytes w.is-list in
+    let tests = lent_tests w.numbers w.sizes w.bytes w.is_list_lem in
     record {
       numbers = r.number ∷ w.numbers;
       sizes = length r.bytes ∷ w.sizes;

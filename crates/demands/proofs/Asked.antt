@@ -116,7 +116,7 @@ module _ (c : Connection) (d : List ℕ) (r : Record) (o : c.handshake.state ≡
       })
   right_of p h true false ea eb =
       asks_protected o p (λ q. true_false (right_under c.started r m) (protected_right (keys_of c.started) d r q.content q.coded) eb)
-  right_of p h false b ea eb = asks_protected o p (λ q. true_false (is_spec c.started.state) (ap is_spec q.in-spec) ea)
+  right_of p h false b ea eb = asks_protected o p (λ q. true_false (is_spec c.started.state) (ap is_spec q.in_spec) ea)
 
   other_of : r.protected ≡ true → (r.content ≡ C.Handshake → ⊥) → Asks c d r A.Open
   other_of p n = asks_protected o p (λ q. n q.handshake)
@@ -228,8 +228,8 @@ module _ (c : Connection) (d : List ℕ) (r : Record) where
       at_clear c d r o p n r.content (eqb (get_or (fragment_of d r) 0 0) 1) refl refl
       ∙ ap (λ b. pick b A.Started A.Newcomer) (not_way c.started.state s (under_way c.started.state) refl)
   asks_is (asks_right q) =
-      at_kind c d r q.is_open C.Handshake true (eqb (get_or (fragment_of d r) 0 0) 1) q.handshake q.coded.is-protected refl
-      ∙ ap₂ (λ a b. pick a (pick b A.Started A.Open) A.Open) (ap is_spec q.in-spec)
+      at_kind c d r q.is_open C.Handshake true (eqb (get_or (fragment_of d r) 0 0) 1) q.handshake q.coded.is_protected refl
+      ∙ ap₂ (λ a b. pick a (pick b A.Started A.Open) A.Open) (ap is_spec q.in_spec)
       (protected_right (keys_of c.started) d r q.content q.coded)
   asks_is (asks_protected o p n) = at_protected c d r o p n r.content refl
 

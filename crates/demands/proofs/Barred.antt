@@ -138,7 +138,7 @@ under_code h sent random d r at f =
       arrived = f.new.arrived;
       new = f.new.accepted;
       alert = f.alert;
-      well_formed_lem = f.well-formed;
+      well_formed_lem = f.well_formed_lem;
       fatal = f.fatal;
     }
 

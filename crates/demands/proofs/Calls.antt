@@ -333,9 +333,9 @@ module _ (c : Connection) (protected : Bool) (level description : ℕ) (answered
         → step_of c (send_alert protected level description answered out) ≡ alert_step o
     unfolding alert_refused
     alert_good g o e =
-        step_alert ∙ ap₂ alert_by g.level_is g.description-is
+        step_alert ∙ ap₂ alert_by g.level_is g.description_is
         ∙ ap alert_step (alert_outcome_lem protected (sender_of protected c) (length answered) (length out))
-        ∙ ap (λ b. alert_step (pick b (O.Refused X.Argument) (and_then (may_of protected (sender_of protected c).state) alert_numbered))) (le-ltb 1400 (length answered) g.lent-most)
+        ∙ ap (λ b. alert_step (pick b (O.Refused X.Argument) (and_then (may_of protected (sender_of protected c).state) alert_numbered))) (le-ltb 1400 (length answered) g.lent_most)
         ∙ ap alert_step e
 
     alert_long : level_of level ≡ G.Is l → sorted_of description ≡ D.Assigned k → 1400 < length answered

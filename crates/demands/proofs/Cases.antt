@@ -182,7 +182,7 @@ module _ (s : ℕ) (inside : s ≤ 65535) where
       ∙ ap (λ j. j.handshake) (row_is (with_window h (w₀ example_width)) no_records example_random data_with data_record (handed_row (w₀ example_width) y n e))
     where
       begun : h ≡ with_window h (w₀ example_width)
-      begun = λ i. with_window h (w.window-is i)
+      begun = λ i. with_window h (w.window_is i)
 
 -- ---- the windows
 
@@ -326,7 +326,7 @@ unfolding forged_record forged_fragment forged_code fragment_by
 not_protected c s =
     let code : List ℕ = code_by (hmac (unit_key k 7)) (size_of k.mac) 7 byte example_data in
     let its : List ℕ = code_by (hmac (unit_key k 7)) (size_of k.mac) 7 byte c in
-    let same : example_data ++ map other code ≡ c ++ its = sym forged_back ∙ s.is-coded in
+    let same : example_data ++ map other code ≡ c ++ its = sym forged_back ∙ s.is_coded in
     let long : length example_data ≡ length c
     = omega (arith, ap length same, length-append example_data (map other code), length-map code other, code_length, length-append c its, protected_length (unit_key k 7) k.mac 7 byte c) in
     let q = cancel example_data c (map other code) its long same in
@@ -356,9 +356,9 @@ sent_clear =
     record {
       es = took no_records example_random w.d₁ w.r₁ ∷ [];
       sound = ((refl, record { before = []; behind = []; framing = w.framed₁ }), tt);
-      is_replied = ap (λ x. x.state) left ∙ w.replied-is;
+      is_replied = ap (λ x. x.state) left ∙ w.replied_is;
       out = example_out;
-      done = ap (λ x. (alert_sent (alone x) false 1 0 [] (length example_out)).outcome) left ∙ clear_is_done w.h₁ w.replied-is example_clear;
+      done = ap (λ x. (alert_sent (alone x) false 1 0 [] (length example_out)).outcome) left ∙ clear_is_done w.h₁ w.replied_is example_clear;
     }
 
 pub cases : Cases

@@ -115,7 +115,7 @@ module _ (id secret random bytes : List ℕ) (lr : length random ≡ 16) {width 
   idle_not z = let n : ◌≡◌ {A = ℕ} 0 1 = cc in omega arith
 
   replied_not : w.h₁.state ≡ Open → ⊥
-  replied_not z = let y : Replied ≡ Open = sym w.replied-is ∙ z in let n : ◌≡◌ {A = ℕ} 0 1 = cc in omega arith
+  replied_not z = let y : Replied ≡ Open = sym w.replied_is ∙ z in let n : ◌≡◌ {A = ℕ} 0 1 = cc in omega arith
 
   spec_not : w.h₂.state ≡ Open → ⊥
   spec_not z = let y : Spec ≡ Open = sym w.spec_is ∙ z in let n : ◌≡◌ {A = ℕ} 0 1 = cc in omega arith

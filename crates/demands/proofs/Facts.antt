@@ -183,7 +183,7 @@ under_is c d r (asks_open_hello o i z n k) g = true_false r.protected g.protecti
 under_is c d r (asks_new_hello o i z n k) g = true_false r.protected g.protection i.clear
 under_is c d r (asks_clear o p n s) g = true_false r.protected g.protection p
 under_is c d r (asks_clear_alone o p n s) g = true_false r.protected g.protection p
-under_is c d r (asks_right x) g = x.in-spec
+under_is c d r (asks_right x) g = x.in_spec
 under_is c d r (asks_protected o p n) g = o
 
 -- which keys were tried
@@ -216,7 +216,7 @@ module _ (c : Connection) (numbers d : List ℕ) (r : Record) (in_place : Record
   forged_is (asks_new_hello o i z n e) g k = true_false r.protected g.protection i.clear
   forged_is (asks_clear o p n s) g k = true_false r.protected g.protection p
   forged_is (asks_clear_alone o p n s) g k = true_false r.protected g.protection p
-  forged_is (asks_right x) g k = absurd (k x.content x.coded.is-coded)
+  forged_is (asks_right x) g k = absurd (k x.content x.coded.is_coded)
   forged_is (asks_protected o p n) g k =
       decide (both_tried c.started.state A.Open r.content)
       (λ e.

@@ -50,24 +50,24 @@ module _ (session : Session) {width : ℕ} (past : List Happened) (h : Handshake
   guard : Alerted h.state → (c : List ℕ) (a : Alert) → FatalAt width session past d r c a → Guarded h.state (seen_in d r)
   guard s c a f =
       record {
-        protection = f.genuine.protected-as.is-protected;
+        protection = f.genuine.protected_as.is_protected;
         kind = allowed_alert h.state r.content f.alert s;
       }
 
   new_by_past : (c : List ℕ) (a : Alert) → FatalAt width session past d r c a
       → accept_of h.protection.window r.number ≡ A.New (window_of width (r.number ∷ accepted_in past)) (arrived_of width (r.number ∷ accepted_in past))
   new_by_past c a f =
-      ap (λ w. accept_of w r.number) p.kept.window-is
-      ∙ due_new width p.kept.held (accepted_in past) r.number f.not-before f.recent
+      ap (λ w. accept_of w r.number) p.kept.window_is
+      ∙ due_new width p.kept.held (accepted_in past) r.number f.not_before f.recent
 
   bars_so : Alerted h.state → (c : List ℕ) (a : Alert) → FatalAt width session past d r c a
       → ((judged_record h sent random d r).answer ≡ W.Barred a.description) × ((next h (took sent random d r)).state ≡ S.Barred)
   bars_so s c a f =
       let g : Guarded h.state (seen_in d r) = guard s c a f in
-      let coded : Protected (keys_of h) d r c = subst (λ k. Protected k d r c) (sym (keys_are session past h p (past_live g))) f.genuine.protected-as in
+      let coded : Protected (keys_of h) d r c = subst (λ k. Protected k d r c) (sym (keys_are session past h p (past_live g))) f.genuine.protected_as in
       let n : New h d r c (window_of width (r.number ∷ accepted_in past))
       = record { guarded = g; coded = coded; arrived = arrived_of width (r.number ∷ accepted_in past); accepted = new_by_past c a f } in
-      let is = row_is h sent random d r (row_barred c (window_of width (r.number ∷ accepted_in past)) a n f.alert f.well-formed f.fatal) in
+      let is = row_is h sent random d r (row_barred c (window_of width (r.number ∷ accepted_in past)) a n f.alert f.well_formed_lem f.fatal) in
       (ap (λ j. j.answer) is, ap (λ j. j.handshake.state) is)
 
   only_so : h.state ≢ S.Barred → (next h (took sent random d r)).state ≡ S.Barred
@@ -75,7 +75,7 @@ module _ (session : Session) {width : ℕ} (past : List Happened) (h : Handshake
   only_so nb z =
       let f : FatalRow h d r = by_fatal h sent random d r nb (row_of h sent random d r) z in
       let g : Guarded h.state (seen_in d r) = f.new.guarded in
-      let e = sym (ap (λ w. accept_of w r.number) p.kept.window-is) ∙ f.new.accepted in
+      let e = sym (ap (λ w. accept_of w r.number) p.kept.window_is) ∙ f.new.accepted in
       let q = new_means width (accepted_in past) r.number f.w f.new.arrived (sym (by_history width p.kept.held (accepted_in past) r.number) ∙ e) in (
         alert_allowed h.state r.content g.kind,
         (
@@ -84,7 +84,7 @@ module _ (session : Session) {width : ℕ} (past : List Happened) (h : Handshake
           record {
             genuine = record { in_place = at; protected_as = subst (λ k. Protected k d r f.c) (keys_are session past h p (past_live g)) f.new.coded };
             alert = f.alert;
-            well_formed_lem = f.well-formed;
+            well_formed_lem = f.well_formed_lem;
             fatal = f.fatal;
             not_before = q.1;
             recent = all_below width (accepted_in past) r.number q.0;

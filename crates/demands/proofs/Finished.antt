@@ -118,7 +118,7 @@ pub record Progress (session : Session) (width : ℕ) (past : List Happened) (h 
 module _ (session : Session) {width : ℕ} (past : List Happened) (h : Handshake) (p : Progress session width past h) where
   -- the keys and the expected contents of a connection that is not ended are those of the history
   pub keys_are : barred_in past ≡ false → keys_of h ≡ keys_in session past
-  keys_are l = ap₂ keys_with (p.kept.session-is l) (p.kept.agreed_is l)
+  keys_are l = ap₂ keys_with (p.kept.session_is l) (p.kept.agreed_is l)
 
   pub expected_is : barred_in past ≡ false → h.expected ≡ expected_in session past
   expected_is l = ap (λ a. a.expected) (p.kept.agreed_is l)
@@ -218,7 +218,7 @@ module _ (session : Session) {width : ℕ} (past : List Happened) (h : Handshake
             ours = random;
             plan = plan;
             replied = refl;
-            heard = sym (ap (λ s. heard_of (fragment_of d r) s.id) (p.kept.session-is l)) ∙ e;
+            heard = sym (ap (λ s. heard_of (fragment_of d r) s.id) (p.kept.session_is l)) ∙ e;
           };
           verified = λ z. let w : ◌≡◌ {A = ℕ} 0 1 = cc in absurd (omega arith);
         }

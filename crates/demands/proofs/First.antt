@@ -132,7 +132,7 @@ module _ (c : Connection) (random d : List ℕ) (r : Record) where
   started_hears (asks_new_hello o i z n k) e = let y : ◌≡◌ {A = ℕ} 0 1 = cc in absurd (omega arith)
   started_hears (asks_clear o p n s) e = s
   started_hears (asks_clear_alone o p n s) e = let z : ◌≡◌ {A = ℕ} 0 1 = cc in absurd (omega arith)
-  started_hears (asks_right q) e = inr q.in-spec
+  started_hears (asks_right q) e = inr q.in_spec
   started_hears (asks_protected o p n) e = let z : ◌≡◌ {A = ℕ} 0 1 = cc in absurd (omega arith)
 
   abbrev keeps : Whom → Judged → List ℕ

@@ -154,14 +154,14 @@ idle_not : S.Idle ≡ S.Open → ⊥
 idle_not z = let n : ◌≡◌ {A = ℕ} 0 1 = cc in omega arith
 
 replied_not : w.h₁.state ≢ S.Open
-replied_not z = let y : S.Replied ≡ S.Open = sym w.replied-is ∙ z in let n : ◌≡◌ {A = ℕ} 0 1 = cc in omega arith
+replied_not z = let y : S.Replied ≡ S.Open = sym w.replied_is ∙ z in let n : ◌≡◌ {A = ℕ} 0 1 = cc in omega arith
 
 spec_not : w.h₂.state ≢ S.Open
 spec_not z = let y : S.Spec ≡ S.Open = sym w.spec_is ∙ z in let n : ◌≡◌ {A = ℕ} 0 1 = cc in omega arith
 
 -- the data on it is answered so, with none started
 none_right : (s : SentRecords) → RightBeside (connection_of w.h₃ none_started s) w.d₄ w.r₄ → ⊥
-none_right s q = let z : S.Idle ≡ S.Spec = q.in-spec in let n : ◌≡◌ {A = ℕ} 0 1 = cc in omega arith
+none_right s q = let z : S.Idle ≡ S.Spec = q.in_spec in let n : ◌≡◌ {A = ℕ} 0 1 = cc in omega arith
 
 abbrev handed_to : SentRecords → Told
 handed_to s = told_by (connection_of w.h₃ none_started s) Y.Open (judged (W.Data 1 3 (length example_data)) w.h₄)
@@ -227,7 +227,7 @@ pub refusing_calls_hands : (g : Gateway) → RefusesCalls g → HandsOut g → �
 unfolding slots_of
 refusing_calls_hands g bad hands =
     true_false (is_data (answer_of g opened w.d₄ example_random example_out [])) (due_example g hands)
-    (ap (λ l. is_data (get_or l 0 (slot W.Nothing)).answer) (bad.no-answers opened w.d₄ example_random example_out))
+    (ap (λ l. is_data (get_or l 0 (slot W.Nothing)).answer) (bad.no_answers opened w.d₄ example_random example_out))
 
 reply_refused : (n : ℕ) (x : Refusal) → W.Reply n ≡ W.Refused x → ⊥
 reply_refused n x e = let z : ◌≡◌ {A = ℕ} 0 1 = cc in omega arith
@@ -307,12 +307,12 @@ two_framed = refl
 first_row : (s : SentRecords) → Row w.h₁ s example_random two one_of_two (refusing X.NotAllowed w.h₁)
 unfolding one_of_two
 first_row s =
-    row_not_allowed (live_over w.h₁.state (ap ended w.replied-is)) (no_row w.h₁.state (seen_in two one_of_two) refl refl)
+    row_not_allowed (live_over w.h₁.state (ap ended w.replied_is)) (no_row w.h₁.state (seen_in two one_of_two) refl refl)
     (λ q. replied_not q.is_open)
 
 second_row : (s : SentRecords) → Row w.h₁ s example_random two two_of_two (judged W.Spec (with_state (with_window w.h₁ (emptied w.h₁.protection.window)) S.Spec))
 unfolding two two_of_two is_change
-second_row s = row_change w.replied-is refl refl refl
+second_row s = row_change w.replied_is refl refl refl
 
 -- the first of the two alone
 front_framed : framing_of (take one_of_two.used two) ≡ framed (one_of_two ∷ [])
@@ -322,7 +322,7 @@ front_framed = refl
 front_row : (s : SentRecords) → Row w.h₁ s example_random (take one_of_two.used two) one_of_two (refusing X.NotAllowed w.h₁)
 unfolding one_of_two
 front_row s =
-    row_not_allowed (live_over w.h₁.state (ap ended w.replied-is))
+    row_not_allowed (live_over w.h₁.state (ap ended w.replied_is))
     (no_row w.h₁.state (seen_in (take one_of_two.used two) one_of_two) refl refl)
     (λ q. replied_not q.is_open)
 
@@ -340,7 +340,7 @@ first_only_table g bad table =
     = ap (λ t. (told_record t.connection example_random two two_of_two).connection.handshake) none
     ∙ ap (λ t. t.connection.handshake) (tells_is (alone h) example_random two two_of_two (tells (asks_only replied_not) (second_row no_records) left_only)) in
     let z : S.Replied ≡ S.Spec
-    = sym w.replied-is ∙ sym (ap (λ x. x.state) left) ∙ sym (ap (λ x. x.handshake.state) (chain_is example_random two q.3).1) ∙ ap (λ x. x.state) right in
+    = sym w.replied_is ∙ sym (ap (λ x. x.state) left) ∙ sym (ap (λ x. x.handshake.state) (chain_is example_random two q.3).1) ∙ ap (λ x. x.state) right in
     let n : ◌≡◌ {A = ℕ} 0 1 = cc in
     omega arith
 

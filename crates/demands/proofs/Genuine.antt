@@ -28,7 +28,7 @@ module _ (k : Keys) (d : List ℕ) (r : Record) where
   pub protected_right : (c : List ℕ) → Protected k d r c
       → genuine_by (hmac (unit_key k r.number)) (size_of k.mac) r.number r.byte (fragment_of d r) ≡ true
   protected_right c s =
-      ap (genuine_by (hmac (unit_key k r.number)) (size_of k.mac) r.number r.byte) s.is-coded
+      ap (genuine_by (hmac (unit_key k r.number)) (size_of k.mac) r.number r.byte) s.is_coded
       ∙ made_genuine (hmac (unit_key k r.number)) (size_of k.mac) r.number r.byte c (enough c)
 
   pub protected_content : (c : List ℕ) → Protected k d r c → content_bytes k d r ≡ c
@@ -37,7 +37,7 @@ module _ (k : Keys) (d : List ℕ) (r : Record) where
       let code : List ℕ = take (size_of k.mac) (hmac (unit_key k r.number) (coded_of r.number r.byte c)) in
       let z : length code ≡ size_of k.mac = length-take-le (size_of k.mac) (hmac (unit_key k r.number) (coded_of r.number r.byte c)) (enough c) in
       let n : length c ≡ length (c ++ code) - size_of k.mac = omega (arith, length-append c code) in
-      ap (λ f. take (length f - size_of k.mac) f) s.is-coded
+      ap (λ f. take (length f - size_of k.mac) f) s.is_coded
       ∙ take_at c code (length (c ++ code) - size_of k.mac) n
 
   pub right_protected : r.protected ≡ true

@@ -117,7 +117,7 @@ module _ (k : Keys) (expected : List ℕ) (course : Course) (h : Handshake) (a :
     shut_more z =
         let same : with_record k expected course d r ≡ course
         = ap (λ b. pick b course (pick (genuine_bytes k d r) (pick (is_new course.width course.numbers r.number) (record { width = course.width; numbers = r.number ∷ course.numbers; shut = content_shuts r.content (content_bytes k d r) expected }) course) course)) z in
-        let left : (judged_record h sent random d r).handshake ≡ h = ap (λ j. j.handshake) (seven k h sent random d r (a.is-ended z)) in
+        let left : (judged_record h sent random d r).handshake ≡ h = ap (λ j. j.handshake) (seven k h sent random d r (a.is_ended z)) in
         subst (λ c. Along k expected c (judged_record h sent random d r).handshake) (sym same) (subst (Along k expected course) (sym left) a)
 
     module _ (z : course.shut ≡ false) where
@@ -131,7 +131,7 @@ module _ (k : Keys) (expected : List ℕ) (course : Course) (h : Handshake) (a :
 
       genuine_yes : (c : List ℕ) → Protected k d r c → genuine_bytes k d r ≡ true
       genuine_yes c s =
-          ap₂ (λ p g. pick p g false) s.is-protected (protected_right k d r c s)
+          ap₂ (λ p g. pick p g false) s.is_protected (protected_right k d r c s)
 
       not_new : (c : List ℕ) → Protected k d r c → is_new course.width course.numbers r.number ≡ false → with_record k expected course d r ≡ course
       not_new c s n =
@@ -241,9 +241,9 @@ module _ (k : Keys) (expected : List ℕ) (course : Course) (h : Handshake) (a :
   -- a send changes neither
   sent_along : (protected : Bool) → Along k expected course (after_alert protected h)
   sent_along true =
-      record { is_open = a.is_open; keys_same = a.keys_same; expected_same = a.expected_same; held = a.held; window_same = a.window_same; is_ended = a.is-ended }
+      record { is_open = a.is_open; keys_same = a.keys_same; expected_same = a.expected_same; held = a.held; window_same = a.window_same; is_ended = a.is_ended }
   sent_along false =
-      record { is_open = a.is_open; keys_same = a.keys_same; expected_same = a.expected_same; held = a.held; window_same = a.window_same; is_ended = a.is-ended }
+      record { is_open = a.is_open; keys_same = a.keys_same; expected_same = a.expected_same; held = a.held; window_same = a.window_same; is_ended = a.is_ended }
 
   by_data : (bytes out : List ℕ) {s : Step} → CallRow (alone h) (send_data bytes out) s → Along k expected course s.connection.handshake
   by_data bytes out (data_16 b) = a
@@ -252,7 +252,7 @@ module _ (k : Keys) (expected : List ℕ) (course : Course) (h : Handshake) (a :
   by_data bytes out (data_15 g e n) = a
   by_data bytes out (data_6 g e n l) = a
   by_data bytes out (data_sent_lem g e n l) =
-      record { is_open = a.is_open; keys_same = a.keys_same; expected_same = a.expected_same; held = a.held; window_same = a.window_same; is_ended = a.is-ended }
+      record { is_open = a.is_open; keys_same = a.keys_same; expected_same = a.expected_same; held = a.held; window_same = a.window_same; is_ended = a.is_ended }
 
   by_alert : (protected : Bool) (level description : ℕ) (lent out : List ℕ) {s : Step} → CallRow (alone h) (send_alert protected level description lent out) s
       → Along k expected course s.connection.handshake
@@ -297,7 +297,7 @@ module _ (k : Keys) (expected : List ℕ) (course : Course) (c : Connection) (a 
       → Along k expected (with_record k expected course d r) (told_record c random d r).connection.handshake
   told_along random d r n true z =
       subst (Along k expected (with_record k expected course d r))
-      (ap (λ j. j.handshake) (seven k c.handshake c.sent random d r (a.is-ended z)) ∙ sym (ap (λ t. t.connection.handshake) (told_seven c random d r (a.is-ended z))))
+      (ap (λ j. j.handshake) (seven k c.handshake c.sent random d r (a.is_ended z)) ∙ sym (ap (λ t. t.connection.handshake) (told_seven c random d r (a.is_ended z))))
       (record_more k expected course c.handshake a c.sent random d r true z)
   told_along random d r n false z = by_protection r.protected refl
     where
@@ -342,7 +342,7 @@ along_open session past h p s =
       keys_same = λ _. keys_are session past h p l;
       expected_same = λ _. expected_is session past h p l;
       held = p.kept.held;
-      window_same = λ _. p.kept.window-is;
+      window_same = λ _. p.kept.window_is;
       is_ended = λ f. true_false false f refl;
     }
 
@@ -376,7 +376,7 @@ module _ (d : List ℕ) (at size : ℕ) (c code : List ℕ) (some : 0 < length c
 pub handed_part : (k : Keys) (d : List ℕ) (r : Record) (c : List ℕ) → 0 < length c → Protected k d r c → part_at d (r.start + r.head) (length c) ≡ c
 unfolding fragment_by
 handed_part k d r c some s =
-    part_is d (r.start + r.head) r.size c (code_by (hmac (unit_key k r.number)) (size_of k.mac) r.number r.byte c) some s.is-coded
+    part_is d (r.start + r.head) r.size c (code_by (hmac (unit_key k r.number)) (size_of k.mac) r.number r.byte c) some s.is_coded
 
 -- what a data answer says
 pub record DataFacts (h : Handshake) (d : List ℕ) (r : Record) : Type 0 where
@@ -424,7 +424,7 @@ module _ (k : Keys) (expected : List ℕ) (course : Course) (h : Handshake) (a :
         record {
           not_shut = z;
           genuine = record { in_place = at; protected_as = subst (λ x. Protected x d r f.c) (a.keys_same z) f.new.coded };
-          is_data_lem = f.is-data;
+          is_data_lem = f.is_data_lem;
           some = f.some;
           not_before = q.1;
           recent = all_below course.width course.numbers r.number q.0;
@@ -433,33 +433,33 @@ module _ (k : Keys) (expected : List ℕ) (course : Course) (h : Handshake) (a :
 
   due_by : DataFacts h d r → (b : Bool) → course.shut ≡ b → (c : List ℕ) × Due k course d r c
   due_by f false z = due_open f z
-  due_by f true z = true_false (ended h.state) (a.is-ended z) (protected_live h.state r.content f.new.guarded.kind)
+  due_by f true z = true_false (ended h.state) (a.is_ended z) (protected_live h.state r.content f.new.guarded.kind)
 
   data_due : (c : List ℕ) → Due k course d r c → (judged_record h sent random d r).answer ≡ W.Data r.number (r.start + r.head) (length c)
   data_due c u =
-      let z = u.not-shut in
+      let z = u.not_shut in
       let n : New h d r c (window_of course.width (r.number ∷ course.numbers)) = record {
-        guarded = record { protection = u.genuine.protected-as.is-protected; kind = inr (a.is_open z) };
-        coded = subst (λ x. Protected x d r c) (sym (a.keys_same z)) u.genuine.protected-as;
+        guarded = record { protection = u.genuine.protected_as.is_protected; kind = inr (a.is_open z) };
+        coded = subst (λ x. Protected x d r c) (sym (a.keys_same z)) u.genuine.protected_as;
         arrived = arrived_of course.width (r.number ∷ course.numbers);
-        accepted = ap (λ w. accept_of w r.number) (a.window_same z) ∙ due_new course.width a.held course.numbers r.number u.not-before u.recent;
+        accepted = ap (λ w. accept_of w r.number) (a.window_same z) ∙ due_new course.width a.held course.numbers r.number u.not_before u.recent;
       } in
-      ap (λ j. j.answer) (row_is h sent random d r (row_data c (window_of course.width (r.number ∷ course.numbers)) n u.is-data u.some))
+      ap (λ j. j.answer) (row_is h sent random d r (row_data c (window_of course.width (r.number ∷ course.numbers)) n u.is_data_lem u.some))
 
   pub due_exactly : (is_data (judged_record h sent random d r).answer ≡ true) ↔ ((c : List ℕ) × Due k course d r c)
   due_exactly =
       (λ z. due_by (data_facts h sent random d r (row_of h sent random d r) z) course.shut refl, λ q. ap is_data (data_due q.0 q.1))
 
   pub due_handed : (c : List ℕ) → Due k course d r c → handed_of d (judged_record h sent random d r).answer ≡ c
-  due_handed c u = ap (handed_of d) (data_due c u) ∙ handed_part k d r c u.some u.genuine.protected-as
+  due_handed c u = ap (handed_of d) (data_due c u) ∙ handed_part k d r c u.some u.genuine.protected_as
 
 -- of the connection: what is due is for the open one
 module _ (k : Keys) (expected : List ℕ) (course : Course) (c : Connection) (a : Along k expected course c.handshake) (random d : List ℕ) (r : Record) (at : RecordOf d r) where
   due_answer : (x : List ℕ) → Due k course d r x → (told_record c random d r).answer ≡ (judged_record c.handshake c.sent random d r).answer
   due_answer x u =
       ap (λ t. t.answer)
-      (told_open c random d r (a.is_open u.not-shut) u.genuine.protected-as.is-protected
-      (λ q. let z : C.Data ≡ C.Handshake = sym u.is-data ∙ q.handshake in let w : ◌≡◌ {A = ℕ} 0 1 = cc in omega arith))
+      (told_open c random d r (a.is_open u.not_shut) u.genuine.protected_as.is_protected
+      (λ q. let z : C.Data ≡ C.Handshake = sym u.is_data_lem ∙ q.handshake in let w : ◌≡◌ {A = ℕ} 0 1 = cc in omega arith))
 
   pub told_exactly : (is_data (told_record c random d r).answer ≡ true) ↔ ((x : List ℕ) × Due k course d r x)
   told_exactly =
@@ -558,12 +558,12 @@ width_stays k expected (starting ∷ es) course = width_stays k expected es cour
 due_used : (k : Keys) (expected : List ℕ) (course : Course) → Held course.width → (d : List ℕ) (r : Record) (c : List ℕ) → Due k course d r c
     → accepted (with_record k expected course d r).numbers r.number ≡ true
 due_used k expected course held d r c u =
-    let s : Protected k d r c = u.genuine.protected-as in
-    let g : genuine_bytes k d r ≡ true = ap₂ (λ p x. pick p x false) s.is-protected (protected_right k d r c s) in
+    let s : Protected k d r c = u.genuine.protected_as in
+    let g : genuine_bytes k d r ≡ true = ap₂ (λ p x. pick p x false) s.is_protected (protected_right k d r c s) in
     let n : is_new course.width course.numbers r.number ≡ true
-    = is_new_lem course.width held course.numbers r.number (due_below course.width held course.numbers r.number u.recent) u.not-before in
+    = is_new_lem course.width held course.numbers r.number (due_below course.width held course.numbers r.number u.recent) u.not_before in
     let used : with_record k expected course d r ≡ record { width = course.width; numbers = r.number ∷ course.numbers; shut = content_shuts r.content (content_bytes k d r) expected }
-    = λ i. pick (u.not-shut i) course (pick (g i) (pick (n i) (record { width = course.width; numbers = r.number ∷ course.numbers; shut = content_shuts r.content (content_bytes k d r) expected }) course) course) in
+    = λ i. pick (u.not_shut i) course (pick (g i) (pick (n i) (record { width = course.width; numbers = r.number ∷ course.numbers; shut = content_shuts r.content (content_bytes k d r) expected }) course) course) in
     ap (λ x. accepted x.numbers r.number) used ∙ accepted_here r.number course.numbers
 
 course_more : (k : Keys) (expected : List ℕ) (es fs : List Event) (course : Course) → course_of k expected course (es ++ fs) ≡ course_of k expected (course_of k expected course es) fs
@@ -613,4 +613,4 @@ handed_once id secret width held acts sound is_open later between random d r ran
     = ap (λ es. accepted (course_from session width past es).numbers r.number) split
     ∙ ap (λ c. accepted c.numbers r.number) (course_more k expected (map event_of later) (map event_of (comes random d r ∷ between)) (course_at width past))
     ∙ grows k expected r.number (map event_of between) (with_record k expected (course_from session width past (map event_of later)) d r) used in
-    true_false (accepted (course_from session width past all).numbers r'.number) (ap (accepted (course_from session width past all).numbers) (sym same) ∙ still) second.1.not-before
+    true_false (accepted (course_from session width past all).numbers r'.number) (ap (accepted (course_from session width past all).numbers) (sym same) ∙ still) second.1.not_before

@@ -122,7 +122,7 @@ old_for width some [] s l = absurd (omega arith)
 old_for width some (t ∷ numbers) s l = record { n = highest_of (t ∷ numbers); was_accepted = highest_in t numbers; far = l }
 
 for_old : (width : ℕ) (numbers : List ℕ) (s : ℕ) → TooOldFor width numbers s → s + width ≤ highest_of numbers
-for_old width numbers s o = reached o.n (highest_of numbers) o.far (accepted_le numbers o.n o.was-accepted)
+for_old width numbers s o = reached o.n (highest_of numbers) o.far (accepted_le numbers o.n o.was_accepted)
   where
     reached : (n m : ℕ) → s + width ≤ n → n ≤ m → s + width ≤ m
     reached n m a b = omega arith
@@ -136,10 +136,10 @@ module _ (session : Session) {width : ℕ} (past : List Happened) (h : Handshake
     to_history c s = record { in_place = at; protected_as = subst (λ k. Protected k d r c) (keys_are session past h p l) s }
 
     of_history : (c : List ℕ) → Genuine (keys_in session past) d r c → Protected (keys_of h) d r c
-    of_history c s = subst (λ k. Protected k d r c) (sym (keys_are session past h p l)) s.protected-as
+    of_history c s = subst (λ k. Protected k d r c) (sym (keys_are session past h p l)) s.protected_as
 
     window_at_lem : accept_of h.protection.window r.number ≡ judged_in width (accepted_in past) r.number
-    window_at_lem = ap (λ w. accept_of w r.number) p.kept.window-is ∙ by_history width p.kept.held (accepted_in past) r.number
+    window_at_lem = ap (λ w. accept_of w r.number) p.kept.window_is ∙ by_history width p.kept.held (accepted_in past) r.number
 
     nine : ((judged_record h sent random d r).answer ≡ W.Refused X.Forged) ↔ ((c : List ℕ) → Genuine (keys_in session past) d r c → ⊥)
     nine = (
@@ -171,7 +171,7 @@ module _ (session : Session) {width : ℕ} (past : List Happened) (h : Handshake
           (row_repeated q.0.0 g (of_history q.0.0 q.0.1)
           (window_at_lem
           ∙ repeated_when width (accepted_in past) r.number
-          (below_all width (held_some width p.kept.held) (accepted_in past) r.number q.1.recent) q.1.was-accepted))),
+          (below_all width (held_some width p.kept.held) (accepted_in past) r.number q.1.recent) q.1.was_accepted))),
     )
 
     protected_exactly : ProtectedExactly session width past d r (judged_record h sent random d r).answer
@@ -191,7 +191,7 @@ module _ (session : Session) {width : ℕ} (past : List Happened) (h : Handshake
   not_barred : (b : Bool) → barred_in past ≡ b → (judged_record h sent random d r).answer ≡ W.Refused X.WrongFinished → barred_in past ≡ false
   not_barred false f e = f
   not_barred true f e =
-      let z : W.Refused X.Ended ≡ W.Refused X.WrongFinished = sym (ap (λ j. j.answer) (row_is h sent random d r (row_ended (inr (p.kept.barred-is f).0)))) ∙ e in
+      let z : W.Refused X.Ended ≡ W.Refused X.WrongFinished = sym (ap (λ j. j.answer) (row_is h sent random d r (row_ended (inr (p.kept.barred_is f).0)))) ∙ e in
       let n : ◌≡◌ {A = ℕ} 0 1 = cc in
       absurd (omega arith)
 

@@ -75,7 +75,7 @@ same_records rs qs f e g = cc
 
 two_silent : (k : Keys) → NoneGenuine k two
 two_silent k r c g =
-    true_false r.protected g.protected-as.is-protected
+    true_false r.protected g.protected_as.is_protected
     (in_two g.in_place.before r g.in_place.behind (same_records (one_of_two ∷ two_of_two ∷ []) (g.in_place.before ++ (r ∷ g.in_place.behind)) (framing_of two) two_framed g.in_place.framing))
 
 -- a fatal alert, number 7
@@ -92,7 +92,7 @@ fatal_row : Row w.h₃ no_records example_random fatal_datagram fatal_record (ju
 unfolding fatal_alert single w₀
 fatal_row =
     row_barred fatal_alert (w₇ example_width) (record { level = L.Fatal; description = D.SessionCloseNotify; checksum = 0 })
-    (new_7 w.h₃ w.open_is example_width example_held w.window-is fatal_datagram fatal_record fatal_alert refl (single_protected (keys_of w.h₃) C.Alert 7 (lit≤ tt) fatal_alert)) refl
+    (new_7 w.h₃ w.open_is example_width example_held w.window_is fatal_datagram fatal_record fatal_alert refl (single_protected (keys_of w.h₃) C.Alert 7 (lit≤ tt) fatal_alert)) refl
     (alert_back L.Fatal D.SessionCloseNotify 0 (omega arith)) refl
 
 fatal_framed : framing_of fatal_datagram ≡ framed (fatal_record ∷ [])
@@ -127,8 +127,8 @@ from_open_lem : (c : Connection) (s : SentRecords) → c ≡ connection_of w.h�
 unfolding Reboots
 from_open_lem c s e =
     subst (λ x. Rebooted step_of example_secret x (session_of example_id example_secret) sha_hello example_random example_out example_data sha_plan) (sym e)
-    (reboots example_id example_secret example_width example_held (connection_of w.h₃ none_started s) w.open_is w.planted-is (ap (λ x. x.width) w.window-is)
-    sha_hello example_random example_out example_data sha_plan refl (lit≤ tt) (λ z. other_hello (z ∙ w.kept-is ∙ example_greeted)) (λ h. none_hears h) sha_heard (lit≤ tt) (lit≤ tt))
+    (reboots example_id example_secret example_width example_held (connection_of w.h₃ none_started s) w.open_is w.planted_is (ap (λ x. x.width) w.window_is)
+    sha_hello example_random example_out example_data sha_plan refl (lit≤ tt) (λ z. other_hello (z ∙ w.kept_is ∙ example_greeted)) (λ h. none_hears h) sha_heard (lit≤ tt) (lit≤ tt))
 
 pub instances : Instances
 unfolding run w₀
@@ -139,7 +139,7 @@ instances =
         es = run;
         sound = opening_sound example_id example_secret example_random example_data refl example_walk;
         is_open = opening_open example_id example_secret example_random example_data refl example_walk;
-        just_open = record { is_open = opening_open example_id example_secret example_random example_data refl example_walk; width = example_width; held = example_held; window_is = ap (λ x. x.protection.window) run_leaves ∙ w.window-is };
+        just_open = record { is_open = opening_open example_id example_secret example_random example_data refl example_walk; width = example_width; held = example_held; window_is = ap (λ x. x.protection.window) run_leaves ∙ w.window_is };
         random = example_random;
         d = w.d₄;
         r = w.r₄;

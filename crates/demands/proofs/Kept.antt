@@ -96,7 +96,7 @@ module _ (session : Session) {width : ℕ} (past : List Happened) (h : Handshake
     where
       by_bar : (b : Bool) → barred_in past ≡ b → barred_in past ≡ false
       by_bar false f = f
-      by_bar true f = true_false (ended h.state) (ap ended (k.barred-is f).0) e
+      by_bar true f = true_false (ended h.state) (ap ended (k.barred_is f).0) e
 
   module _ (sent : SentRecords) (random d : List ℕ) (r : Record) where
     -- an answer that is no reply and bars nothing
@@ -107,7 +107,7 @@ module _ (session : Session) {width : ℕ} (past : List Happened) (h : Handshake
     kept_by x a nr nb es ea ek en ew st =
         let bar : pick (is_barred a) true (barred_in past) ≡ barred_in past = ap (λ b. pick b true (barred_in past)) nb in
         record {
-          session_is = λ f. es ∙ k.session-is (sym bar ∙ f);
+          session_is = λ f. es ∙ k.session_is (sym bar ∙ f);
           agreed_is = λ f. ea ∙ k.agreed_is (sym bar ∙ f) ∙ sym (ap (λ b. agreed_for session (pick b (greeting (fragment_of d r) random) (last_reply past))) nr);
           hello_is = λ f. ap (λ y. take y.heard y.hello) ek ∙ k.hello_is (sym bar ∙ f) ∙ sym (ap (λ b. hello_as (pick b (greeting (fragment_of d r) random) (kept_greeting past))) nr);
           reply_is = λ f. ap (λ y. take y.size y.reply) ek ∙ k.reply_is (sym bar ∙ f) ∙ sym (ap (λ b. reply_for session (pick b (greeting (fragment_of d r) random) (kept_greeting past))) nr);
@@ -117,9 +117,9 @@ module _ (session : Session) {width : ℕ} (past : List Happened) (h : Handshake
           held = k.held;
           barred_is = λ f. (
             st (sym bar ∙ f),
-            es ∙ (k.barred-is (sym bar ∙ f)).1,
-            ek ∙ (k.barred-is (sym bar ∙ f)).2,
-            ea ∙ (k.barred-is (sym bar ∙ f)).3 ∙ sym (ap (λ y. nothing_agreed y.mac y.refresh) ea),
+            es ∙ (k.barred_is (sym bar ∙ f)).1,
+            ek ∙ (k.barred_is (sym bar ∙ f)).2,
+            ea ∙ (k.barred_is (sym bar ∙ f)).3 ∙ sym (ap (λ y. nothing_agreed y.mac y.refresh) ea),
           );
         }
 
@@ -147,20 +147,20 @@ module _ (session : Session) {width : ℕ} (past : List Happened) (h : Handshake
     -- nothing changed
     refused_by : (x : Refusal) → marks (W.Refused x) ≡ false → KeptAs session width (answered random d r (W.Refused x) ∷ past) h
     refused_by x m =
-        kept_by h (W.Refused x) refl refl refl refl refl refl (k.window-is ∙ sym (ap (window_of width) (accepted_unmarked (W.Refused x) refl m))) (λ f. (k.barred-is f).0)
+        kept_by h (W.Refused x) refl refl refl refl refl refl (k.window_is ∙ sym (ap (window_of width) (accepted_unmarked (W.Refused x) refl m))) (λ f. (k.barred_is f).0)
 
     clear_by : (a : Answer) (x : Handshake) → is_reply a ≡ false → is_barred a ≡ false → is_spec a ≡ false → r.protected ≡ false
         → planted x ≡ planted h → agreed_of x ≡ agreed_of h → x.kept ≡ h.kept → sending_of x ≡ sending_of h → x.protection.window ≡ h.protection.window
         → ended h.state ≡ false → KeptAs session width (answered random d r a ∷ past) x
     clear_by a x nr nb ns p es ea ek en ew l =
-        kept_by x a nr nb es ea ek en (ew ∙ k.window-is ∙ sym (ap (window_of width) (accepted_clear a ns p)))
+        kept_by x a nr nb es ea ek en (ew ∙ k.window_is ∙ sym (ap (window_of width) (accepted_clear a ns p)))
         (λ f. true_false (barred_in past) f (live l))
 
     -- the mark of a new number
     window_marked : (c : List ℕ) (w : Window) → New h d r c w → (a : Answer) → is_spec a ≡ false → marks a ≡ true
         → w ≡ window_of width (accepted_in (answered random d r a ∷ past))
     window_marked c w n a ns m =
-        window_more width k.held (accepted_in past) r.number w n.arrived (sym (ap (λ y. accept_of y r.number) k.window-is) ∙ n.accepted)
+        window_more width k.held (accepted_in past) r.number w n.arrived (sym (ap (λ y. accept_of y r.number) k.window_is) ∙ n.accepted)
         ∙ sym (ap (window_of width) (accepted_marked a ns m n.guarded.protection))
 
     marked_by : (c : List ℕ) (w : Window) → New h d r c w → (a : Answer) (s : State) → is_reply a ≡ false → is_barred a ≡ false → is_spec a ≡ false
@@ -176,7 +176,7 @@ module _ (session : Session) {width : ℕ} (past : List Happened) (h : Handshake
         let m : List ℕ = fragment_of d r in
         let reply : List ℕ = reply_to (planted h) random m plan in
         let l : barred_in past ≡ false = live (greets_live h d r g.another) in
-        let es : planted h ≡ session = k.session-is l in
+        let es : planted h ≡ session = k.session_is l in
         record {
           session_is = λ f. es;
           agreed_is = λ f. ap (agreed_as (planted h) random m) (sym e) ∙ ap (λ s. agreed_as s random m (heard_of m s.id)) es;
@@ -185,7 +185,7 @@ module _ (session : Session) {width : ℕ} (past : List Happened) (h : Handshake
               ∙ ap (reply_heard (planted h) random m) (sym e) ∙ ap (λ s. reply_heard s random m (heard_of m s.id)) es;
           protected_is = refl;
           clear_is = refl;
-          window_is = k.window-is ∙ sym (ap (window_of width) (accepted_unmarked (W.Reply (length reply)) refl refl));
+          window_is = k.window_is ∙ sym (ap (window_of width) (accepted_unmarked (W.Reply (length reply)) refl refl));
           held = k.held;
           barred_is = λ f. true_false (barred_in past) f l;
         }
@@ -208,7 +208,7 @@ module _ (session : Session) {width : ℕ} (past : List Happened) (h : Handshake
 
     fresh_again : emptied h.protection.window ≡ window_of width (accepted_in (answered random d r W.Spec ∷ past))
     unfolding accepted_in
-    fresh_again = ap emptied k.window-is ∙ fresh_means width
+    fresh_again = ap emptied k.window_is ∙ fresh_means width
 
     -- the rows
     pub by_row : {j : Judged} → Row h sent random d r j → KeptAs session width (answered random d r j.answer ∷ past) j.handshake
@@ -249,15 +249,15 @@ module _ (session : Session) {width : ℕ} (past : List Happened) (h : Handshake
   unfolding last_reply kept_greeting protected_next next_clear_number accepted_in barred_in
   refused_more =
       record {
-        session_is = k.session-is;
+        session_is = k.session_is;
         agreed_is = k.agreed_is;
         hello_is = k.hello_is;
         reply_is = k.reply_is;
         protected_is = k.protected_is;
         clear_is = k.clear_is;
-        window_is = k.window-is;
+        window_is = k.window_is;
         held = k.held;
-        barred_is = k.barred-is;
+        barred_is = k.barred_is;
       }
 
   -- a record of ours
@@ -265,40 +265,40 @@ module _ (session : Session) {width : ℕ} (past : List Happened) (h : Handshake
   unfolding last_reply kept_greeting protected_next next_clear_number accepted_in barred_in
   wrote_more true front =
       record {
-        session_is = k.session-is;
+        session_is = k.session_is;
         agreed_is = k.agreed_is;
         hello_is = k.hello_is;
         reply_is = k.reply_is;
         protected_is = ap (λ n. n + 1) k.protected_is;
         clear_is = k.clear_is;
-        window_is = k.window-is;
+        window_is = k.window_is;
         held = k.held;
-        barred_is = k.barred-is;
+        barred_is = k.barred_is;
       }
   wrote_more false front =
       record {
-        session_is = k.session-is;
+        session_is = k.session_is;
         agreed_is = k.agreed_is;
         hello_is = k.hello_is;
         reply_is = k.reply_is;
         protected_is = k.protected_is;
         clear_is = ap (λ n. n + 1) k.clear_is;
-        window_is = k.window-is;
+        window_is = k.window_is;
         held = k.held;
-        barred_is = k.barred-is;
+        barred_is = k.barred_is;
       }
 
   closed_more : barred_in past ≡ false → KeptAs session width (closed ∷ past) (with_state h S.Closed)
   unfolding last_reply kept_greeting protected_next next_clear_number accepted_in barred_in
   closed_more l =
       record {
-        session_is = k.session-is;
+        session_is = k.session_is;
         agreed_is = k.agreed_is;
         hello_is = k.hello_is;
         reply_is = k.reply_is;
         protected_is = k.protected_is;
         clear_is = k.clear_is;
-        window_is = k.window-is;
+        window_is = k.window_is;
         held = k.held;
         barred_is = λ f. true_false (barred_in past) f l;
       }
@@ -307,20 +307,20 @@ module _ (session : Session) {width : ℕ} (past : List Happened) (h : Handshake
   unfolding last_reply kept_greeting protected_next next_clear_number accepted_in barred_in nothing_kept
   started_more l =
       record {
-        session_is = k.session-is;
+        session_is = k.session_is;
         agreed_is = k.agreed_is;
         hello_is = λ f. refl;
         reply_is = λ f. refl;
         protected_is = k.protected_is;
         clear_is = k.clear_is;
-        window_is = ap emptied k.window-is ∙ fresh_means width;
+        window_is = ap emptied k.window_is ∙ fresh_means width;
         held = k.held;
         barred_is = λ f. true_false (barred_in past) f l;
       }
 
   not_barred : (h.state ≢ S.Barred) → (b : Bool) → barred_in past ≡ b → barred_in past ≡ false
   not_barred n false f = f
-  not_barred n true f = absurd (n (k.barred-is f).0)
+  not_barred n true f = absurd (n (k.barred_is f).0)
 
   by_data : (bytes out : List ℕ) {s : Step} → CallRow (alone h) (send_data bytes out) s
       → KeptAs session width (if_done (outcome_in s.result) (wrote true (take (written_by s.result) s.output)) ∷ past) s.connection.handshake
@@ -356,7 +356,7 @@ module _ (session : Session) {width : ℕ} (past : List Happened) (h : Handshake
       live_closed : (b : Bool) → barred_in past ≡ b → barred_in past ≡ false
       live_closed false f = f
       live_closed true f =
-          let z : S.Closed ≡ S.Barred = sym e ∙ (k.barred-is f).0 in let w : ◌≡◌ {A = ℕ} 0 1 = cc in absurd (omega arith)
+          let z : S.Closed ≡ S.Barred = sym e ∙ (k.barred_is f).0 in let w : ◌≡◌ {A = ℕ} 0 1 = cc in absurd (omega arith)
 
   pub kept_more : (e : Event) → KeptAs session width (happening h e ∷ past) (next h e)
   unfolding step_of

@@ -221,9 +221,9 @@ silent_at (x ∷ slots) (suc n) s = silent_at slots n s.1
 trans : (t u v : Tally) → ButForged t u → ButForged u v → ButForged t v
 trans t u v a b =
     record {
-      handed_same = a.handed-same ∙ b.handed-same;
-      old_same = a.old-same ∙ b.old-same;
-      repeated_same = a.repeated-same ∙ b.repeated-same;
+      handed_same = a.handed_same ∙ b.handed_same;
+      old_same = a.old_same ∙ b.old_same;
+      repeated_same = a.repeated_same ∙ b.repeated_same;
     }
 
 counted_silent : (t : Tally) (slots : List Slot) → SlotsSilent slots → (n : ℕ) → ButForged (counted_first t slots n) t
@@ -240,9 +240,9 @@ module _ (t u : Tally) (b : ButForged t u) where
   alike_refusal X.Room = b
   alike_refusal X.Ended = b
   alike_refusal X.NotAllowed = b
-  alike_refusal X.Forged = record { handed_same = b.handed-same; old_same = b.old-same; repeated_same = b.repeated-same }
-  alike_refusal X.TooOld = record { handed_same = b.handed-same; old_same = ap bumped b.old-same; repeated_same = b.repeated-same }
-  alike_refusal X.Repeated = record { handed_same = b.handed-same; old_same = b.old-same; repeated_same = ap bumped b.repeated-same }
+  alike_refusal X.Forged = record { handed_same = b.handed_same; old_same = b.old_same; repeated_same = b.repeated_same }
+  alike_refusal X.TooOld = record { handed_same = b.handed_same; old_same = ap bumped b.old_same; repeated_same = b.repeated_same }
+  alike_refusal X.Repeated = record { handed_same = b.handed_same; old_same = b.old_same; repeated_same = ap bumped b.repeated_same }
   alike_refusal X.Malformed = b
   alike_refusal X.Unacceptable = b
   alike_refusal X.Checksum = b
@@ -257,7 +257,7 @@ module _ (t u : Tally) (b : ButForged t u) where
   alike W.Spec = b
   alike W.Open = b
   alike W.Again = b
-  alike (W.Data number place size) = record { handed_same = ap bumped b.handed-same; old_same = b.old-same; repeated_same = b.repeated-same }
+  alike (W.Data number place size) = record { handed_same = ap bumped b.handed_same; old_same = b.old_same; repeated_same = b.repeated_same }
   alike (W.Warning description) = b
   alike (W.Critical description) = b
   alike (W.Fatal description) = b
@@ -313,7 +313,7 @@ module _ (h : Handshake) (sent : SentRecords) (random d : List ℕ) (r : Record)
   -- a clear record is silent, and opens nothing
   module _ (p : r.protected ≡ false) where
     not_coded : {P : Type 0} (c : List ℕ) → Protected (keys_of h) d r c → P
-    not_coded c s = true_false r.protected s.is-protected p
+    not_coded c s = true_false r.protected s.is_protected p
 
     closed_never : S.Closed ≡ S.Open → ⊥
     closed_never z = let w : ◌≡◌ {A = ℕ} 0 1 = cc in omega arith
@@ -384,7 +384,7 @@ module _ (c : Connection) (random d : List ℕ) (r : Record) where
       by_whom A.Only e = absurd (only_asked c d r (subst (Asks c d r) e (asks_of c d r)) refl o)
       by_whom A.Open e =
           noise_by A.Open e
-          (open_noise c.handshake c.sent random d r (λ x s. true_false r.protected s.is-protected p) o (row_of c.handshake c.sent random d r))
+          (open_noise c.handshake c.sent random d r (λ x s. true_false r.protected s.is_protected p) o (row_of c.handshake c.sent random d r))
       by_whom A.Started e =
           let q = clear_row c.started c.sent random d r p (row_of c.started c.sent random d r) in
           let n = q.1 (hears_not_open c.started.state (started_hears c random d r (subst (Asks c d r) e (asks_of c d r)) refl)) in
@@ -577,13 +577,13 @@ alike_at (a ∷ xs) (b ∷ ys) zero x = x.0
 alike_at (a ∷ xs) (b ∷ ys) (suc n) x = alike_at xs ys n x.1
 
 back : (t u : Tally) → ButForged t u → ButForged u t
-back t u b = record { handed_same = sym b.handed-same; old_same = sym b.old-same; repeated_same = sym b.repeated-same }
+back t u b = record { handed_same = sym b.handed_same; old_same = sym b.old_same; repeated_same = sym b.repeated_same }
 
 alike_answer : (t u : Tally) → ButForged t u → (a b : Answer) → Alike a b → ButForged (counted_answer t a) (counted_answer u b)
 unfolding Alike
 alike_answer t u x a b (inl e) = subst (λ y. ButForged (counted_answer t a) (counted_answer u y)) e (alike t u x a)
 alike_answer t u x a b (inr (s, v)) =
-    trans (counted_answer t a) t (counted_answer u b) (s.no-count t) (trans t u (counted_answer u b) x (back (counted_answer u b) u (v.no-count u)))
+    trans (counted_answer t a) t (counted_answer u b) (s.no_count t) (trans t u (counted_answer u b) x (back (counted_answer u b) u (v.no_count u)))
 
 alike_slots : (t u : Tally) → ButForged t u → (xs ys : List Slot) → SlotsAlike xs ys → (n : ℕ) → ButForged (counted_first t xs n) (counted_first u ys n)
 unfolding counted_first

@@ -361,11 +361,11 @@ module _ (id secret : List ℕ) (width : ℕ) (held : Held width) where
   pub newcomer_fresh : (es : List Event) → (after fresh es).state ≡ S.Open → newcomer_to (after fresh es) ≡ fresh
   newcomer_fresh es o =
       let k : KeptAs (session_of id secret) width (history fresh es []) (after fresh es) = kept_all (session_of id secret) es [] fresh (kept_fresh id secret width held) in
-      ap₂ (λ s w. new_handshake s w S.Idle) (k.session-is (live (session_of id secret) (history fresh es []) (after fresh es) k (ap ended o))) (ap (λ w. w.width) k.window-is)
+      ap₂ (λ s w. new_handshake s w S.Idle) (k.session_is (live (session_of id secret) (history fresh es []) (after fresh es) k (ap ended o))) (ap (λ w. w.width) k.window_is)
 
   module _ (l : Lives) (c : Connection) (v : Lived fresh l c) where
     own_more : (e : Event) → next c.handshake e ≡ after fresh (more l.own e)
-    own_more e = ap (λ h. next h e) v.own-life ∙ sym (after_more fresh l.own e)
+    own_more e = ap (λ h. next h e) v.own_life ∙ sym (after_more fresh l.own e)
 
     -- a started handshake that hears has a life
     pub alive : Hears c.started.state → c.started ≡ after fresh l.beside
@@ -373,15 +373,15 @@ module _ (id secret : List ℕ) (width : ℕ) (held : Held width) where
       where
         by_life : (es : List Event) → l.beside ≡ es → c.started ≡ after fresh l.beside
         by_life [] e =
-            idle_hears_not (subst Hears (ap (λ x. x.state) (v.beside-life ∙ ap (beside_of fresh) e)) s)
-        by_life (x ∷ es) e = v.beside-life ∙ ap (beside_of fresh) e ∙ sym (ap (after fresh) e)
+            idle_hears_not (subst Hears (ap (λ x. x.state) (v.beside_life ∙ ap (beside_of fresh) e)) s)
+        by_life (x ∷ es) e = v.beside_life ∙ ap (beside_of fresh) e ∙ sym (ap (after fresh) e)
 
     -- so it is not open; and one that has a life is under way
     not_open : c.started.state ≢ S.Open
-    not_open = told v.under-way
+    not_open = told v.under_way_lem
       where
         told : (l.beside ≡ []) ⊎ Hears c.started.state → c.started.state ≢ S.Open
-        told (inl e) z = idle_never (sym (ap (λ x. x.state) (v.beside-life ∙ ap (beside_of fresh) e)) ∙ z)
+        told (inl e) z = idle_never (sym (ap (λ x. x.state) (v.beside_life ∙ ap (beside_of fresh) e)) ∙ z)
         told (inr s) z = hears_not_open c.started.state s z
 
     alive_hears : {x : Event} {es : List Event} → l.beside ≡ x ∷ es → (l.beside ≡ []) ⊎ Hears c.started.state → Hears c.started.state
@@ -407,7 +407,7 @@ module _ (id secret : List ℕ) (width : ℕ) (held : Held width) where
       by_open S.Idle e = record { own_life = own_more event; beside_life = refl; only_open = λ _. refl; under_way_lem = inl refl }
       by_open S.Replied e = record { own_life = own_more event; beside_life = refl; only_open = λ _. refl; under_way_lem = inl refl }
       by_open S.Spec e = record { own_life = own_more event; beside_life = refl; only_open = λ _. refl; under_way_lem = inl refl }
-      by_open S.Open e = record { own_life = own_more event; beside_life = v.beside-life; only_open = λ n. absurd (n e); under_way_lem = v.under-way }
+      by_open S.Open e = record { own_life = own_more event; beside_life = v.beside_life; only_open = λ n. absurd (n e); under_way_lem = v.under_way_lem }
       by_open S.Closed e = record { own_life = own_more event; beside_life = refl; only_open = λ _. refl; under_way_lem = inl refl }
       by_open S.Barred e = record { own_life = own_more event; beside_life = refl; only_open = λ _. refl; under_way_lem = inl refl }
 
@@ -418,25 +418,25 @@ module _ (id secret : List ℕ) (width : ℕ) (held : Held width) where
           (goes_on (asked_of c A.Started) c.sent random d r (row_of (asked_of c A.Started) c.sent random d r) (hears_on c.started.state s))
       by_started o s S.Replied e =
           record {
-            own_life = v.own-life;
+            own_life = v.own_life;
             beside_life = beside_event s ∙ sym (beside_more fresh l.beside event);
             only_open = λ n. absurd (n o);
             under_way_lem = inr (inl e);
           }
       by_started o s S.Spec e =
           record {
-            own_life = v.own-life;
+            own_life = v.own_life;
             beside_life = beside_event s ∙ sym (beside_more fresh l.beside event);
             only_open = λ n. absurd (n o);
             under_way_lem = inr (inr e);
           }
       by_started o s S.Open e = record { own_life = beside_event s; beside_life = refl; only_open = λ _. refl; under_way_lem = inl refl }
-      by_started o s S.Closed e = record { own_life = v.own-life; beside_life = refl; only_open = λ _. refl; under_way_lem = inl refl }
-      by_started o s S.Barred e = record { own_life = v.own-life; beside_life = refl; only_open = λ _. refl; under_way_lem = inl refl }
+      by_started o s S.Closed e = record { own_life = v.own_life; beside_life = refl; only_open = λ _. refl; under_way_lem = inl refl }
+      by_started o s S.Barred e = record { own_life = v.own_life; beside_life = refl; only_open = λ _. refl; under_way_lem = inl refl }
 
       newcomer_is : c.handshake.state ≡ S.Open → newcomer_to c.handshake ≡ fresh
       newcomer_is o =
-          ap newcomer_to v.own-life ∙ newcomer_fresh l.own (sym (ap (λ h. h.state) v.own-life) ∙ o)
+          ap newcomer_to v.own_life ∙ newcomer_fresh l.own (sym (ap (λ h. h.state) v.own_life) ∙ o)
 
       new_event : c.handshake.state ≡ S.Open → (by A.Newcomer).handshake ≡ after fresh (event ∷ [])
       unfolding after
@@ -446,21 +446,21 @@ module _ (id secret : List ℕ) (width : ℕ) (held : Held width) where
           → Lived fresh (new_lives l event b) (connection_of c.handshake (pick b (by A.Newcomer).handshake c.started) (sent_with c (by A.Newcomer)))
       by_newcomer o true e =
           record {
-            own_life = v.own-life;
+            own_life = v.own_life;
             beside_life = new_event o;
             only_open = λ n. absurd (n o);
             under_way_lem = inr (way_hears (by A.Newcomer).handshake.state e);
           }
       by_newcomer o false e =
-          record { own_life = v.own-life; beside_life = v.beside-life; only_open = v.only-open; under_way_lem = v.under-way }
+          record { own_life = v.own_life; beside_life = v.beside_life; only_open = v.only_open; under_way_lem = v.under_way_lem }
 
       by_whom : (w : Whom) → whom_of c d r ≡ w → Lived fresh (told_lives l event w (by w).handshake.state) (left_by c w (by w))
       by_whom A.Only e =
           record {
             own_life = own_more event;
-            beside_life = v.beside-life;
-            only_open = λ _. v.only-open (only_asked c d r (subst (Asks c d r) e (asks_of c d r)) refl);
-            under_way_lem = v.under-way;
+            beside_life = v.beside_life;
+            only_open = λ _. v.only_open (only_asked c d r (subst (Asks c d r) e (asks_of c d r)) refl);
+            under_way_lem = v.under_way_lem;
           }
       by_whom A.Open e = by_open (by A.Open).handshake.state refl
       by_whom A.Started e =
@@ -477,8 +477,8 @@ module _ (id secret : List ℕ) (width : ℕ) (held : Held width) where
 
       pub asked_life : (w : Whom) → whom_of c d r ≡ w → asked_of c w ≡ after fresh (life_of l w)
       unfolding after
-      asked_life A.Only e = v.own-life
-      asked_life A.Open e = v.own-life
+      asked_life A.Only e = v.own_life
+      asked_life A.Open e = v.own_life
       asked_life A.Started e = alive (started_hears c random d r (subst (Asks c d r) e (asks_of c d r)) refl)
       asked_life A.Newcomer e =
           newcomer_is (open_asked c d r (subst (Asks c d r) e (asks_of c d r)) (λ z. let w : ◌≡◌ {A = ℕ} 0 1 = cc in omega arith))
@@ -489,9 +489,9 @@ module _ (id secret : List ℕ) (width : ℕ) (held : Held width) where
     own_only e then h s z =
         record {
           own_life = h ∙ own_more e;
-          beside_life = s ∙ v.beside-life;
-          only_open = λ n. v.only-open (λ o. n (z ∙ o));
-          under_way_lem = still v.under-way (ap (λ x. x.state) s);
+          beside_life = s ∙ v.beside_life;
+          only_open = λ n. v.only_open (λ o. n (z ∙ o));
+          under_way_lem = still v.under_way_lem (ap (λ x. x.state) s);
         }
 
     sends_more : (bytes out : List ℕ) → Lived fresh (lives_at c l (sends bytes out)) (leaves c (sends bytes out))
@@ -521,9 +521,9 @@ module _ (id secret : List ℕ) (width : ℕ) (held : Held width) where
     unfolding alert_sent
     clear_life level description lent out o [] e =
         let q = clear_left_beside c lent (length out) (level_of level) (sorted_of description) o not_open in
-        let none : c.started ≡ none_started = v.beside-life ∙ ap (beside_of fresh) e in
+        let none : c.started ≡ none_started = v.beside_life ∙ ap (beside_of fresh) e in
         record {
-          own_life = q.1 ∙ v.own-life;
+          own_life = q.1 ∙ v.own_life;
           beside_life = q.0 ∙ ap (λ h. next h (alerting false level description lent out)) none ∙ none_next level description lent out;
           only_open = λ _. refl;
           under_way_lem = inl refl;
@@ -531,12 +531,12 @@ module _ (id secret : List ℕ) (width : ℕ) (held : Held width) where
     clear_life level description lent out o (x ∷ es) e =
         let event : Event = alerting false level description lent out in
         let q = clear_left_beside c lent (length out) (level_of level) (sorted_of description) o not_open in
-        let lives : c.started ≡ after fresh (x ∷ es) = v.beside-life ∙ ap (beside_of fresh) e in
+        let lives : c.started ≡ after fresh (x ∷ es) = v.beside_life ∙ ap (beside_of fresh) e in
         record {
-          own_life = q.1 ∙ v.own-life;
+          own_life = q.1 ∙ v.own_life;
           beside_life = q.0 ∙ ap (λ h. next h event) lives ∙ sym (after_more fresh (x ∷ es) event);
           only_open = λ n. absurd (n (ap (λ h. h.state) q.1 ∙ o));
-          under_way_lem = inr (subst Hears (sym q.2) (alive_hears e v.under-way));
+          under_way_lem = inr (subst Hears (sym q.2) (alive_hears e v.under_way_lem));
         }
 
     clear_more : (level description : ℕ) (lent out : List ℕ) (s : State) → c.handshake.state ≡ s
@@ -566,7 +566,7 @@ module _ (id secret : List ℕ) (width : ℕ) (held : Held width) where
     closes_more S.Barred e =
         record {
           own_life = closed_life S.Barred e;
-          beside_life = v.beside-life ∙ ap (beside_of fresh) (v.only-open (λ z. let y : S.Barred ≡ S.Open = sym e ∙ z in let w : ◌≡◌ {A = ℕ} 0 1 = cc in omega arith));
+          beside_life = v.beside_life ∙ ap (beside_of fresh) (v.only_open (λ z. let y : S.Barred ≡ S.Open = sym e ∙ z in let w : ◌≡◌ {A = ℕ} 0 1 = cc in omega arith));
           only_open = λ _. refl;
           under_way_lem = inl refl;
         }
@@ -576,7 +576,7 @@ module _ (id secret : List ℕ) (width : ℕ) (held : Held width) where
 
     unstarted : (s : State) → c.handshake.state ≡ s → (started_in (alone c.handshake) s).connection.handshake ≡ c.handshake
         → Lived fresh (record { own = more l.own starting; beside = l.beside }) c
-    unstarted s e q = record { own_life = sym q ∙ start_life s e; beside_life = v.beside-life; only_open = v.only-open; under_way_lem = v.under-way }
+    unstarted s e q = record { own_life = sym q ∙ start_life s e; beside_life = v.beside_life; only_open = v.only_open; under_way_lem = v.under_way_lem }
 
     starts_more : (s : State) → c.handshake.state ≡ s → Lived fresh (record { own = more l.own starting; beside = l.beside }) (started_in c s).connection
     starts_more S.Idle e = unstarted S.Idle e refl
@@ -584,7 +584,7 @@ module _ (id secret : List ℕ) (width : ℕ) (held : Held width) where
     starts_more S.Spec e = unstarted S.Spec e refl
     starts_more S.Open e = unstarted S.Open e refl
     starts_more S.Closed e =
-        let none : l.beside ≡ [] = v.only-open (λ z. let y : S.Closed ≡ S.Open = sym e ∙ z in let w : ◌≡◌ {A = ℕ} 0 1 = cc in omega arith) in
+        let none : l.beside ≡ [] = v.only_open (λ z. let y : S.Closed ≡ S.Open = sym e ∙ z in let w : ◌≡◌ {A = ℕ} 0 1 = cc in omega arith) in
         record { own_life = start_life S.Closed e; beside_life = sym (ap (beside_of fresh) none); only_open = λ _. none; under_way_lem = inl none }
     starts_more S.Barred e = unstarted S.Barred e refl
 
@@ -713,5 +713,5 @@ only_after_finished_of_open id secret width held acts sound random d r z =
     let o : c.handshake.state ≡ S.Open = (data_asked c random d r z).0 in (
       o,
       (progress_all (session_of id secret) l.own [] (fresh_with id secret width) (lives_sound_at id secret width acts sound).0 (progress_fresh id secret width held)).verified
-          (sym (ap (λ h. h.state) v.own-life) ∙ o),
+          (sym (ap (λ h. h.state) v.own_life) ∙ o),
     )

@@ -92,7 +92,7 @@ pub messages_leave_out : MessagesLeaveOut
 unfolding MessagesLeaveOut LeavesOut
 messages_leave_out c is_open g g' ps ps' out =
     let same = leaves_out c c refl is_open (calls_in g ps) (calls_in g' ps') out in (
-      ap (λ x. x.handshake) (connections (record { connection = c; gathering = g }) ps) ∙ same.same-open
+      ap (λ x. x.handshake) (connections (record { connection = c; gathering = g }) ps) ∙ same.same_open
           ∙ sym (ap (λ x. x.handshake) (connections (record { connection = c; gathering = g' }) ps')),
-      same.same-handed,
+      same.same_handed,
     )

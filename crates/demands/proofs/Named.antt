@@ -121,7 +121,7 @@ version =
 -- ---- too old, and repeated
 
 for_open : (x : Handshake) (d : List ℕ) (r : Record) → x.state ≡ S.Open → r.protected ≡ true → Asks (alone x) d r A.Open
-for_open x d r o p = asks_protected o p (λ q. let z : S.Idle ≡ S.Spec = q.in-spec in let n : ◌≡◌ {A = ℕ} 0 1 = cc in omega arith)
+for_open x d r o p = asks_protected o p (λ q. let z : S.Idle ≡ S.Spec = q.in_spec in let n : ◌≡◌ {A = ℕ} 0 1 = cc in omega arith)
 
 old_reason : (why_of 2 (alone (with_window h w₈₀)) (data_with 7 seven) example_random 0).reason ≡ R.TooOld U.Open 7 80 16
 unfolding reason_by limit_of w₈₀ held_width single

@@ -123,7 +123,7 @@ module _ (c : Connection) (d : List ℕ) (r : Record) (x : Refusal) where
   by_whom K.Open (asks_protected o p n) = open_place o
   by_whom K.Started (asks_its_hello o i f h k) = started_place_lem h
   by_whom K.Started (asks_clear o p n h) = started_place_lem h
-  by_whom K.Started (asks_right b) = started_place_lem (inr b.in-spec)
+  by_whom K.Started (asks_right b) = started_place_lem (inr b.in_spec)
   by_whom K.Newcomer (asks_new_hello o i f n k) = newcomer_place
   by_whom K.Newcomer (asks_clear_alone o p n h) = newcomer_place
 

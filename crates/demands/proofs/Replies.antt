@@ -54,7 +54,7 @@ module _ (session : Session) {width : ℕ} (past : List Happened) (h : Handshake
   unfolding answered_with
   replied plan g e =
       let m : List ℕ = fragment_of d r in
-      let es : planted h ≡ session = k.session-is (live session past h k (greets_live h d r g.another)) in
+      let es : planted h ≡ session = k.session_is (live session past h k (greets_live h d r g.another)) in
       let reply : List ℕ = reply_to (planted h) random m plan in
       let same : reply ≡ reply_to session random m plan = ap (λ s. reply_to s random m plan) es in (
         reply_to session random m plan,

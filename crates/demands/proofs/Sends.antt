@@ -140,7 +140,7 @@ module _ (session : Session) {width : ℕ} (past : List Happened) (c : Connectio
   alert_by_lem protected p level description l k lent out el ek (alert_6 g e n m) x = refused_done X.Room x
   alert_by_lem protected p level description l k lent out el ek (alert_sent_lem {l = v} {k = m} g e n q) x =
       let ev : v ≡ l = one_level l v (level_of level) el g.level_is in
-      let em : m ≡ k = one_description k m (sorted_of description) ek g.description-is in
+      let em : m ≡ k = one_description k m (sorted_of description) ek g.description_is in
       let bytes : List ℕ = next_alert protected (sender_of protected c) (alert_body v m lent) in
       subst (AlertRecord protected (keys_in session past) past (alert_body l k lent)) (sym (laid_front out bytes))
       (subst (λ b. AlertRecord protected (keys_in session past) past (alert_body l k lent) b)
@@ -169,16 +169,16 @@ module _ (id secret : List ℕ) (width : ℕ) (held : Held width) (l : Lives) (c
   clear_hears S.Barred e = true_false false e refl
 
   clear_lives_lem : (s : State) → may_alert false (clear_sender c s).state ≡ true → clear_sender c s ≡ after (fresh_with id secret width) (clear_sender_life l s)
-  clear_lives_lem S.Idle e = v.own-life
-  clear_lives_lem S.Replied e = v.own-life
-  clear_lives_lem S.Spec e = v.own-life
+  clear_lives_lem S.Idle e = v.own_life
+  clear_lives_lem S.Replied e = v.own_life
+  clear_lives_lem S.Spec e = v.own_life
   clear_lives_lem S.Open e = alive id secret width held l c v (clear_hears c.started.state e)
-  clear_lives_lem S.Closed e = v.own-life
-  clear_lives_lem S.Barred e = v.own-life
+  clear_lives_lem S.Closed e = v.own_life
+  clear_lives_lem S.Barred e = v.own_life
 
   sender_lives : (protected : Bool) → may_alert protected (sender_of protected c).state ≡ true
       → sender_of protected c ≡ after (fresh_with id secret width) (sender_life l protected c.handshake.state)
-  sender_lives true e = v.own-life
+  sender_lives true e = v.own_life
   sender_lives false e = clear_lives_lem c.handshake.state e
 
   module _ (own_sound : AllSound l.own) (beside_sound : AllSound l.beside) where

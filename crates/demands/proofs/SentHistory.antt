@@ -223,7 +223,7 @@ module _ (id secret : List ℕ) (width : ℕ) (l8 : length id ≡ 8) (held : Hel
       let h : Handshake = after (fresh_with id secret width) es in
       let past : List Happened = history (fresh_with id secret width) es [] in
       let k : KeptAs session width past h = kept_all session es [] (fresh_with id secret width) (kept_fresh id secret width held) in
-      k.session-is (live session past h k (greets_live h d r g.another))
+      k.session_is (live session past h k (greets_live h d r g.another))
 
   comes_sums : (l : Lives) (c : Connection) (past : List Happened) → Lived (fresh_with id secret width) l c → Sums session c past
       → (random d : List ℕ) (r : Record) → length random ≡ 16 → Sums session (told_record c random d r).connection (answered random d r (told_record c random d r).answer ∷ past)

@@ -109,7 +109,7 @@ module _ (h : Handshake) (is_open : h.state ≡ S.Open) (width : ℕ) (held : He
   pub new_7 : (d : List ℕ) (r : Record) (c : List ℕ) → r.number ≡ 7 → Protected (keys_of h) d r c → New h d r c (w₇ width)
   new_7 d r c e s =
       record {
-        guarded = guarded d r s.is-protected;
+        guarded = guarded d r s.is_protected;
         coded = s;
         arrived = arrived_of width (7 ∷ 0 ∷ []);
         accepted = ap₂ (λ w n. accept_of w n) window_is e ∙ takes_7 width held;
@@ -118,7 +118,7 @@ module _ (h : Handshake) (is_open : h.state ≡ S.Open) (width : ℕ) (held : He
   new_8 : (d : List ℕ) (r : Record) (c : List ℕ) → r.number ≡ 8 → Protected (keys_of h) d r c → New (with_window h (w₇ width)) d r c (w₈ width)
   new_8 d r c e s =
       record {
-        guarded = guarded d r s.is-protected;
+        guarded = guarded d r s.is_protected;
         coded = s;
         arrived = arrived_of width (8 ∷ 7 ∷ 0 ∷ []);
         accepted = ap (accept_of (w₇ width)) e ∙ takes_8 width held;
@@ -126,7 +126,7 @@ module _ (h : Handshake) (is_open : h.state ≡ S.Open) (width : ℕ) (held : He
 
   repeated_7 : (sent : SentRecords) (random d : List ℕ) (r : Record) (c : List ℕ) → r.number ≡ 7 → Protected (keys_of h) d r c
       → Row (with_window h (w₇ width)) sent random d r (refusing X.Repeated (with_window h (w₇ width)))
-  repeated_7 sent random d r c e s = row_repeated c (guarded d r s.is-protected) s (ap (accept_of (w₇ width)) e ∙ again_7 width held)
+  repeated_7 sent random d r c e s = row_repeated c (guarded d r s.is_protected) s (ap (accept_of (w₇ width)) e ∙ again_7 width held)
 
 -- ---- a record alone in its datagram
 
@@ -154,10 +154,10 @@ empty_then_data c o random out bytes lr lo most =
     let j : Judged = refusing X.Malformed (with_window h (w₇ o.width)) in
     let g : Judged = refusing X.Repeated (with_window h (w₇ o.width)) in
     let row : Row h c.sent random d r j
-    = row_malformed [] (w₇ o.width) (new_7 h o.is_open o.width o.held o.window-is d r [] refl (single_protected k C.Data 7 (omega arith) [])) refl in
+    = row_malformed [] (w₇ o.width) (new_7 h o.is_open o.width o.held o.window_is d r [] refl (single_protected k C.Data 7 (omega arith) [])) refl in
     let c₁ : Connection = left_by c Y.Open j in
     let again : Row (with_window h (w₇ o.width)) c₁.sent random e q g
-    = repeated_7 h o.is_open o.width o.held o.window-is c₁.sent random e q bytes refl (single_protected k C.Data 7 (omega arith) bytes) in
+    = repeated_7 h o.is_open o.width o.held o.window_is c₁.sent random e q bytes refl (single_protected k C.Data 7 (omega arith) bytes) in
     let first = open_tells c random d r j o.is_open refl data_no row in
     let f = single_framed k C.Data 7 (omega arith) [] (omega arith) in (
       result_by c d random out r [] (open_by c j) [] c₁ lr lo f first refl chain_end,
@@ -236,9 +236,9 @@ twice_in_one c o random out one two lr lo some most most' =
     let two-j : Judged = refusing X.Repeated (with_window h (w₇ o.width)) in
     let c₁ : Connection = left_by c Y.Open one-j in
     let first : Row h c.sent random d r one-j
-    = row_data one (w₇ o.width) (new_7 h o.is_open o.width o.held o.window-is d r one refl (front_protected k C.Data C.Data 7 7 i i one two b most)) refl some in
+    = row_data one (w₇ o.width) (new_7 h o.is_open o.width o.held o.window_is d r one refl (front_protected k C.Data C.Data 7 7 i i one two b most)) refl some in
     let second : Row (with_window h (w₇ o.width)) c₁.sent random d q two-j
-    = repeated_7 h o.is_open o.width o.held o.window-is c₁.sent random d q two refl (end_protected k C.Data 7 i two a n at) in
+    = repeated_7 h o.is_open o.width o.held o.window_is c₁.sent random d q two refl (end_protected k C.Data 7 i two a n at) in
     result_by c d random out r (q ∷ []) (open_by c one-j) (W.Refused X.Repeated ∷ []) (left_by c₁ Y.Open two-j) lr lo f
     (open_tells c random d r one-j o.is_open refl data_no first) refl (chain_more (open_tells c₁ random d q two-j o.is_open refl data_no second) chain_end)
 
@@ -271,9 +271,9 @@ closed_between c o random out one two description checksum lr lo some most most'
     let c₁ : Connection = left_by c Y.Open one-j in
     let c₂ : Connection = left_by c₁ Y.Open two-j in
     let first : Row h c.sent random d r one-j
-    = row_data one (w₇ o.width) (new_7 h o.is_open o.width o.held o.window-is d r one refl (front_protected k C.Data C.Data 7 7 i₇ i₇ one two (b ++ e) most)) refl some in
+    = row_data one (w₇ o.width) (new_7 h o.is_open o.width o.held o.window_is d r one refl (front_protected k C.Data C.Data 7 7 i₇ i₇ one two (b ++ e) most)) refl some in
     let second : Row (with_window h (w₇ o.width)) c₁.sent random d q two-j
-    = row_critical alert (w₈ o.width) (record { level = L.Critical; description = description; checksum = checksum }) (new_8 h o.is_open o.width o.held o.window-is d q alert refl (mid_protected k C.Alert 8 i₈ alert e a n at)) refl (alert_back L.Critical description checksum small) refl in
+    = row_critical alert (w₈ o.width) (record { level = L.Critical; description = description; checksum = checksum }) (new_8 h o.is_open o.width o.held o.window_is d q alert refl (mid_protected k C.Alert 8 i₈ alert e a n at)) refl (alert_back L.Critical description checksum small) refl in
     result_by c d random out r (q ∷ p ∷ []) (open_by c one-j) (W.Critical description ∷ W.Refused X.Ended ∷ []) c₂ lr lo f
     (open_tells c random d r one-j o.is_open refl data_no first) refl
     (chain_more (open_tells c₁ random d q two-j o.is_open refl alert_no second) (chain_more (tells_seven c₂ random d p refl) chain_end))

@@ -556,8 +556,8 @@ facts_enough = record { whole = whole_enough; of_record = record_enough }
 -- the window of a handshake holds the numbers of its history
 holds_kept : (session : Session) {width : ℕ} (past : List Happened) (h : Handshake) → KeptAs session width past h → HoldsNumbers h (accepted_in past)
 holds_kept session past h k =
-    let same = ap (λ w. w.width) k.window-is in
-    record { held = subst Held (sym same) k.held; means = k.window-is ∙ ap (λ w. window_of w (accepted_in past)) (sym same) }
+    let same = ap (λ w. w.width) k.window_is in
+    record { held = subst Held (sym same) k.held; means = k.window_is ∙ ap (λ w. window_of w (accepted_in past)) (sym same) }
 
 places_in_runs : PlacesInRuns
 unfolding PlacesInRuns

@@ -128,18 +128,18 @@ number_kept u d r o (row_bars c w a n e f g) = refl
 
 module _ (k : Keys) (expected : List ℕ) where
   to_for : (d : List ℕ) (r : Record) (x : List ℕ) → Genuine k d r x → GenuineFor k FromShore d r x
-  to_for d r x g = record { in_place = g.in_place; is_protected = g.protected-as.is-protected; is_coded = g.protected-as.is-coded }
+  to_for d r x g = record { in_place = g.in_place; is_protected = g.protected_as.is_protected; is_coded = g.protected_as.is_coded }
 
   from_for : (d : List ℕ) (r : Record) (x : List ℕ) → GenuineFor k FromShore d r x → Genuine k d r x
-  from_for d r x g = record { in_place = g.in_place; protected_as = record { is_protected = g.is-protected; is_coded = g.is-coded } }
+  from_for d r x g = record { in_place = g.in_place; protected_as = record { is_protected = g.is_protected; is_coded = g.is_coded } }
 
   due_for : (course : Course) (d : List ℕ) (r : Record) (x : List ℕ) → Due k course d r x → DueFor k FromShore expected course d r x
   due_for course d r x u =
-      record { not_shut = u.not-shut; genuine = to_for d r x u.genuine; is_data_lem = u.is-data; some = u.some; not_before = u.not-before; recent = u.recent }
+      record { not_shut = u.not_shut; genuine = to_for d r x u.genuine; is_data_lem = u.is_data_lem; some = u.some; not_before = u.not_before; recent = u.recent }
 
   for_due : (course : Course) (d : List ℕ) (r : Record) (x : List ℕ) → DueFor k FromShore expected course d r x → Due k course d r x
   for_due course d r x u =
-      record { not_shut = u.not-shut; genuine = from_for d r x u.genuine; is_data_lem = u.is-data; some = u.some; not_before = u.not-before; recent = u.recent }
+      record { not_shut = u.not_shut; genuine = from_for d r x u.genuine; is_data_lem = u.is_data_lem; some = u.some; not_before = u.not_before; recent = u.recent }
 
   number_said : (u : Ship) (d : List ℕ) (r : Record) → is_data (as_ashore (judged_record u d r).answer) ≡ true → number_in (as_ashore (judged_record u d r).answer) ≡ r.number
   number_said u d r z =

@@ -91,25 +91,25 @@ out_answers_lem d answers =
 
 module _ (k : Keys) (expected : List ℕ) where
   to_for : (d : List ℕ) (r : Record) (x : List ℕ) → Genuine k d r x → GenuineFor k FromUnit d r x
-  to_for d r x g = record { in_place = g.in_place; is_protected = g.protected-as.is-protected; is_coded = g.protected-as.is-coded }
+  to_for d r x g = record { in_place = g.in_place; is_protected = g.protected_as.is_protected; is_coded = g.protected_as.is_coded }
 
   from_for : (d : List ℕ) (r : Record) (x : List ℕ) → GenuineFor k FromUnit d r x → Genuine k d r x
-  from_for d r x g = record { in_place = g.in_place; protected_as = record { is_protected = g.is-protected; is_coded = g.is-coded } }
+  from_for d r x g = record { in_place = g.in_place; protected_as = record { is_protected = g.is_protected; is_coded = g.is_coded } }
 
   due_for : (course : Course) (d : List ℕ) (r : Record) (x : List ℕ) → Due k course d r x → DueFor k FromUnit expected course d r x
   due_for course d r x u =
-      record { not_shut = u.not-shut; genuine = to_for d r x u.genuine; is_data_lem = u.is-data; some = u.some; not_before = u.not-before; recent = u.recent }
+      record { not_shut = u.not_shut; genuine = to_for d r x u.genuine; is_data_lem = u.is_data_lem; some = u.some; not_before = u.not_before; recent = u.recent }
 
   for_due : (course : Course) (d : List ℕ) (r : Record) (x : List ℕ) → DueFor k FromUnit expected course d r x → Due k course d r x
   for_due course d r x u =
-      record { not_shut = u.not-shut; genuine = from_for d r x u.genuine; is_data_lem = u.is-data; some = u.some; not_before = u.not-before; recent = u.recent }
+      record { not_shut = u.not_shut; genuine = from_for d r x u.genuine; is_data_lem = u.is_data_lem; some = u.some; not_before = u.not_before; recent = u.recent }
 
   -- the number that a data answer says is the record's
   number_said : (c : Connection) (random d : List ℕ) (r : Record) → is_data (told_record c random d r).answer ≡ true → number_in (told_record c random d r).answer ≡ r.number
   number_said c random d r z =
       let asked = (data_asked c random d r z).1 in
       let f = data_facts c.handshake c.sent random d r (row_of c.handshake c.sent random d r) (sym (ap is_data asked) ∙ z) in
-      ap number_in asked ∙ ap (λ (j : Judged). number_in j.answer) (row_is c.handshake c.sent random d r (row_data f.c f.w f.new f.is-data f.some))
+      ap number_in asked ∙ ap (λ (j : Judged). number_in j.answer) (row_is c.handshake c.sent random d r (row_data f.c f.w f.new f.is_data_lem f.some))
 
   -- the sending number stays
   number_kept : (h : Handshake) (list : SentRecords) (random d : List ℕ) (r : Record) → h.state ≡ S.Open → {j : Judged} → Row h list random d r j

@@ -91,10 +91,10 @@ module _ (k : Keys) (ashore_expected aboard-expected : List ℕ) (unit_first sho
       pub shore_number : (done_by e doing).shore.handshake.protection.protected ≡ next'
 
     abbrev open_now : e.shore.handshake.state ≡ S.Open
-    open_now = along.is_open h.not-shut
+    open_now = along.is_open h.not_shut
 
     abbrev up_now : Up e.unit.state
-    up_now = along'.is_up h'.not-shut
+    up_now = along'.is_up h'.not_shut
 
     abbrev idle_to_shore : Linked k FromUnit a t → Onward k FromUnit ashore_expected unit_first shore_width a b n z q [] t n q
     idle_to_shore l = idle k FromUnit ashore_expected unit_first shore_width a b n z q h t l
@@ -124,7 +124,7 @@ module _ (k : Keys) (ashore_expected aboard-expected : List ℕ) (unit_first sho
             along_shore = subst (λ (c : Connection). Along k ashore_expected w.end c.handshake) (sym o.1) w.along;
             along_unit = along';
             unit_number = unit_next;
-            shore_number = ap (λ (c : Connection). c.handshake.protection.protected) o.1 ∙ w.number h.not-shut on.holds.not-shut ∙ shore_next;
+            shore_number = ap (λ (c : Connection). c.handshake.protection.protected) o.1 ∙ w.number h.not_shut on.holds.not_shut ∙ shore_next;
           }
       shore_framed (faulty fault at) f =
           let o = AtShore.faulty_out e.shore d random out lr lo fault at f in
@@ -162,7 +162,7 @@ module _ (k : Keys) (ashore_expected aboard-expected : List ℕ) (unit_first sho
             on' = on;
             along_shore = along;
             along_unit = subst (ShipHanded.Along k aboard-expected w.end) (sym o.1) w.along;
-            unit_number = ap (λ (u : ShipsUnit). u.protection.protected) o.1 ∙ w.number h'.not-shut on.holds.not-shut ∙ unit_next;
+            unit_number = ap (λ (u : ShipsUnit). u.protection.protected) o.1 ∙ w.number h'.not_shut on.holds.not_shut ∙ unit_next;
             shore_number = shore_next;
           }
       ship_framed (faulty fault at) f =
@@ -186,11 +186,11 @@ module _ (k : Keys) (ashore_expected aboard-expected : List ℕ) (unit_first sho
     shore_next_is : (content : Content) (body : List ℕ)
         → AshoreSends.next_protected e.shore.handshake content body ≡ record_under k FromShore content e.shore.handshake.protection.protected body
     unfolding AshoreSends.next_protected
-    shore_next_is content body = ap (λ x. record_under x FromShore content e.shore.handshake.protection.protected body) (along.keys_same h.not-shut)
+    shore_next_is content body = ap (λ x. record_under x FromShore content e.shore.handshake.protection.protected body) (along.keys_same h.not_shut)
 
     unit_next_is : (content : Content) (body : List ℕ)
         → next_record e.unit.protection FromUnit content body ≡ record_under k FromUnit content e.unit.protection.protected body
-    unit_next_is content body = ap (λ x. record_under x FromUnit content e.unit.protection.protected body) (along'.keys_same h'.not-shut)
+    unit_next_is content body = ap (λ x. record_under x FromUnit content e.unit.protection.protected body) (along'.keys_same h'.not_shut)
 
     -- ---- the shore sends data
 
@@ -481,16 +481,16 @@ module _ (k : Keys) (ashore_expected aboard-expected : List ℕ) (unit_first sho
       → Linked k FromUnit a (trace_of FromUnit e doings) → Linked k FromShore a' (trace_of FromShore e doings) → Ran e a a' b b' n n' q q' doings
   unfolding trace_of
   run [] e a a' z z' b b' n n' q q' h h' along along' un sn keep none l l' =
-      record { to_shore = done; to_ship = done; stay_open = (along.is_open h.not-shut, along'.is_up h'.not-shut) }
+      record { to_shore = done; to_ship = done; stay_open = (along.is_open h.not_shut, along'.is_up h'.not_shut) }
   run (doing ∷ doings) e a a' z z' b b' n n' q q' h h' along along' un sn keep none l l' =
       let s = step e a a' z z' b b' n n' q q' h h' along along' un sn (trace_of FromUnit (done_by e doing) doings) (trace_of FromShore (done_by e doing) doings) doing
       keep.0 none.0 l l' in
       let more = run doings (done_by e doing) s.on.written' s.on'.written' s.on.seen' s.on'.seen' s.on.sent' s.on'.sent' s.next s.next'
-      s.course s.course' s.on.holds s.on'.holds s.along_shore s.along_unit s.unit-number s.shore-number keep.1 none.1 s.on.linked s.on'.linked in
+      s.course s.course' s.on.holds s.on'.holds s.along_shore s.along_unit s.unit_number s.shore_number keep.1 none.1 s.on.linked s.on'.linked in
       record {
         to_shore = s.on.runs more.to_shore;
         to_ship = s.on'.runs more.to_ship;
-        stay_open = (along.is_open h.not-shut, along'.is_up h'.not-shut, more.stay-open);
+        stay_open = (along.is_open h.not_shut, along'.is_up h'.not_shut, more.stay_open);
       }
 
 -- ---- from the start
@@ -502,7 +502,7 @@ quiet_fine k sense expected next d r c q =
   where
     by : (x : Content) → r.content ≡ x → (content_shuts r.content c expected ≡ false) ⊎ (r.number ≡ 0)
     by C.ChangeCipherSpec e = inl (ap (λ y. content_shuts y c expected) e)
-    by C.Alert e = inl (ap (λ y. content_shuts y c expected) e ∙ q.no-closing e)
+    by C.Alert e = inl (ap (λ y. content_shuts y c expected) e ∙ q.no_closing e)
     by C.Handshake e = inr (q.finished e)
     by C.Data e = absurd (q.no_data e)
 
@@ -530,7 +530,7 @@ none_accepted n e = true_false false e refl
 
 module _ (k : Keys) (e : Ends) (by_unit by_shore : List (List ℕ)) (doings : List Doing) (p : Premises k e by_unit by_shore doings) where
   abbrev j : JustOpen k e by_unit by_shore
-  j = p.just-open
+  j = p.just_open
 
   ashore_expected : List ℕ
   ashore_expected = expected_in (session_of j.id j.secret) (past_of j.id j.secret j.width j.acts)
@@ -570,7 +570,7 @@ module _ (k : Keys) (e : Ends) (by_unit by_shore : List (List ℕ)) (doings : Li
   ran : Ran k ashore_expected e.unit.expected unit_first shore_first j.width unit_width e by_unit by_shore [] [] unit_first shore_first shore_course unit_course doings
   ran =
       run k ashore_expected e.unit.expected unit_first shore_first j.width unit_width doings e by_unit by_shore [] [] [] [] unit_first shore_first shore_course unit_course
-      to_shore to_ship along_shore along_unit refl refl p.calls p.none_beside p.link-to-shore p.link-to-ship
+      to_shore to_ship along_shore along_unit refl refl p.calls p.none_beside p.link_to_shore p.link_to_ship
 
   pub reported : Reported k e j.width doings
   reported =
@@ -579,7 +579,7 @@ module _ (k : Keys) (e : Ends) (by_unit by_shore : List (List ℕ)) (doings : Li
       record {
         to_shore = record { within = s.0; once = s.1; exactly = s.2 };
         to_ship = record { within = u.0; once = u.1; exactly = u.2 };
-        stay_open = ran.stay-open;
+        stay_open = ran.stay_open;
       }
 
 pub both_ends : BothEnds

@@ -83,15 +83,15 @@ module _ (k : Keys) (sense : Sense) (expected : List ℕ) where
   module _ (d : List ℕ) (r : Record) where
     pub right : (c : List ℕ) → GenuineFor k sense d r c → test_for d r ≡ true
     right c g =
-        ap₂ (λ p x. pick p x false) g.is-protected
-        (ap (genuine_under k sense r.number r.byte) g.is-coded ∙ protected_genuine (secret_for k sense r.number) k.mac r.number r.byte c)
+        ap₂ (λ p x. pick p x false) g.is_protected
+        (ap (genuine_under k sense r.number r.byte) g.is_coded ∙ protected_genuine (secret_for k sense r.number) k.mac r.number r.byte c)
 
     pub content_is : (c : List ℕ) → GenuineFor k sense d r c → content_for d r ≡ c
     unfolding fragment_by
     content_is c g =
         let code : List ℕ = code_by (hmac (secret_for k sense r.number)) (size_of k.mac) r.number r.byte c in
         let size : length (c ++ code) ≡ length c + size_of k.mac = protected_length (secret_for k sense r.number) k.mac r.number r.byte c in
-        ap (λ f. take (length f - size_of k.mac) f) g.is-coded ∙ take_at c code (length (c ++ code) - size_of k.mac) (omega (arith, size))
+        ap (λ f. take (length f - size_of k.mac) f) g.is_coded ∙ take_at c code (length (c ++ code) - size_of k.mac) (omega (arith, size))
 
     pub made : RecordOf d r → test_for d r ≡ true → GenuineFor k sense d r (content_for d r)
     made at e = by r.protected refl e
@@ -231,7 +231,7 @@ module _ (k : Keys) (sense : Sense) (expected : List ℕ) where
           record {
             width_is = h.width_is;
             held = h.held;
-            not_shut = h.not-shut;
+            not_shut = h.not_shut;
             opened = h.opened;
             below = λ n a. let q = h.below n a in omega arith;
             first_some = h.first_some;
@@ -257,7 +257,7 @@ module _ (k : Keys) (sense : Sense) (expected : List ℕ) where
               let n = number_of r c g in
               record {
                 numbered = omega arith;
-                harmless = inl (ap (λ (x : Content). content_shuts x c expected) (ap (λ (x : Record). x.content) o.0 ∙ s.is-data));
+                harmless = inl (ap (λ (x : Content). content_shuts x c expected) (ap (λ (x : Record). x.content) o.0 ∙ s.is_data_lem));
                 data_sent_lem = λ z. inl (e ∙ sym n, sym o.1, sym i);
               }
 
@@ -294,7 +294,7 @@ module _ (k : Keys) (sense : Sense) (expected : List ℕ) where
           record {
             width_is = h.width_is;
             held = h.held;
-            not_shut = h.not-shut;
+            not_shut = h.not_shut;
             opened = h.opened;
             below = λ n a. let q = h.below n a in omega arith;
             first_some = h.first_some;
@@ -319,8 +319,8 @@ module _ (k : Keys) (sense : Sense) (expected : List ℕ) where
               let n = q.number_is in
               record {
                 numbered = omega arith;
-                harmless = inl (ap (λ (x : Content). content_shuts x c expected) q.is-alert ∙ q.harmless);
-                data_sent_lem = λ z. alert_data (sym q.is-alert ∙ z);
+                harmless = inl (ap (λ (x : Content). content_shuts x c expected) q.is_alert ∙ q.harmless);
+                data_sent_lem = λ z. alert_data (sym q.is_alert ∙ z);
               }
 
           fine_more : (d : List ℕ) → In d (new ∷ written) → (r : Record) (c : List ℕ) → GenuineFor k sense d r c → Fine sent (next + 1) d r c
@@ -343,7 +343,7 @@ module _ (k : Keys) (sense : Sense) (expected : List ℕ) where
           record {
             width_is = h.width_is;
             held = h.held;
-            not_shut = h.not-shut;
+            not_shut = h.not_shut;
             opened = h.opened;
             below = h.below;
             first_some = h.first_some;
@@ -409,10 +409,10 @@ module _ (k : Keys) (sense : Sense) (expected : List ℕ) where
     after_taken written sent next seen d i nothing h = h
     after_taken written sent next seen d i (hands {course = course} {r = r} c u more) h =
         after_taken written sent next seen d i more
-        (record_taken written sent next seen course h d i r u.genuine.in_place (step_for course d r) (stepped course d r u.genuine.in_place h.not-shut))
+        (record_taken written sent next seen course h d i r u.genuine.in_place (step_for course d r) (stepped course d r u.genuine.in_place h.not_shut))
     after_taken written sent next seen d i (passes {course = course} {r = r} at no_due more) h =
         after_taken written sent next seen d i more
-        (record_taken written sent next seen course h d i r at (step_for course d r) (stepped course d r at h.not-shut))
+        (record_taken written sent next seen course h d i r at (step_for course d r) (stepped course d r at h.not_shut))
 
     -- ---- what a delivery hands out
 
@@ -423,18 +423,18 @@ module _ (k : Keys) (sense : Sense) (expected : List ℕ) where
     out_sent written sent next seen d i (hands {course = course} {r = r} c u more) h = (
       by (h.ruled d i),
       out_sent written sent next seen d i more
-          (record_taken written sent next seen course h d i r u.genuine.in_place (step_for course d r) (stepped course d r u.genuine.in_place h.not-shut)),
+          (record_taken written sent next seen course h d i r u.genuine.in_place (step_for course d r) (stepped course d r u.genuine.in_place h.not_shut)),
     )
       where
         by : In d written ⊎ OtherFor k sense d → SentAs sent d (handed r.number c)
-        by (inl w) = (h.fine d w r c u.genuine).data_sent_lem u.is-data
+        by (inl w) = (h.fine d w r c u.genuine).data_sent_lem u.is_data_lem
         by (inr other) =
-            let z : C.Handshake ≡ C.Data = sym (other r c u.genuine).0 ∙ u.is-data in
+            let z : C.Handshake ≡ C.Data = sym (other r c u.genuine).0 ∙ u.is_data_lem in
             let y : ◌≡◌ {A = ℕ} 0 1 = cc in
             absurd (omega arith)
     out_sent written sent next seen d i (passes {course = course} {r = r} at no_due more) h =
         out_sent written sent next seen d i more
-        (record_taken written sent next seen course h d i r at (step_for course d r) (stepped course d r at h.not-shut))
+        (record_taken written sent next seen course h d i r at (step_for course d r) (stepped course d r at h.not_shut))
 
     -- a number that was used up stays so, and one that is due is used up
     grows : (course : Course) (d : List ℕ) (r : Record) (end : Course) → Stepped course d r end → (n : ℕ) → accepted course.numbers n ≡ true
@@ -447,7 +447,7 @@ module _ (k : Keys) (sense : Sense) (expected : List ℕ) where
     due_used course d r c held u =
         let l : highest_of course.numbers < r.number + course.width = below_all course.width (held_some course.width held) course.numbers r.number u.recent in
         let is : step_for course d r ≡ used_for course r (content_for d r)
-        = λ i. pick (u.not-shut i) course (pick (right d r c u.genuine i) (pick (new_so course.width course.numbers r.number l u.not-before i) (used_for course r (content_for d r)) course) course) in
+        = λ i. pick (u.not_shut i) course (pick (right d r c u.genuine i) (pick (new_so course.width course.numbers r.number l u.not_before i) (used_for course r (content_for d r)) course) course) in
         ap (λ (x : Course). accepted x.numbers r.number) is ∙ accepted_here r.number course.numbers
 
     abbrev Inside : List ℕ → Course → Type 0
@@ -468,14 +468,14 @@ module _ (k : Keys) (sense : Sense) (expected : List ℕ) where
         → State written sent next seen course → (before : List ℕ) → Inside before course → NewIn before out × Inside (with_all before out) end
     out_new written sent next seen d i nothing h before f = (tt, f)
     out_new written sent next seen d i (hands {course = course} {r = r} c u more) h before f =
-        let s = stepped course d r u.genuine.in_place h.not-shut in
+        let s = stepped course d r u.genuine.in_place h.not_shut in
         let g : Inside before (step_for course d r) = λ n a. grows course d r (step_for course d r) s n (f n a) in
         let held : Held course.width = subst Held (sym h.width_is) h.held in
         let q = out_new written sent next seen d i more (record_taken written sent next seen course h d i r u.genuine.in_place (step_for course d r) s)
         (r.number ∷ before) (inside_more before r.number (step_for course d r) g (due_used course d r c held u)) in
-        ((not_inside before course r.number f u.not-before, q.0), q.1)
+        ((not_inside before course r.number f u.not_before, q.0), q.1)
     out_new written sent next seen d i (passes {course = course} {r = r} at no_due more) h before f =
-        let s = stepped course d r at h.not-shut in
+        let s = stepped course d r at h.not_shut in
         out_new written sent next seen d i more (record_taken written sent next seen course h d i r at (step_for course d r) s) before
         (λ n a. grows course d r (step_for course d r) s n (f n a))
 
@@ -517,9 +517,9 @@ module _ (k : Keys) (sense : Sense) (expected : List ℕ) where
       is_due : DueFor course report.datagram s.r report.bytes
       is_due =
           record {
-            not_shut = h.not-shut;
+            not_shut = h.not_shut;
             genuine = s.genuine;
-            is_data_lem = s.is-data;
+            is_data_lem = s.is_data_lem;
             some = s.some;
             not_before = ap (accepted course.numbers) s.number_is ∙ not_accepted;
             recent = λ n a. let q = all_lower n a in let m = s.number_is in let w = h.width_is in omega arith;

@@ -128,10 +128,10 @@ module _ (s : Setting) (ls : ListedSetting s) where
   session = session_of s.id s.secret
 
   abbrev offer : Offer
-  offer = offer_of (offered_in ls.kinds-known) s.refresh
+  offer = offer_of (offered_in ls.kinds_known) s.refresh
 
   abbrev plan : Plan
-  plan = plan_for s.client s.id offer ls.client-size ls.id-size
+  plan = plan_for s.client s.id offer ls.client_size ls.id_size
 
   -- both hellos
   m : List ℕ
@@ -142,7 +142,7 @@ module _ (s : Setting) (ls : ListedSetting s) where
 
   pub sh_size : length sh ≡ 35
   unfolding sh
-  sh_size = length_server s.server s.id plan ∙ omega (arith, ls.server-size, ls.id-size)
+  sh_size = length_server s.server s.id plan ∙ omega (arith, ls.server_size, ls.id_size)
 
   -- the keys, as both will hold them
   pub k : Keys
@@ -151,7 +151,7 @@ module _ (s : Setting) (ls : ListedSetting s) where
   -- ---- the unit's hello
 
   abbrev u₀ : ShipsUnit
-  u₀ = B.new_unit s.id s.secret s.unit-width Z.Idle
+  u₀ = B.new_unit s.id s.secret s.unit_width Z.Idle
 
   pub hello : List ℕ
   hello = hello_datagram s.id s.client offer
@@ -159,44 +159,44 @@ module _ (s : Setting) (ls : ListedSetting s) where
   u₁ : ShipsUnit
   u₁ = B.greeted u₀ s.client offer (sum_of hello)
 
-  planted_aboard : AboardCalls.fresh_of s.id s.secret s.unit-width ≡ AboardCalls.leaving O.Done u₀
+  planted_aboard : AboardCalls.fresh_of s.id s.secret s.unit_width ≡ AboardCalls.leaving O.Done u₀
   unfolding AboardCalls.fresh_of
   planted_aboard =
       rw (
-        eq-eqb (length s.id) 8 ls.id-size,
-        eq-eqb (length s.secret) 20 ls.secret-size,
-        le-ltb s.unit-width 32 ls.unit-held.0,
-        le-ltb 64 s.unit-width ls.unit-held.1,
+        eq-eqb (length s.id) 8 ls.id_size,
+        eq-eqb (length s.secret) 20 ls.secret_size_lem,
+        le-ltb s.unit_width 32 ls.unit_held.0,
+        le-ltb 64 s.unit_width ls.unit_held.1,
       ) refl
 
   hello_few : length hello ≤ 45
   unfolding hello hello_datagram
-  hello_few = omega (arith, record_length false false C.Handshake 0 (offer_hello s.client s.id offer), hello_most s.client s.id offer ls.client-size ls.id-size)
+  hello_few = omega (arith, record_length false false C.Handshake 0 (offer_hello s.client s.id offer), hello_most s.client s.id offer ls.client_size ls.id_size)
 
   module _ (out : List ℕ) (room : 45 ≤ length out) where
     greets : hello_sent u₀ s.client s.kinds s.refresh (length out) ≡ done_with (length hello) u₁
     unfolding hello_sent greeted_with hello u₁
     greets =
         ap₂ (λ a b. pick a (pick b (unsent u₀ X.Argument) (hello_as u₀ s.client s.refresh (length out) (kinds_named s.kinds))) (unsent u₀ X.Argument))
-        (eq-eqb (length s.client) 16 ls.client-size) (le-ltb 255 s.refresh ls.refresh-most)
-        ∙ ap (hello_as u₀ s.client s.refresh (length out)) (named ls.kinds-known)
+        (eq-eqb (length s.client) 16 ls.client_size) (le-ltb 255 s.refresh ls.refresh_most)
+        ∙ ap (hello_as u₀ s.client s.refresh (length out)) (named ls.kinds_known)
         ∙ ap (λ b. pick b (done_with (length hello) u₁) (unsent u₀ X.Room)) (le-leb (length hello) (length out) (omega (arith, hello_few)))
 
     hello_written : hello_output u₀ s.client s.kinds s.refresh out ≡ laid_over out 0 hello
     unfolding hello_output written_of hello
     hello_written =
         ap₂ (λ a b. pick a (pick b out (hello_output_as u₀ s.client s.refresh out (kinds_named s.kinds))) out)
-        (eq-eqb (length s.client) 16 ls.client-size) (le-ltb 255 s.refresh ls.refresh-most)
-        ∙ ap (hello_output_as u₀ s.client s.refresh out) (named ls.kinds-known)
+        (eq-eqb (length s.client) 16 ls.client_size) (le-ltb 255 s.refresh ls.refresh_most)
+        ∙ ap (hello_output_as u₀ s.client s.refresh out) (named ls.kinds_known)
         ∙ ap (λ b. pick b (laid_over out 0 hello) out) (le-leb (length hello) (length out) (omega (arith, hello_few)))
 
   -- ---- the shore's reply
 
   abbrev h₀ : Handshake
-  h₀ = fresh_with s.id s.secret s.shore-width
+  h₀ = fresh_with s.id s.secret s.shore_width
 
   abbrev pub c₀ : Connection
-  c₀ = fresh_one s.id s.secret s.shore-width
+  c₀ = fresh_one s.id s.secret s.shore_width
 
   pub reply : List ℕ
   reply = reply_to session s.server m plan
@@ -216,7 +216,7 @@ module _ (s : Setting) (ls : ListedSetting s) where
   m_size : (38 ≤ length m) × (length m ≤ 42)
   unfolding m
   m_size =
-      (omega (arith, hello_size_lem s.client s.id offer ls.client-size ls.id-size), hello_most s.client s.id offer ls.client-size ls.id-size)
+      (omega (arith, hello_size_lem s.client s.id offer ls.client_size ls.id_size), hello_most s.client s.id offer ls.client_size ls.id_size)
 
   pub hello_framed : framing_of hello ≡ framed (r₁ ∷ [])
   unfolding hello hello_datagram r₁ m
@@ -236,7 +236,7 @@ module _ (s : Setting) (ls : ListedSetting s) where
 
   heard : heard_of m s.id ≡ H.Accepted plan
   unfolding m
-  heard = hello_heard s.client s.id offer ls.client-size ls.id-size
+  heard = hello_heard s.client s.id offer ls.client_size ls.id_size
 
   row₁ : Row h₀ no_records s.server hello r₁ (judged (W.Reply (length reply)) h₁)
   unfolding reply h₁ r₁
@@ -258,8 +258,8 @@ module _ (s : Setting) (ls : ListedSetting s) where
       ∙ take_at reply (replicate (84 - length reply) 0) (length reply) refl
 
   module _ (out : List ℕ) (room : 128 ≤ length out) where
-    came₁ : Shore.Took c₀ hello s.server out (r₁ ∷ []) (W.Reply (length reply) ∷ []) c₁ ls.server-size room hello_framed (chain_more told₁ chain_end)
-    came₁ = Shore.took c₀ hello s.server out (r₁ ∷ []) (W.Reply (length reply) ∷ []) c₁ ls.server-size room hello_framed (chain_more told₁ chain_end)
+    came₁ : Shore.Took c₀ hello s.server out (r₁ ∷ []) (W.Reply (length reply) ∷ []) c₁ ls.server_size room hello_framed (chain_more told₁ chain_end)
+    came₁ = Shore.took c₀ hello s.server out (r₁ ∷ []) (W.Reply (length reply) ∷ []) c₁ ls.server_size room hello_framed (chain_more told₁ chain_end)
 
     pub replies : Ashore.received_of c₀ hello s.server (length out)
         ≡ record { taken = T.Records 1; answers = Ashore.slots_of (W.Reply (length reply) ∷ []); written = length reply; connection = c₁ }
@@ -283,7 +283,7 @@ module _ (s : Setting) (ls : ListedSetting s) where
   unfolding reply reply_to flight_of finished_record record_under our_hello our_finished theirs k sh m
   reply_is =
       λ i. hello_record sh ++ (change_record ++ protected_by (hmac (mac_secret s.secret server_expansion (sym (key_zero s.refresh) i) s.server
-      (hello_random s.client s.id offer ls.client-size ls.id-size i))) (size_of plan.mac) false C.Handshake 0 theirs)
+      (hello_random s.client s.id offer ls.client_size ls.id_size i))) (size_of plan.mac) false C.Handshake 0 theirs)
 
   abbrev d : List ℕ
   d = replied k FromShore theirs theirs_size sh sh_size
@@ -295,14 +295,14 @@ module _ (s : Setting) (ls : ListedSetting s) where
   u_spec = B.with_state (B.with_window u_agreed (emptied u_agreed.protection.window)) Z.Spec
 
   pub u₂ : ShipsUnit
-  u₂ = B.opened (B.with_window u_spec (window_of s.unit-width (0 ∷ [])))
+  u₂ = B.opened (B.with_window u_spec (window_of s.unit_width (0 ∷ [])))
 
   keys_aboard : agreed_keys u₁ sh plan ≡ k
   unfolding u₁ sh k
   keys_aboard =
       λ i. record {
         secret = s.secret;
-        server = answer_random s.client s.id offer ls.client-size ls.id-size s.server ls.server-size i;
+        server = answer_random s.client s.id offer ls.client_size ls.id_size s.server ls.server_size i;
         client = s.client;
         mac = plan.mac;
         refresh = plan.refresh;
@@ -312,9 +312,9 @@ module _ (s : Setting) (ls : ListedSetting s) where
   unfolding u_spec u_agreed agreed_with
   spec_keys = keys_aboard
 
-  takes_0 : accept_of u_spec.protection.window 0 ≡ A.New (window_of s.unit-width (0 ∷ [])) (arrived_of s.unit-width (0 ∷ []))
+  takes_0 : accept_of u_spec.protection.window 0 ≡ A.New (window_of s.unit_width (0 ∷ [])) (arrived_of s.unit_width (0 ∷ []))
   unfolding u_spec u_agreed agreed_with u₁
-  takes_0 = takes_first s.unit-width ls.unit-held
+  takes_0 = takes_first s.unit_width ls.unit_held
 
   right : judged_of theirs u_spec.expected ≡ F.Right
   unfolding u_spec u_agreed agreed_with u₁ theirs shore_verify m
@@ -329,7 +329,7 @@ module _ (s : Setting) (ls : ListedSetting s) where
 
   agreed : agreement_of sh s.id offer ≡ G.Agreed plan
   unfolding sh
-  agreed = answer_agreed s.client s.id offer ls.client-size ls.id-size s.server ls.server-size
+  agreed = answer_agreed s.client s.id offer ls.client_size ls.id_size s.server ls.server_size
 
   coded : CodedUnder u_spec.protection.keys FromShore 0 (byte_for false true C.Handshake) (fragment_of d (finished_at k FromShore theirs theirs_size 46)) theirs
   coded =
@@ -345,7 +345,7 @@ module _ (s : Setting) (ls : ListedSetting s) where
       (chained_more
       (change_taken u_agreed d (change_next k FromShore theirs theirs_size sh sh_size) refl refl refl (replied_change k FromShore theirs theirs_size sh sh_size))
       (chained_more
-      (finished_taken u_spec d (finished_at k FromShore theirs theirs_size 46) refl refl refl theirs (window_of s.unit-width (0 ∷ [])) (arrived_of s.unit-width (0 ∷ []))
+      (finished_taken u_spec d (finished_at k FromShore theirs theirs_size 46) refl refl refl theirs (window_of s.unit_width (0 ∷ [])) (arrived_of s.unit_width (0 ∷ []))
       coded takes_0 (no_request theirs theirs_size) right)
       chained_end))
 
@@ -401,7 +401,7 @@ module _ (s : Setting) (ls : ListedSetting s) where
   h₂ = with_state (with_window h₁ (emptied h₁.protection.window)) S.Spec
 
   h₃ : Handshake
-  h₃ = with_state (with_window h₂ (window_of s.shore-width (0 ∷ []))) S.Open
+  h₃ = with_state (with_window h₂ (window_of s.shore_width (0 ∷ []))) S.Open
 
   pub c₂ : Connection
   c₂ = connection_of h₃ none_started sent₁
@@ -421,7 +421,7 @@ module _ (s : Setting) (ls : ListedSetting s) where
         mac = plan.mac;
         refresh = plan.refresh;
         server = s.server;
-        client = hello_random s.client s.id offer ls.client-size ls.id-size i;
+        client = hello_random s.client s.id offer ls.client_size ls.id_size i;
       }
 
   row₂ : (random : List ℕ) → Row h₁ sent₁ random flight (change_first k FromUnit ours ours_size) (judged W.Spec h₂)
@@ -436,9 +436,9 @@ module _ (s : Setting) (ls : ListedSetting s) where
             (flown_finished k FromUnit ours ours_size);
       }
 
-  takes_0_ashore : accept_of h₂.protection.window 0 ≡ A.New (window_of s.shore-width (0 ∷ [])) (arrived_of s.shore-width (0 ∷ []))
+  takes_0_ashore : accept_of h₂.protection.window 0 ≡ A.New (window_of s.shore_width (0 ∷ [])) (arrived_of s.shore_width (0 ∷ []))
   unfolding h₂ h₁ answered_with
-  takes_0_ashore = takes_first s.shore-width ls.shore-held
+  takes_0_ashore = takes_first s.shore_width ls.shore_held
 
   right_ashore : judged_of ours h₂.expected ≡ F.Right
   unfolding ours h₂ h₁ answered_with
@@ -447,8 +447,8 @@ module _ (s : Setting) (ls : ListedSetting s) where
   row₃ : (random : List ℕ) → Row h₂ sent₁ random flight (finished_at k FromUnit ours ours_size 6) (judged W.Open h₃)
   unfolding h₂ h₃
   row₃ random =
-      row_open ours (window_of s.shore-width (0 ∷ []))
-      (record { guarded = record { protection = refl; kind = inl (refl, inr refl) }; coded = protected₃; arrived = arrived_of s.shore-width (0 ∷ []); accepted = takes_0_ashore })
+      row_open ours (window_of s.shore_width (0 ∷ []))
+      (record { guarded = record { protection = refl; kind = inl (refl, inr refl) }; coded = protected₃; arrived = arrived_of s.shore_width (0 ∷ []); accepted = takes_0_ashore })
       refl refl right_ashore
 
   told₂ : (random : List ℕ) → Tells c₁ random flight (change_first k FromUnit ours ours_size) (record { answer = W.Spec; connection = connection_of h₂ none_started sent₁; beside = false })
@@ -483,7 +483,7 @@ module _ (s : Setting) (ls : ListedSetting s) where
 
   -- ---- together
 
-  pub together : Together s.unit-width s.shore-width (ends_of u₂ c₂)
+  pub together : Together s.unit_width s.shore_width (ends_of u₂ c₂)
   unfolding u₂ B.opened u_spec u_agreed agreed_with c₂ h₃ h₂ h₁ answered_with
   together =
       record {
@@ -502,11 +502,11 @@ module _ (s : Setting) (ls : ListedSetting s) where
   unfolding u₂ B.opened u_spec u_agreed agreed_with
   unit_keys = keys_aboard
 
-  pub unit_window : u₂.protection.window ≡ window_of s.unit-width (0 ∷ [])
+  pub unit_window : u₂.protection.window ≡ window_of s.unit_width (0 ∷ [])
   unfolding u₂ B.opened u_spec
   unit_window = refl
 
-  pub shore_window : c₂.handshake.protection.window ≡ window_of s.shore-width (0 ∷ [])
+  pub shore_window : c₂.handshake.protection.window ≡ window_of s.shore_width (0 ∷ [])
   unfolding c₂ h₃ h₂
   shore_window = refl
 
@@ -535,17 +535,17 @@ module _ (s : Setting) (ls : ListedSetting s) where
         reply = reply;
         flight = flight;
         planted_aboard = planted_aboard;
-        planted_ashore = fresh_row s.id s.secret s.shore-width (fresh_done ls.id-size ls.secret-size ls.shore-held);
-        greets = greets r.for-hello lr.hello-room;
-        hello_written = hello_written r.for-hello lr.hello-room;
-        replies = replies r.for-reply lr.reply-room;
-        reply_written = reply_written r.for-reply lr.reply-room;
-        opens = opens r.for-flight lr.flight-room;
-        flight_written = flight_written r.for-flight lr.flight-room;
-        opens_ashore = opens_ashore r.random r.for-none lr.random_size lr.none-room;
-        nothing_written = nothing_written r.random r.for-none lr.random_size lr.none-room;
+        planted_ashore = fresh_row s.id s.secret s.shore_width (fresh_done ls.id_size ls.secret_size_lem ls.shore_held);
+        greets = greets r.for_hello lr.hello_room;
+        hello_written = hello_written r.for_hello lr.hello_room;
+        replies = replies r.for_reply lr.reply_room;
+        reply_written = reply_written r.for_reply lr.reply_room;
+        opens = opens r.for_flight lr.flight_room;
+        flight_written = flight_written r.for_flight lr.flight_room;
+        opens_ashore = opens_ashore r.random r.for_none lr.random_size lr.none_room;
+        nothing_written = nothing_written r.random r.for_none lr.random_size lr.none_room;
         reports = λ turns l a b.
-            all_handed s.unit-width s.shore-width ls.unit-held ls.shore-held turns (ends_of u₂ c₂) together l
+            all_handed s.unit_width s.shore_width ls.unit_held ls.shore_held turns (ends_of u₂ c₂) together l
             (omega (arith, next_aboard, a)) (omega (arith, next_ashore, b));
       }
 

@@ -95,7 +95,7 @@ one_of_three (w ∷ before) r behind x y v e = inr (one_of_two before r behind y
 
 -- a clear record is not genuine
 clear_not : {P : Type 0} (k : Keys) (sense : Sense) (d : List ℕ) (r x : Record) (c : List ℕ) → GenuineFor k sense d r c → r ≡ x → x.protected ≡ false → P
-clear_not k sense d r x c g e f = true_false r.protected g.is-protected (ap (λ (y : Record). y.protected) e ∙ f)
+clear_not k sense d r x c g e f = true_false r.protected g.is_protected (ap (λ (y : Record). y.protected) e ∙ f)
 
 -- a Finished of number 0 is quiet
 finished_quiet : (r x : Record) (c : List ℕ) → r ≡ x → x.content ≡ C.Handshake → x.number ≡ 0 → Quiet 1 r c
@@ -232,58 +232,58 @@ module _ (s : Setting) (ls : ListedSetting s) where
   calls : List Call
   calls = receive (P.hello s ls) s.server example_out ∷ receive (P.flight s ls) s.server example_out ∷ []
 
-  final_is : final_of step_of (fresh_one s.id s.secret s.shore-width) calls ≡ P.c₂ s ls
+  final_is : final_of step_of (fresh_one s.id s.secret s.shore_width) calls ≡ P.c₂ s ls
   unfolding calls final_of step_of
   final_is =
       ap (λ (x : Received). (step_of x.connection (receive (P.flight s ls) s.server example_out)).connection) (P.replies s ls example_out (lit≤ tt))
-      ∙ ap (λ (x : Received). x.connection) (P.opens_ashore s ls s.server example_out ls.server-size (lit≤ tt))
+      ∙ ap (λ (x : Received). x.connection) (P.opens_ashore s ls s.server example_out ls.server_size (lit≤ tt))
 
   abbrev run : List Act
   run = acts_of calls
 
-  shore_is : P.c₂ s ls ≡ behind (fresh_one s.id s.secret s.shore-width) run
-  shore_is = sym final_is ∙ run_behind (fresh_one s.id s.secret s.shore-width) calls
+  shore_is : P.c₂ s ls ≡ behind (fresh_one s.id s.secret s.shore_width) run
+  shore_is = sym final_is ∙ run_behind (fresh_one s.id s.secret s.shore_width) calls
 
-  tog : Together s.unit-width s.shore-width e
+  tog : Together s.unit_width s.shore_width e
   tog = P.together s ls
 
-  is_open : (behind (fresh_one s.id s.secret s.shore-width) run).handshake.state ≡ S.Open
+  is_open : (behind (fresh_one s.id s.secret s.shore_width) run).handshake.state ≡ S.Open
   is_open = ap (λ (c : Connection). c.handshake.state) (sym shore_is) ∙ tog.is_open
 
   abbrev numbers : List ℕ
-  numbers = accepted_in (past_of s.id s.secret s.shore-width run)
+  numbers = accepted_in (past_of s.id s.secret s.shore_width run)
 
-  along : Along (keys_in (session_of s.id s.secret) (past_of s.id s.secret s.shore-width run))
-      (expected_in (session_of s.id s.secret) (past_of s.id s.secret s.shore-width run)) (record { width = s.shore-width; numbers = numbers; shut = false })
-      (behind (fresh_one s.id s.secret s.shore-width) run).handshake
+  along : Along (keys_in (session_of s.id s.secret) (past_of s.id s.secret s.shore_width run))
+      (expected_in (session_of s.id s.secret) (past_of s.id s.secret s.shore_width run)) (record { width = s.shore_width; numbers = numbers; shut = false })
+      (behind (fresh_one s.id s.secret s.shore_width) run).handshake
   unfolding course_of behind Unreplaced
-  along = along_run s.id s.secret s.shore-width ls.shore-held run (run_sound calls) is_open [] tt tt
+  along = along_run s.id s.secret s.shore_width ls.shore_held run (run_sound calls) is_open [] tt tt
 
-  same_window : window_of s.shore-width numbers ≡ window_of s.shore-width (0 ∷ [])
+  same_window : window_of s.shore_width numbers ≡ window_of s.shore_width (0 ∷ [])
   same_window =
       sym (along.window_same refl) ∙ ap (λ (c : Connection). c.handshake.protection.window) (sym shore_is) ∙ P.shore_window s ls
 
-  keys_are : keys_in (session_of s.id s.secret) (past_of s.id s.secret s.shore-width run) ≡ kk
+  keys_are : keys_in (session_of s.id s.secret) (past_of s.id s.secret s.shore_width run) ≡ kk
   keys_are = sym (along.keys_same refl) ∙ ap (λ (c : Connection). keys_of c.handshake) (sym shore_is) ∙ sym tog.same_keys ∙ P.unit_keys s ls
 
   holds : HoldsNumbers (P.u₂ s ls) (0 ∷ [])
   holds =
-      let width_is : (P.u₂ s ls).protection.window.width ≡ s.unit-width = ap (λ (w : Window). w.width) (P.unit_window s ls) in
+      let width_is : (P.u₂ s ls).protection.window.width ≡ s.unit_width = ap (λ (w : Window). w.width) (P.unit_window s ls) in
       record {
-        held = subst Held (sym width_is) ls.unit-held;
+        held = subst Held (sym width_is) ls.unit_held;
         means = P.unit_window s ls ∙ ap (λ w. window_of w (0 ∷ [])) (sym width_is);
       }
 
   first_below : (n : ℕ) → accepted (0 ∷ []) n ≡ true → n < 1
-  first_below n a = only_0 s.unit-width ls.unit-held (0 ∷ []) refl n a
+  first_below n a = only_0 s.unit_width ls.unit_held (0 ∷ []) refl n a
 
   pub just_open : JustOpen kk e by_unit by_shore
   just_open =
       record {
         id = s.id;
         secret = s.secret;
-        width = s.shore-width;
-        held = ls.shore-held;
+        width = s.shore_width;
+        held = ls.shore_held;
         acts = run;
         sound = run_sound calls;
         shore_is = shore_is;
@@ -294,7 +294,7 @@ module _ (s : Setting) (ls : ListedSetting s) where
         holds = holds;
         keys_aboard = P.unit_keys s ls;
         from_unit_lem = subst (λ n. Begun kk FromUnit by_unit n numbers) (sym (P.next_aboard s ls))
-            (record { quiet = unit_quiet; opened = has_0 s.shore-width ls.shore-held numbers same_window; below = only_0 s.shore-width ls.shore-held numbers same_window });
+            (record { quiet = unit_quiet; opened = has_0 s.shore_width ls.shore_held numbers same_window; below = only_0 s.shore_width ls.shore_held numbers same_window });
         from_shore_lem = subst (λ n. Begun kk FromShore by_shore n (0 ∷ [])) (sym (P.next_ashore s ls))
             (record { quiet = shore_quiet; opened = accepted_here 0 []; below = first_below });
       }

@@ -198,7 +198,7 @@ module _ (s : Setting) (ls : ListedSetting s) where
   keys_used = P.k s ls
 
   abbrev sw : ℕ
-  sw = s.shore-width
+  sw = s.shore_width
 
   opened : c₂.handshake.state ≡ S.Open
   opened = (P.together s ls).is_open
@@ -222,32 +222,32 @@ module _ (s : Setting) (ls : ListedSetting s) where
   few_1 = omega arith
 
   few_far : 1 + sw ≤ 65535
-  few_far = let l = ls.shore-held.1 in omega arith
+  few_far = let l = ls.shore_held.1 in omega arith
 
   used_before : (bytes random out : List ℕ) → ListedData bytes → ListedRoom random out
       → Within [] (trace_of FromUnit (J.e s ls) (comes (unit_data keys_used 1 bytes) random out ∷ [])) → ⊥
   unfolding trace_of Within
   used_before bytes random out b o within =
       (subst (λ x. AllSentAs [] (unit_data keys_used 1 bytes) x)
-      (data_out_lem keys_used c₂ opened keyed sw ls.shore-held (0 ∷ []) (P.shore_window s ls) 1 few_1 low bytes b.some b.most random out o.random_size o.room)
+      (data_out_lem keys_used c₂ opened keyed sw ls.shore_held (0 ∷ []) (P.shore_window s ls) 1 few_1 low bytes b.some b.most random out o.random_size o.room)
       within.0).0
 
   on_its_way : (random out : List ℕ) → ListedRoom random out → StayOpen (J.e s ls) (comes (critical_alert keys_used 1) random out ∷ []) → ⊥
   unfolding Shore.step_of
   on_its_way random out o stays =
-      let closed = shuts keys_used c₂ opened keyed sw ls.shore-held (0 ∷ []) (P.shore_window s ls) 1 few_1 low random out o.random_size o.room in
+      let closed = shuts keys_used c₂ opened keyed sw ls.shore_held (0 ∷ []) (P.shore_window s ls) 1 few_1 low random out o.random_size o.room in
       let z : S.Closed ≡ S.Open = sym closed ∙ stays.2.0 in
       let y : ◌≡◌ {A = ℕ} 0 1 = cc in
       omega arith
 
   module _ (first later random out : List ℕ) (b : ListedData first) (f : ListedData later) (o : ListedRoom random out) where
     behind_it : Connection
-    behind_it = left keys_used c₂ opened keyed sw ls.shore-held (0 ∷ []) (P.shore_window s ls) (1 + sw) few_far low_far later f.some f.most random out o.random_size o.room
+    behind_it = left keys_used c₂ opened keyed sw ls.shore_held (0 ∷ []) (P.shore_window s ls) (1 + sw) few_far low_far later f.some f.most random out o.random_size o.room
 
     late_leaves : (Ashore.received_of c₂ (unit_data keys_used (1 + sw) later) random (length out)).connection ≡ behind_it
     unfolding behind_it
     late_leaves =
-        data_leaves keys_used c₂ opened keyed sw ls.shore-held (0 ∷ []) (P.shore_window s ls) (1 + sw) few_far low_far later f.some f.most random out o.random_size o.room
+        data_leaves keys_used c₂ opened keyed sw ls.shore_held (0 ∷ []) (P.shore_window s ls) (1 + sw) few_far low_far later f.some f.most random out o.random_size o.room
 
     late_open : behind_it.handshake.state ≡ S.Open
     unfolding behind_it left
@@ -263,7 +263,7 @@ module _ (s : Setting) (ls : ListedSetting s) where
 
     late_out : out_ashore (unit_data keys_used 1 first) (Ashore.received_of behind_it (unit_data keys_used 1 first) random (length out)).answers ≡ []
     late_out =
-        old_out keys_used behind_it late_open late_keyed sw ls.shore-held ((1 + sw) ∷ 0 ∷ []) late_window 1 few_1 far first b.most random out o.random_size o.room
+        old_out keys_used behind_it late_open late_keyed sw ls.shore_held ((1 + sw) ∷ 0 ∷ []) late_window 1 few_1 far first b.most random out o.random_size o.room
 
     too_late : trace_of FromUnit (done_by (J.e s ls) (comes (unit_data keys_used (1 + sw) later) random out)) (comes (unit_data keys_used 1 first) random out ∷ [])
         ≡ takes (unit_data keys_used 1 first) [] ∷ []
@@ -356,12 +356,12 @@ module _ (s : Setting) (r : Rooms) (ls : ListedSetting s) (lr : ListedRooms r) (
   keys_are : P.k s ls ≡ m.u₂.protection.keys
   keys_are = sym (P.unit_keys s ls) ∙ ap (λ (u : ShipsUnit). u.protection.keys) unit_is
 
-  pub needed_behind : Needed (ends_of m.u₂ m.c₂) m.u₂.protection.keys (m.flight ∷ m.hello ∷ []) (m.reply ∷ []) s.shore-width
+  pub needed_behind : Needed (ends_of m.u₂ m.c₂) m.u₂.protection.keys (m.flight ∷ m.hello ∷ []) (m.reply ∷ []) s.shore_width
   needed_behind =
-      subst (λ x. Needed (ends_of m.u₂ m.c₂) m.u₂.protection.keys (m.flight ∷ m.hello ∷ []) x s.shore-width) (λ i. reply_is i ∷ [])
-      (subst (λ x. Needed (ends_of m.u₂ m.c₂) m.u₂.protection.keys x (J.by_shore s ls) s.shore-width) (λ i. flight_is i ∷ hello_is i ∷ [])
-      (subst (λ x. Needed (ends_of m.u₂ m.c₂) x (J.by_unit s ls) (J.by_shore s ls) s.shore-width) keys_are
-      (subst (λ x. Needed x (P.k s ls) (J.by_unit s ls) (J.by_shore s ls) s.shore-width) (λ i. ends_of (unit_is i) (shore_is i)) (needed s ls))))
+      subst (λ x. Needed (ends_of m.u₂ m.c₂) m.u₂.protection.keys (m.flight ∷ m.hello ∷ []) x s.shore_width) (λ i. reply_is i ∷ [])
+      (subst (λ x. Needed (ends_of m.u₂ m.c₂) m.u₂.protection.keys x (J.by_shore s ls) s.shore_width) (λ i. flight_is i ∷ hello_is i ∷ [])
+      (subst (λ x. Needed (ends_of m.u₂ m.c₂) x (J.by_unit s ls) (J.by_shore s ls) s.shore_width) keys_are
+      (subst (λ x. Needed x (P.k s ls) (J.by_unit s ls) (J.by_shore s ls) s.shore_width) (λ i. ends_of (unit_is i) (shore_is i)) (needed s ls))))
 
 pub three_needed : ThreeNeeded
 unfolding ThreeNeeded

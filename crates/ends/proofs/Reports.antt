@@ -169,7 +169,7 @@ module _ (uw sw : ℕ) (held-unit : Held uw) (held-shore : Held sw) (e : Ends) (
           guarded = record { protection = refl; kind = inr t.is_open };
           coded = record { is_protected = refl; is_coded = reported_coded (keys_of h) FromUnit n few bytes some most };
           arrived = arrived_of sw (n ∷ t.ashore);
-          accepted = ap (λ x. accept_of x n) t.ashore-is ∙ takes sw held-shore t.ashore n t.ashore-below;
+          accepted = ap (λ x. accept_of x n) t.ashore_is ∙ takes sw held-shore t.ashore n t.ashore_below;
         }
 
     left : Connection
@@ -207,10 +207,10 @@ module _ (uw sw : ℕ) (held-unit : Held uw) (held-shore : Held sw) (e : Ends) (
             same_keys = t.same_keys;
             ashore = n ∷ t.ashore;
             ashore_is = refl;
-            ashore_below = highest_next n t.ashore t.ashore-below;
+            ashore_below = highest_next n t.ashore t.ashore_below;
             aboard = t.aboard;
-            aboard_is = t.aboard-is;
-            aboard_below = t.aboard-below;
+            aboard_is = t.aboard_is;
+            aboard_below = t.aboard_below;
           });
           keys_kept = ap (λ (x : ShipsUnit). x.protection.keys) went.leaves;
           unit_next = omega (arith, ap (λ (x : ShipsUnit). x.protection.protected) went.leaves);
@@ -248,7 +248,7 @@ module _ (uw sw : ℕ) (held-unit : Held uw) (held-shore : Held sw) (e : Ends) (
     chain₂ =
         chained_more
         (data_taken u d₂ r₂ t.talks refl refl bytes w₂ (arrived_of uw (n₂ ∷ t.aboard)) (reported_coded u.protection.keys FromShore n₂ few bytes some most)
-        (ap (λ x. accept_of x n₂) t.aboard-is ∙ takes uw held-unit t.aboard n₂ t.aboard-below) some)
+        (ap (λ x. accept_of x n₂) t.aboard_is ∙ takes uw held-unit t.aboard n₂ t.aboard_below) some)
         chained_end
 
     came₂ : Ship.Took u d₂ space (r₂ ∷ []) (Y.Data n₂ 3 (length bytes) ∷ []) left₂ ls (reported_framed u.protection.keys FromShore n₂ few bytes some most) chain₂
@@ -271,11 +271,11 @@ module _ (uw sw : ℕ) (held-unit : Held uw) (held-shore : Held sw) (e : Ends) (
             is_open = t.is_open;
             same_keys = t.same_keys;
             ashore = t.ashore;
-            ashore_is = t.ashore-is;
-            ashore_below = t.ashore-below;
+            ashore_is = t.ashore_is;
+            ashore_below = t.ashore_below;
             aboard = n₂ ∷ t.aboard;
             aboard_is = refl;
-            aboard_below = highest_next n₂ t.aboard t.aboard-below;
+            aboard_below = highest_next n₂ t.aboard t.aboard_below;
           });
           keys_kept = ap (λ (x : ShipsUnit). x.protection.keys) unit_is;
           unit_next = omega (arith, ap (λ (x : ShipsUnit). x.protection.protected) unit_is);
@@ -295,7 +295,7 @@ module _ (uw sw : ℕ) (held-unit : Held uw) (held-shore : Held sw) where
         q.sent,
         q.handed,
         all_handed turns (turned e (from_unit_lem bytes out random space)) q.together
-            (subst (λ (k : Keys). ListedTurns k.mac turns) (sym q.keys_kept) ls) (omega (arith, q.unit-next)) (omega (arith, q.shore-next)),
+            (subst (λ (k : Keys). ListedTurns k.mac turns) (sym q.keys_kept) ls) (omega (arith, q.unit_next)) (omega (arith, q.shore_next)),
       )
   all_handed (from_shore_lem bytes out space ∷ turns) e t (l, ls) a b =
       let q = shore_turn uw sw held-unit held-shore e t bytes out space l.0 l.1
@@ -303,5 +303,5 @@ module _ (uw sw : ℕ) (held-unit : Held uw) (held-shore : Held sw) where
         q.sent,
         q.handed,
         all_handed turns (turned e (from_shore_lem bytes out space)) q.together
-            (subst (λ (k : Keys). ListedTurns k.mac turns) (sym q.keys_kept) ls) (omega (arith, q.unit-next)) (omega (arith, q.shore-next)),
+            (subst (λ (k : Keys). ListedTurns k.mac turns) (sym q.keys_kept) ls) (omega (arith, q.unit_next)) (omega (arith, q.shore_next)),
       )

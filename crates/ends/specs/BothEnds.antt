@@ -124,7 +124,7 @@ pub record Reported (k : Keys) (e : Ends) (shore_width : ℕ) (doings : List Doi
 unfoldable pub BothEnds : Type 0
 BothEnds =
     (k : Keys) (e : Ends) (by_unit by_shore : List (List ℕ)) (doings : List Doing)
-    → (p : Premises k e by_unit by_shore doings) → Reported k e p.just-open.width doings
+    → (p : Premises k e by_unit by_shore doings) → Reported k e p.just_open.width doings
 
 -- Every reply that a shore writes, and every flight that a unit writes, is one of the others that the link may bring, whatever the open
 -- keys are and whatever keys it was made with.

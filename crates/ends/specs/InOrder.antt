@@ -38,8 +38,8 @@ pub record Setting : Type 0 where
 pub record ListedSetting (s : Setting) : Type 0 where
   pub id_size : length s.id ≡ 8
   pub secret_size_lem : length s.secret ≡ 20
-  pub unit_held : Held s.unit-width
-  pub shore_held : Held s.shore-width
+  pub unit_held : Held s.unit_width
+  pub shore_held : Held s.shore_width
   pub client_size : length s.client ≡ 16
   pub server_size : length s.server ≡ 16
   pub kinds_known : Kinds s.kinds
@@ -55,11 +55,11 @@ pub record Rooms : Type 0 where
 
 -- room as listed: under 45 bytes a hello that offers both kinds is refused, under 128 a receive
 pub record ListedRooms (r : Rooms) : Type 0 where
-  pub hello_room : 45 ≤ length r.for-hello
-  pub reply_room : 128 ≤ length r.for-reply
-  pub flight_room : 128 ≤ length r.for-flight
+  pub hello_room : 45 ≤ length r.for_hello
+  pub reply_room : 128 ≤ length r.for_reply
+  pub flight_room : 128 ≤ length r.for_flight
   pub random_size : length r.random ≡ 16
-  pub none_room : 128 ≤ length r.for-none
+  pub none_room : 128 ≤ length r.for_none
 
 -- The handshake: what each call gives and writes, the other end's datagram being what it receives.
 pub record Met (s : Setting) (r : Rooms) : Type 0 where
@@ -73,39 +73,39 @@ pub record Met (s : Setting) (r : Rooms) : Type 0 where
   pub reply : List ℕ
   pub flight : List ℕ
   -- "one session planted in both"
-  pub planted_aboard : AboardCalls.fresh_of s.id s.secret s.unit-width ≡ AboardCalls.leaving O.Done u₀
-  pub planted_ashore : AshoreCalls.fresh_of s.id s.secret s.shore-width ≡ AshoreCalls.leaving O.Done c₀
+  pub planted_aboard : AboardCalls.fresh_of s.id s.secret s.unit_width ≡ AboardCalls.leaving O.Done u₀
+  pub planted_ashore : AshoreCalls.fresh_of s.id s.secret s.shore_width ≡ AshoreCalls.leaving O.Done c₀
   -- "write the ClientHello"
-  pub greets : AboardHello.hello_sent u₀ s.client s.kinds s.refresh (length r.for-hello)
+  pub greets : AboardHello.hello_sent u₀ s.client s.kinds s.refresh (length r.for_hello)
       ≡ AboardSends.done_with (length hello) u₁
-  pub hello_written : AboardHello.hello_output u₀ s.client s.kinds s.refresh r.for-hello ≡ laid_over r.for-hello 0 hello
+  pub hello_written : AboardHello.hello_output u₀ s.client s.kinds s.refresh r.for_hello ≡ laid_over r.for_hello 0 hello
   -- the shore replies
-  pub replies : Ashore.received_of c₀ hello s.server (length r.for-reply)
+  pub replies : Ashore.received_of c₀ hello s.server (length r.for_reply)
       ≡ record {
         taken = Records 1;
         answers = Ashore.slots_of (A.Reply (length reply) ∷ []);
         written = length reply;
         connection = c₁;
       }
-  pub reply_written : Ashore.output_of c₀ hello s.server r.for-reply ≡ laid_over r.for-reply 0 reply
+  pub reply_written : Ashore.output_of c₀ hello s.server r.for_reply ≡ laid_over r.for_reply 0 reply
   -- "read the reply, verify our Finished, write change cipher spec and Finished"
-  pub opens : Aboard.received_of u₁ reply (length r.for-flight)
+  pub opens : Aboard.received_of u₁ reply (length r.for_flight)
       ≡ record {
         taken = Records 3;
         answers = Aboard.slots_of (B.Hello ∷ B.Spec ∷ B.Open (length flight) ∷ []);
         written = length flight;
         unit = u₂;
       }
-  pub flight_written : Aboard.output_of u₁ reply r.for-flight ≡ laid_over r.for-flight 0 flight
+  pub flight_written : Aboard.output_of u₁ reply r.for_flight ≡ laid_over r.for_flight 0 flight
   -- the shore takes change cipher spec and Finished, and is open too
-  pub opens_ashore : Ashore.received_of c₁ flight r.random (length r.for-none)
+  pub opens_ashore : Ashore.received_of c₁ flight r.random (length r.for_none)
       ≡ record {
         taken = Records 2;
         answers = Ashore.slots_of (A.Spec ∷ A.Open ∷ []);
         written = 0;
         connection = c₂;
       }
-  pub nothing_written : Ashore.output_of c₁ flight r.random r.for-none ≡ r.for-none
+  pub nothing_written : Ashore.output_of c₁ flight r.random r.for_none ≡ r.for_none
   -- ".. and data": every report of either is sent and handed out by the other, as sent and in order, "up to number 65,535"
   pub reports : (turns : List Turn) → ListedTurns u₂.protection.keys.mac turns → unit_turns turns ≤ 65535 → shore_turns turns ≤ 65535
       → AllHanded (ends_of u₂ c₂) turns

@@ -70,4 +70,4 @@ pub record Needed (e : Ends) (k : Keys) (by_unit by_shore : List (List ℕ)) (wi
 unfoldable pub ThreeNeeded : Type 0
 ThreeNeeded =
     (s : Setting) (r : Rooms) → ListedSetting s → ListedRooms r → (m : Met s r)
-    → Needed (ends_of m.u₂ m.c₂) m.u₂.protection.keys (m.flight ∷ m.hello ∷ []) (m.reply ∷ []) s.shore-width
+    → Needed (ends_of m.u₂ m.c₂) m.u₂.protection.keys (m.flight ∷ m.hello ∷ []) (m.reply ∷ []) s.shore_width

@@ -48,13 +48,13 @@ allowed_of v w =
     rw (
       eq-eqb (length v.random) 16 w.random_size,
       le-leb (length v.session) 8 w.session_size,
-      w.client-list,
-      w.trusted-list,
-      eq-eqb (length v.suites % 2) 0 w.suites-even,
-      le-leb 2 (length v.suites) w.suites-floor,
-      le-leb (length v.suites) 255 w.suites-ceiling,
-      le-leb 1 (length v.methods) w.methods-floor,
-      le-leb (length v.methods) 255 w.methods-ceiling,
+      w.client_list,
+      w.trusted_list,
+      eq-eqb (length v.suites % 2) 0 w.suites_even,
+      le-leb 2 (length v.suites) w.suites_floor,
+      le-leb (length v.suites) 255 w.suites_ceiling,
+      le-leb 1 (length v.methods) w.methods_floor,
+      le-leb (length v.methods) 255 w.methods_ceiling,
     )
     (le-leb (length (hello_from v)) 256 w.size)
 
@@ -109,13 +109,13 @@ allowed_parts v h =
     record {
       random_size = f.random_size;
       session_size = f.session_size;
-      client_list = f.client-list;
-      trusted_list = f.trusted-list;
-      suites_even = o.suites-even;
-      suites_floor = o.suites-floor;
-      suites_ceiling = o.suites-ceiling;
-      methods_floor = o.methods-floor;
-      methods_ceiling = o.methods-ceiling;
+      client_list = f.client_list;
+      trusted_list = f.trusted_list;
+      suites_even = o.suites_even;
+      suites_floor = o.suites_floor;
+      suites_ceiling = o.suites_ceiling;
+      methods_floor = o.methods_floor;
+      methods_ceiling = o.methods_ceiling;
       size = leb-true (length (hello_from v)) 256 b.1;
     }
 
@@ -272,7 +272,7 @@ filled kind m h =
 pub fills_of : (kind : ℕ) (m : List ℕ) → Filled kind m → fills kind m ≡ true
 unfolding fills
 fills_of kind m w =
-    rw (le-leb 3 (length m) w.long-enough, eq-eqb (get_or m 0 0) kind w.type)
+    rw (le-leb 3 (length m) w.long_enough, eq-eqb (get_or m 0 0) kind w.type)
     (eq-eqb (two_at m 1) (length m - 3) w.size)
 
 -- a message of bytes is its header and what is left after it
@@ -283,9 +283,9 @@ filled_message kind m b w =
     ap (λ (l : List ℕ). kind ∷ (l ++ drop 3 m)) t
     ∙ ap (λ (k : ℕ). k ∷ (get_or m 1 0 ∷ (get_or m 2 0 ∷ drop 3 m))) (sym w.type)
     ∙ sym
-    (byte_piece m 0 (omega (arith, w.long-enough))
-    ∙ ap (λ (l : List ℕ). get_or m 0 0 ∷ l) (byte_piece m 1 (omega (arith, w.long-enough)))
-    ∙ ap (λ (l : List ℕ). get_or m 0 0 ∷ (get_or m 1 0 ∷ l)) (byte_piece m 2 (omega (arith, w.long-enough))))
+    (byte_piece m 0 (omega (arith, w.long_enough))
+    ∙ ap (λ (l : List ℕ). get_or m 0 0 ∷ l) (byte_piece m 1 (omega (arith, w.long_enough)))
+    ∙ ap (λ (l : List ℕ). get_or m 0 0 ∷ (get_or m 1 0 ∷ l)) (byte_piece m 2 (omega (arith, w.long_enough))))
 
 -- a message of bytes that reads as well-formed
 module _ (m : List ℕ) (b : (i : ℕ) → get_or m i 0 < 256) (h : Hello) (w : Walked m h) where
@@ -476,25 +476,25 @@ module _ (v : Given) (w : Allowed v) where
   e4 =
       ap (keys_end sent) e3
       ∙ keys_at sent s c (long_end_lem sent s v.client from_trusted r3 (omega (arith, r4.size, w.size)))
-      (ap key_list (long_part sent s v.client from_trusted r3) ∙ w.client-list)
+      (ap key_list (long_part sent s v.client from_trusted r3) ∙ w.client_list)
 
   e5 : trusted_end sent ≡ t
   e5 =
       ap (keys_end sent) e4
       ∙ keys_at sent c t (long_end_lem sent c v.trusted from_suites r4 (omega (arith, r5.size, w.size)))
-      (ap key_list (long_part sent c v.trusted from_suites r4) ∙ w.trusted-list)
+      (ap key_list (long_part sent c v.trusted from_suites r4) ∙ w.trusted_list)
 
   e6 : pairs_end sent ≡ p
   e6 =
       ap (suites_end sent) e5
       ∙ suites_at sent t p (length v.suites) (rest_byte sent t (length v.suites) (v.suites ++ from_methods) r5)
-      w.suites-even
-      (short_end_lem 2 255 sent t v.suites from_methods r5 w.suites-floor w.suites-ceiling)
+      w.suites_even
+      (short_end_lem 2 255 sent t v.suites from_methods r5 w.suites_floor w.suites_ceiling)
 
   e7 : methods_end sent ≡ z
   e7 =
       ap (short_end 1 255 sent) e6
-      ∙ short_end_lem 1 255 sent p v.methods last r6 w.methods-floor w.methods-ceiling
+      ∙ short_end_lem 1 255 sent p v.methods last r6 w.methods_floor w.methods_ceiling
 
   e8 : numbering_end sent ≡ z + 1
   e8 = ap (λ (a : ℕ). field_end sent a 1) e7 ∙ front_end sent z 1 (v.numbering ∷ []) (v.refresh ∷ []) r7 refl

@@ -45,7 +45,7 @@ formed m end e =
     go false b c ea eb ec h = let z : ◌≡◌ {A = ℕ} 0 1 = cc in absurd (omega arith)
 
 pub end_most : (m : List ℕ) (end : ℕ) → server_read m ≡ WellFormed end → end ≤ 29
-end_most m end e = let f = formed m end e in omega (arith, f.short-enough, f.end_is)
+end_most m end e = let f = formed m end e in omega (arith, f.short_enough, f.end_is)
 
 -- ---- what is written is read back
 
@@ -173,7 +173,7 @@ module _ (m : List ℕ) (b : (i : ℕ) → get_or m i 0 < 256) (end : ℕ) (e : 
   allowed_back : server_allowed (server_values_at m end) ≡ true
   allowed_back =
       rw (eq-eqb (length (part_of m 4 20)) 16 random_size)
-      (le-leb (length (part_of m 21 end)) 8 (omega (arith, session_size, f.short-enough)))
+      (le-leb (length (part_of m 21 end)) 8 (omega (arith, session_size, f.short_enough)))
 
 pub server_hellos_as_written : ServerHellosAsWritten
 server_hellos_as_written =

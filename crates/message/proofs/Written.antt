@@ -71,8 +71,8 @@ values_can g bc bt h =
     let p = allowed_parts g h in
     let f = both_split (fields_given g.random g.session g.client g.trusted) _ h in
     let o = both_split (offers_allowed g.suites g.methods) _ f.1 in
-    let c = list_read g.client bc p.client-list in
-    let t = list_read g.trusted bt p.trusted-list in
+    let c = list_read g.client bc p.client_list in
+    let t = list_read g.trusted bt p.trusted_list in
     let again : bytes_of (values_in g) ≡ g =
     λ i. given_of g.version g.random g.session (c.1 i) (t.1 i) g.suites g.methods g.numbering g.refresh in (
       rw (

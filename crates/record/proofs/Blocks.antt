@@ -77,13 +77,13 @@ go_on s sum i w h small =
       b = bit_xor w.b q;
       c = bit_xor w.c r;
       d = bit_xor w.d t;
-      small_a = xor_lt 8 w.a p w.small-a (small i);
+      small_a = xor_lt 8 w.a p w.small_a (small i);
       small_b = xor_lt 8 w.b q w.small_b (small (i + 1));
-      small_c = xor_lt 8 w.c r w.small-c (small (i + 2));
-      small_d = xor_lt 8 w.d t w.small-d (small (i + 3));
+      small_c = xor_lt 8 w.c r w.small_c (small (i + 2));
+      small_d = xor_lt 8 w.d t w.small_d (small (i + 3));
       spells =
           ap (λ (x : ℕ). bit_xor x (spelled p q r t)) w.spells
-          ∙ xor_spelled w.a w.b w.c w.d p q r t w.small_b w.small-c w.small-d (small (i + 1)) (small (i + 2)) (small (i + 3));
+          ∙ xor_spelled w.a w.b w.c w.d p q r t w.small_b w.small_c w.small_d (small (i + 1)) (small (i + 2)) (small (i + 3));
       inside = omega (arith, w.inside);
       so_far =
           w.so_far
@@ -106,7 +106,7 @@ one_block a b c d ha hb hc hd (p ∷ q ∷ r ∷ s ∷ t) h small = absurd (omeg
 pub done : (s : List ℕ) (sum i : ℕ) → Summed s sum i → length (drop i s) < 4 → ((k : ℕ) → get_or s k 0 < 256) → bit_xor sum (word_at (padded (drop i s)) 0) ≡ word_at (checksum_of s) 0
 done s sum i w h small =
     ap (λ (x : ℕ). bit_xor x (word_at (padded (drop i s)) 0)) w.spells
-    ∙ sym (one_block w.a w.b w.c w.d w.small-a w.small_b w.small-c w.small-d (drop i s) h (λ k. rw (get_or-drop i s k 0) (small (i + k))))
+    ∙ sym (one_block w.a w.b w.c w.d w.small_a w.small_b w.small_c w.small_d (drop i s) h (λ k. rw (get_or-drop i s k 0) (small (i + k))))
     ∙ ap (λ (x : List ℕ). word_at x 0) (sym w.so_far)
 
 -- the last block, by how many bytes it has

@@ -94,6 +94,6 @@ module _ (p : Protection) (ours : List ℕ) (l : length ours ≡ 15) (fresh : p.
       → d₂ ≡ flight_with p.keys ours
   unfolding flight_bytes
   flown_by d₁ d₂ f₁ f₂ =
-      two_laid first second d₁ d₂ parts.first-size parts.second-size f₁ f₂
+      two_laid first second d₁ d₂ parts.first_size parts.second_size f₁ f₂
       ∙ ap₂ (λ x y. x ++ y) first_is second_is
       ∙ padded_last change_record r change_size few

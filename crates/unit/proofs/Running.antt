@@ -85,7 +85,7 @@ ran_more u d records answers left opens i h l j n e f ran =
     record {
       left_is = ap (λ x. x.unit) j-is ∙ sym (end_snoc u d before r) ∙ sym (ap (end_of u d) more);
       answers_are =
-          ap₂ (λ x y. set x i (slot y)) ran.answers-are answer_is
+          ap₂ (λ x y. set x i (slot y)) ran.answers_are answer_is
           ∙ slots_more (answers_of u d before) (judged_record (end_of u d before) d r).answer i size h
           ∙ ap slots_of all;
       opens_is =
@@ -109,7 +109,7 @@ unfolding run_of
 run_by u d records count answers left opens written l ran ew =
     let size = sym (length-take-le count records l) in
     let sent = ew ∙ ap length (flight_is u d records count answers left opens ran) in
-    λ i. record { taken = Records (size i); answers = ran.answers-are i; written = sent i; unit = ran.left_is i }
+    λ i. record { taken = Records (size i); answers = ran.answers_are i; written = sent i; unit = ran.left_is i }
 
 -- where the loop has ended
 pub ran_at : (u : Unit) (d : List ℕ) (records : List Record) (answers : List Slot) (left : Unit) (opens i count : ℕ)
