@@ -1,0 +1,58 @@
+-- `message::acceptance::accept` meets its contract: each return is a case of `accepted_of`. Assumes nothing.
+use native.Mathlib.Omega.{arith}
+use Rattle.digest.proofs.Picks.{if_eq, if_ne}
+use mathlib.Core.Path.{refl, sym}
+use Rattle.message.specs.Acceptance.{accepted_of}
+use Rattle.message.proofs.acceptance.accept.Goals as goal
+
+pub returns-then-version-ne1 : goal.returns-then-version-ne1
+unfolding accepted_of
+returns-then-version-ne1 c = if_ne _ c.args.version 1 (λ z. omega arith) refl
+
+pub returns-then-not-same_code : goal.returns-then-not-same_code
+unfolding accepted_of
+returns-then-not-same_code c = rw (sym c.same_code.ensures.exact, c.if-not-same_code.true) (if_eq _ c.args.version 1 (omega arith) refl)
+
+pub returns-in_default : goal.returns-in_default
+unfolding accepted_of
+returns-in_default c = rw (sym c.same_code.ensures.exact, c.if-not-same_code.false, sym c.first_fit.ensures, sym c.listed.ensures.exact, c.in_default.is)
+    (if_eq _ c.args.version 1 (omega arith) refl)
+
+pub returns-then-not-has_null : goal.returns-then-not-has_null
+unfolding accepted_of
+returns-then-not-has_null c = rw (
+      sym c.same_code.ensures.exact,
+      c.if-not-same_code.false,
+      sym c.first_fit.ensures,
+      sym c.listed.ensures.exact,
+      c.in-Is.is,
+      sym c.has_null.ensures,
+      c.if-not-has_null.true,
+    )
+    (if_eq _ c.args.version 1 (omega arith) refl)
+
+pub returns-then-numbering-ne2 : goal.returns-then-numbering-ne2
+unfolding accepted_of
+returns-then-numbering-ne2 c = rw (
+      sym c.same_code.ensures.exact,
+      c.if-not-same_code.false,
+      sym c.first_fit.ensures,
+      sym c.listed.ensures.exact,
+      c.in-Is.is,
+      sym c.has_null.ensures,
+      c.if-not-has_null.false,
+    )
+    (if_eq _ c.args.version 1 (omega arith) (if_ne _ c.args.numbering 2 (λ z. omega arith) refl))
+
+pub returns : goal.returns
+unfolding accepted_of
+returns c = rw (
+      sym c.same_code.ensures.exact,
+      c.if-not-same_code.false,
+      sym c.first_fit.ensures,
+      sym c.listed.ensures.exact,
+      c.in-Is.is,
+      sym c.has_null.ensures,
+      c.if-not-has_null.false,
+    )
+    (if_eq _ c.args.version 1 (omega arith) (if_eq _ c.args.numbering 2 (omega arith) refl))

@@ -1,0 +1,20 @@
+-- `message::field::two_at` meets its contract: both bytes are below 256. Assumes nothing.
+use mathlib.Core.Path.{refl}
+use Prim.Native.Nat.{◌+◌}
+use native.Mathlib.Omega.{arith}
+use Rattle.message.proofs.field.two_at.Goals as goal
+
+pub overflow_cast-high : goal.overflow_cast-high
+overflow_cast-high c = omega (arith, c.shared_slice_known-1.given c.args.at)
+
+pub overflow_cast-low : goal.overflow_cast-low
+overflow_cast-low c = omega (arith, c.shared_slice_known-1.given c.args.at, c.shared_slice_known-2-1.given (c.args.at + 1))
+
+pub overflow_mul-result : goal.overflow_mul-result
+overflow_mul-result c = omega (arith, c.shared_slice_known-1.given c.args.at, c.shared_slice_known-2-1.given (c.args.at + 1))
+
+pub overflow_add-result : goal.overflow_add-result
+overflow_add-result c = omega (arith, c.shared_slice_known-1.given c.args.at, c.shared_slice_known-2-1.given (c.args.at + 1))
+
+pub returns : goal.returns
+returns c = (refl, omega (arith, c.shared_slice_known-1.given c.args.at, c.shared_slice_known-2-1.given (c.args.at + 1)))
