@@ -138,6 +138,7 @@ reading_exactly b below =
 
 sized_told : (l : List Report) → all_sized l ≡ true → Unsized l → ⊥
 unfolding all_sized
+sized_told [] e x'' = elim x'' [ ]
 sized_told (r ∷ l) e (empty h) = told (is_sized (length r.bytes)) refl e
   where
     told : (t : Bool) → is_sized (length r.bytes) ≡ t → pick t (all_sized l) false ≡ true → ⊥

@@ -1,0 +1,9 @@
+-- `handshake::blank`: made of no session.
+use mathlib.Core.Path.{◌∙◌, ap}
+use Rattle.record.specs.Window.{window_width}
+use Rattle.connection.specs.Handshake.{new_handshake}
+use Rattle.connection.specs.declared.state.State.TheVariants.{Barred}
+use Rattle.connection.proofs.handshake.blank.Goals as goal
+
+pub returns : goal.returns
+returns c = c.made.ensures ∙ ap (λ s. new_handshake s window_width Barred) c.no_session.ensures
