@@ -1,0 +1,15 @@
+-- `speed_codes`: each code that is made is the code of the message.
+use Prim.Native.Nat.{◌-◌}
+use mathlib.Core.Path.{◌∙◌, ap}
+use borrow.Author.Rules.{rules}
+use Rattle.digest.specs.Bytes.{laid_within}
+use Rattle.speed.proofs.speed_codes.Goals as goal
+
+pub loop-i-init : goal.loop-i-init
+loop-i-init c = (c.code-c.ensures _ c.new-k.ensures.exact, search rules)
+
+pub loop-i-preserved : goal.loop-i-preserved
+loop-i-preserved c = (c.code-c-in-loop-i.ensures _ c.new-k.ensures.exact, search rules)
+
+pub returns : goal.returns
+returns c = c.put.ensures.exact ∙ ap (laid_within _ 0) c.loop-i.invariant.0
