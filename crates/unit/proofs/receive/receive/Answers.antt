@@ -1,0 +1,36 @@
+-- `receive::receive`: 6, the framing, then the records.
+use mathlib.Core.Path.{refl}
+use lib.ListN.{length}
+use Rattle.digest.proofs.Picks.{if_lt, if_ge}
+use Rattle.connection.proofs.Running.{walk_sound, walk_refused, laid_nothing}
+use Rattle.unit.specs.Receive.{received_of, output_of}
+use native.Mathlib.Omega.{arith}
+use Rattle.unit.proofs.receive.receive.Goals as goal
+
+-- the clauses of the contract, each under its name
+named : {A B : Type 0} → A × B → record { exact : A; bytes : B }
+named x = record { exact = x.0; bytes = x.1 }
+
+pub returns-then-out-lt128 : goal.returns-then-out-lt128
+unfolding received_of output_of
+returns-then-out-lt128 c = let out = c.args.out.now in
+    record { exact = if_lt _ (length out) 128 (omega arith) c.whole.ensures; bytes = if_lt _ (length out) 128 (omega arith) refl }
+
+pub each-requires : goal.each-requires
+each-requires c = (c.walked-walk.ensures, omega (arith, c.if-out-lt128.false))
+
+pub returns-in-Refused : goal.returns-in-Refused
+unfolding received_of output_of
+returns-in-Refused c = named (let out = c.args.out.now in
+    rw (walk_refused c.args.datagram.now c.walked-walk.result _ _ c.walked-walk.ensures c.in-Refused.is) (
+      if_ge _ (length out) 128 (omega arith) c.whole-in-Refused.ensures,
+      if_ge _ (length out) 128 (omega arith) (laid_nothing out),
+    ))
+
+pub returns-in-Sound : goal.returns-in-Sound
+unfolding received_of output_of
+returns-in-Sound c = named (let out = c.args.out.now in
+    rw (walk_sound c.args.datagram.now c.walked-walk.result c.walked-walk.ensures c.in-Sound.is) (
+      if_ge _ (length out) 128 (omega arith) c.each.ensures.value,
+      if_ge _ (length out) 128 (omega arith) c.each.ensures.out_after,
+    ))
