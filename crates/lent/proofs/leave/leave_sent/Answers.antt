@@ -1,0 +1,14 @@
+-- `leave::leave_sent`: refused, nothing is written; done, the connection.
+use mathlib.Core.Path.{refl, ◌∙◌, ap}
+use Rattle.lent.specs.Calls.{result_of}
+use Rattle.lent.proofs.leave.leave_sent.Goals as goal
+
+-- the clauses of the contract, each under its name
+named : {A B C : Type 0} → A × (B × C) → record { value : A; state_after : B; state_after_2 : C }
+named x = record { value = x.0; state_after = x.1.0; state_after_2 = x.1.1 }
+
+pub returns-in-Refused : goal.returns-in-Refused
+returns-in-Refused c = named (rw c.in-Refused.is (c.result_of.ensures.exact ∙ ap (λ x. result_of x c.args.sent.written 0) c.number.ensures, (refl, refl)))
+
+pub returns-in-Done : goal.returns-in-Done
+returns-in-Done c = named (rw c.in-Done.is (c.result_of-in-Done.ensures.exact, (c.put_connection.ensures.d_after, c.put_connection.ensures.d_after_2)))

@@ -1,0 +1,94 @@
+-- `send_alert`: three numbers out of range, then the bytes, then the call.
+use mathlib.Core.Path.{◌≡◌, refl, sym, ◌∙◌, ap}
+use mathlib.Core.Bool.{Bool}
+use mathlib.Core.List.{List}
+use Prim.Native.Nat.{ℕ}
+use lib.ListN.{length}
+use lib.Dec.{eqb}
+use Rattle.connection.specs.Send.{alert_sent, alert_output, unsent}
+use Rattle.connection.specs.declared.refusal.Refusal.TheVariants.{Argument}
+use Rattle.lent.specs.Saved.{is_saved, connection_in, Loaded, loaded}
+use Rattle.lent.specs.Calls.{alert_result, alert_state, alert_out, sent_result, sent_state, sent_loads, not_taken, alert_loads}
+use Rattle.lent.proofs.Calling.{saved_size, test_yes, test_no, either, sense_in, sense_out, sense_same, level_above, level_above_output, description_above, description_above_output}
+use Rattle.lent.proofs.send_alert.Goals as goal
+
+pub returns-then-protected-gt1 : goal.returns-then-protected-gt1
+unfolding alert_result alert_state alert_out alert_loads
+returns-then-protected-gt1 c = let state = c.args.state.now in
+    let p = c.args.protected in
+    let level = c.args.level in
+    let description = c.args.description in
+    let answered = c.args.answered.now in
+    let out = c.args.out.now in
+    let result : Bool → ℕ = λ b. sent_result (alert_sent (connection_in state) b level description answered (length out)) in
+    let left : Bool → List ℕ = λ b. sent_state state (alert_sent (connection_in state) b level description answered (length out)) in
+    let loads : Bool → Loaded = λ b. sent_loads state (alert_sent (connection_in state) b level description answered (length out)) in
+    let written : Bool → List ℕ = λ b. alert_output (connection_in state) b level description answered out in
+    let above = c.if-protected-gt1.true in
+    let no = c.not_taken.ensures in
+    record { exact = either (is_saved state) (no ∙ sense_out ℕ p result not_taken above) no; connection = either (is_saved state) (sense_out (List ℕ) p left state above) refl; bytes = either (is_saved state) (sense_out (List ℕ) p written out above) refl; loads = either (is_saved state) (sense_out Loaded p loads (loaded state) above) refl }
+
+pub returns-then-level-gt255 : goal.returns-then-level-gt255
+unfolding alert_result alert_state alert_out alert_loads
+returns-then-level-gt255 c = let state = c.args.state.now in
+    let p = c.args.protected in
+    let level = c.args.level in
+    let description = c.args.description in
+    let answered = c.args.answered.now in
+    let out = c.args.out.now in
+    let result : Bool → ℕ = λ b. sent_result (alert_sent (connection_in state) b level description answered (length out)) in
+    let left : Bool → List ℕ = λ b. sent_state state (alert_sent (connection_in state) b level description answered (length out)) in
+    let loads : Bool → Loaded = λ b. sent_loads state (alert_sent (connection_in state) b level description answered (length out)) in
+    let written : Bool → List ℕ = λ b. alert_output (connection_in state) b level description answered out in
+    let above = c.if-level-gt255.true in
+    let no = c.not_taken-then-level-gt255.ensures in
+    let sent : (b : Bool) → unsent (connection_in state) Argument ≡ alert_sent (connection_in state) b level description answered (length out)
+    = λ b. level_above (connection_in state) b level description answered (length out) above in
+    record { exact = either (is_saved state) (no ∙ sense_same ℕ p result not_taken (λ b. ap sent_result (sent b))) no; connection = either (is_saved state) (sense_same (List ℕ) p left state (λ b. ap (sent_state state) (sent b))) refl; bytes = either (is_saved state) (sense_same (List ℕ) p written out (λ b. level_above_output (connection_in state) b level description answered out above)) refl; loads = either (is_saved state) (sense_same Loaded p loads (loaded state) (λ b. ap (sent_loads state) (sent b))) refl }
+
+pub returns-then-description-gt255 : goal.returns-then-description-gt255
+unfolding alert_result alert_state alert_out alert_loads
+returns-then-description-gt255 c = let state = c.args.state.now in
+    let p = c.args.protected in
+    let level = c.args.level in
+    let description = c.args.description in
+    let answered = c.args.answered.now in
+    let out = c.args.out.now in
+    let result : Bool → ℕ = λ b. sent_result (alert_sent (connection_in state) b level description answered (length out)) in
+    let left : Bool → List ℕ = λ b. sent_state state (alert_sent (connection_in state) b level description answered (length out)) in
+    let loads : Bool → Loaded = λ b. sent_loads state (alert_sent (connection_in state) b level description answered (length out)) in
+    let written : Bool → List ℕ = λ b. alert_output (connection_in state) b level description answered out in
+    let above = c.if-description-gt255.true in
+    let no = c.not_taken-then-description-gt255.ensures in
+    let sent : (b : Bool) → unsent (connection_in state) Argument ≡ alert_sent (connection_in state) b level description answered (length out)
+    = λ b. description_above (connection_in state) b level description answered (length out) above in
+    record { exact = either (is_saved state) (no ∙ sense_same ℕ p result not_taken (λ b. ap sent_result (sent b))) no; connection = either (is_saved state) (sense_same (List ℕ) p left state (λ b. ap (sent_state state) (sent b))) refl; bytes = either (is_saved state) (sense_same (List ℕ) p written out (λ b. description_above_output (connection_in state) b level description answered out above)) refl; loads = either (is_saved state) (sense_same Loaded p loads (loaded state) (λ b. ap (sent_loads state) (sent b))) refl }
+
+pub connection_in-requires : goal.connection_in-requires
+connection_in-requires c = saved_size c.args.state.now (sym c.is_saved.ensures.exact ∙ c.if-is_saved.true)
+
+pub leave_sent-requires : goal.leave_sent-requires
+leave_sent-requires c = saved_size c.args.state.now (sym c.is_saved.ensures.exact ∙ c.if-is_saved.true)
+
+pub returns-then-is_saved : goal.returns-then-is_saved
+unfolding alert_result alert_state alert_out alert_loads
+returns-then-is_saved c = let state = c.args.state.now in
+    let p = c.args.protected in
+    let level = c.args.level in
+    let description = c.args.description in
+    let answered = c.args.answered.now in
+    let out = c.args.out.now in
+    let result : Bool → ℕ = λ b. sent_result (alert_sent (connection_in state) b level description answered (length out)) in
+    let left : Bool → List ℕ = λ b. sent_state state (alert_sent (connection_in state) b level description answered (length out)) in
+    let loads : Bool → Loaded = λ b. sent_loads state (alert_sent (connection_in state) b level description answered (length out)) in
+    let written : Bool → List ℕ = λ b. alert_output (connection_in state) b level description answered out in
+    let is = c.is_saved.ensures.exact in
+    let yes = c.if-is_saved.true in
+    let low = c.if-protected-gt1.false in
+    let sent = c.send_alert-sent.ensures.exact ∙ ap (λ x. alert_sent x (eqb p 1) level description answered (length out)) c.connection_in.ensures in
+    let put = c.send_alert-sent.ensures.bytes ∙ ap (λ x. alert_output x (eqb p 1) level description answered out) c.connection_in.ensures in
+    record { exact = test_yes _ is yes (c.leave_sent.ensures.value ∙ ap sent_result sent ∙ sense_in p result not_taken low); connection = test_yes _ is yes (c.leave_sent.ensures.state_after ∙ ap (sent_state state) sent ∙ sense_in p left state low); bytes = test_yes _ is yes (put ∙ sense_in p written out low); loads = test_yes _ is yes (c.leave_sent.ensures.state_after_2 ∙ ap (sent_loads state) sent ∙ sense_in p loads (loaded state) low) }
+
+pub returns : goal.returns
+unfolding alert_result alert_state alert_out alert_loads
+returns c = record { exact = test_no _ c.is_saved.ensures.exact c.if-is_saved.false c.not_taken-2.ensures; connection = test_no _ c.is_saved.ensures.exact c.if-is_saved.false refl; bytes = test_no _ c.is_saved.ensures.exact c.if-is_saved.false refl; loads = test_no _ c.is_saved.ensures.exact c.if-is_saved.false refl }
