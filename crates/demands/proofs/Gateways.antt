@@ -115,6 +115,8 @@ hands_out id secret width held acts sound is_open calls d random out before r re
 
 chain_length : (random d : List ℕ) (c : Connection) (rs : List Record) (answers : List Answer) (left : Connection)
     → Chain random d c rs answers left → length answers ≡ length rs
+chain_length random d c [] (a ∷ answers) left x'' = elim x'' [ ]
+chain_length random d c (r ∷ rs) [] left x3 = elim x3 [ ]
 chain_length random d c [] [] left chain_end = refl
 chain_length random d c (r ∷ rs) (a ∷ answers) left (chain_more {t = t} row more) =
     ap (λ n. suc n) (chain_length random d t.connection rs answers left more)

@@ -76,7 +76,7 @@ module _ (h : Handshake) (sent : SentRecords) (numbers random : List ℕ) (windo
   newly : (c : List ℕ) (w : Window) → New h d r c w → NewAs h numbers q c
   newly c w n =
       let m = new_means width numbers r.number w n.arrived (sym by_history ∙ n.accepted) in
-      record { guarded = n.guarded; coded = n.coded.is-coded; recent = m.0; unseen = m.1 }
+      record { guarded = n.guarded; coded = n.coded.is_coded; recent = m.0; unseen = m.1 }
 
   newly-in : (c : List ℕ) → NewAs h numbers q c → New h d r c (window_of width (r.number ∷ numbers))
   newly-in c n =
@@ -114,9 +114,9 @@ module _ (h : Handshake) (sent : SentRecords) (numbers random : List ℕ) (windo
   row-why (row_clear_critical a s p c e k l) = tt
   row-why (row_clear_fatal a s p c e k l) = tt
   row-why (row_forged g n) = (g, λ c e. n c (record { is_protected = g.protection; is_coded = e }))
-  row-why (row_old c g s e) = (g, (c, s.is-coded), old_means width numbers r.number (sym by_history ∙ e))
+  row-why (row_old c g s e) = (g, (c, s.is_coded), old_means width numbers r.number (sym by_history ∙ e))
   row-why (row_repeated c g s e) =
-      let m = repeated_means width numbers r.number (sym by_history ∙ e) in (g, (c, s.is-coded), m.0, m.1)
+      let m = repeated_means width numbers r.number (sym by_history ∙ e) in (g, (c, s.is_coded), m.0, m.1)
   row-why (row_malformed c w n m) = malformed-why c (newly c w n) r.content refl m
   row-why (row_data c w n e m) = tt
   row-why (row_warning c w a n e m l) = tt
@@ -152,7 +152,7 @@ module _ (h : Handshake) (sent : SentRecords) (numbers random : List ℕ) (windo
   why-row : (x : Refusal) → WhyRecord h sent numbers q x → Refused x
   why-row X.Ended o = by_row (row_ended o)
   why-row X.NotAllowed (live, none, unreturned) = by_row (row_not_allowed live none unreturned)
-  why-row X.Forged (g, n) = by_row (row_forged g (λ c s. n c s.is-coded))
+  why-row X.Forged (g, n) = by_row (row_forged g (λ c s. n c s.is_coded))
   why-row X.TooOld (g, (c, k), l) =
       by_row (row_old c g (record { is_protected = g.protection; is_coded = k }) (by_history ∙ old_when width numbers r.number l))
   why-row X.Repeated (g, (c, k), l, a) =

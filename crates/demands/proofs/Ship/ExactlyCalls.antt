@@ -233,6 +233,14 @@ module _ (u : Ship) (bytes : List ℕ) (room : ℕ) where
 
   data-because : (x : Refusal) → DataWhy x → (data_sent u bytes room).outcome ≡ Refused x
   unfolding data_sent
+  data-because (X.Framing _) x3 = elim x3 [ ]
+  data-because X.Forged x3 = elim x3 [ ]
+  data-because X.TooOld x4 = elim x4 [ ]
+  data-because X.Repeated x5 = elim x5 [ ]
+  data-because X.Malformed x6 = elim x6 [ ]
+  data-because X.Unacceptable x7 = elim x7 [ ]
+  data-because X.Checksum x8 = elim x8 [ ]
+  data-because X.WrongFinished x9 = elim x9 [ ]
   data-because X.Argument (data_16 (inl e)) = rw (eq-eqb (length bytes) 0 e) refl
   data-because X.Argument (data_16 (inr l)) = rw (ne_eqb (length bytes) 0 (λ e. omega arith), lt-ltb 1300 (length bytes) l) refl
   data-because X.Ended (data_7 f o) = ap (λ s. s.outcome) (data-in (Refused X.Ended) f (over-protects u.state o))
@@ -363,6 +371,14 @@ module _ (u : Ship) (level description : ℕ) (answered : List ℕ) (room : ℕ)
 
   alert-because : (protected : Bool) (x : Refusal) → AlertWhy protected x → (alert_sent u protected level description answered room).outcome ≡ Refused x
   unfolding alert_sent_by
+  alert-because protected (X.Framing _) x3 = elim x3 [ ]
+  alert-because protected X.Forged x3 = elim x3 [ ]
+  alert-because protected X.TooOld x4 = elim x4 [ ]
+  alert-because protected X.Repeated x5 = elim x5 [ ]
+  alert-because protected X.Malformed x6 = elim x6 [ ]
+  alert-because protected X.Unacceptable x7 = elim x7 [ ]
+  alert-because protected X.Checksum x8 = elim x8 [ ]
+  alert-because protected X.WrongFinished x9 = elim x9 [ ]
   alert-because protected X.Argument (alert_16 n) = unfit (alert_sent u protected level description answered room) (alert-holds protected)
     where
       unfit : (s : Sent) → SentHolds (AlertWhy protected) (AlertGoes protected) (9 + alert_code_of protected u) s → s.outcome ≡ Refused X.Argument
@@ -370,6 +386,14 @@ module _ (u : Ship) (level description : ℕ) (answered : List ℕ) (room : ℕ)
         where
           by : (o : Outcome) → OutcomeHolds (AlertWhy protected) (AlertGoes protected) (9 + alert_code_of protected u) s.written o → o ≡ Refused X.Argument
           by Done (g, e) = absurd (n g.0)
+          by (Refused (X.Framing _)) (w, e) = elim w [ ]
+          by (Refused X.Forged) (w, e) = elim w [ ]
+          by (Refused X.TooOld) (w, e) = elim w [ ]
+          by (Refused X.Repeated) (w, e) = elim w [ ]
+          by (Refused X.Malformed) (w, e) = elim w [ ]
+          by (Refused X.Unacceptable) (w, e) = elim w [ ]
+          by (Refused X.Checksum) (w, e) = elim w [ ]
+          by (Refused X.WrongFinished) (w, e) = elim w [ ]
           by (Refused X.Argument) (alert_16 m, e) = refl
           by (Refused X.Ended) (alert_7 f o, e) = absurd (n f)
           by (Refused X.NotAllowed) (alert_8 f o, e) = absurd (n f)
@@ -513,6 +537,60 @@ module _ (u : Ship) (id8 : length u.id ≡ 8) (random macs : List ℕ) (refresh 
 
   -- an outcome that holds is the only one for which there is a reason
   only : (o : Outcome) (written : ℕ) → OutcomeHolds HelloWhy HelloGoes (hello_size macs) written o → (x : Refusal) → HelloWhy x → o ≡ Refused x
+  only Done written ((f , i , l) , e) (X.Framing _) x13 = elim x13 [ ]
+  only Done written ((f , i , l) , e) X.Forged x13 = elim x13 [ ]
+  only Done written ((f , i , l) , e) X.TooOld x14 = elim x14 [ ]
+  only Done written ((f , i , l) , e) X.Repeated x15 = elim x15 [ ]
+  only Done written ((f , i , l) , e) X.Malformed x16 = elim x16 [ ]
+  only Done written ((f , i , l) , e) X.Unacceptable x17 = elim x17 [ ]
+  only Done written ((f , i , l) , e) X.Checksum x18 = elim x18 [ ]
+  only Done written ((f , i , l) , e) X.Spent x19 = elim x19 [ ]
+  only Done written ((f , i , l) , e) X.WrongFinished x20 = elim x20 [ ]
+  only (Refused (X.Framing _)) written (w, e) _ _ = elim w [ ]
+  only (Refused X.Room) written (hello_6 f i l , e) (X.Framing _) x22 = elim x22 [ ]
+  only (Refused X.Room) written (hello_6 f i l , e) X.Forged x22 = elim x22 [ ]
+  only (Refused X.Room) written (hello_6 f i l , e) X.TooOld x23 = elim x23 [ ]
+  only (Refused X.Room) written (hello_6 f i l , e) X.Repeated x24 = elim x24 [ ]
+  only (Refused X.Room) written (hello_6 f i l , e) X.Malformed x25 = elim x25 [ ]
+  only (Refused X.Room) written (hello_6 f i l , e) X.Unacceptable x26 = elim x26 [ ]
+  only (Refused X.Room) written (hello_6 f i l , e) X.Checksum x27 = elim x27 [ ]
+  only (Refused X.Room) written (hello_6 f i l , e) X.Spent x28 = elim x28 [ ]
+  only (Refused X.Room) written (hello_6 f i l , e) X.WrongFinished x29 = elim x29 [ ]
+  only (Refused X.Ended) written (hello_7 f o , e) (X.Framing _) x23 = elim x23 [ ]
+  only (Refused X.Ended) written (hello_7 f o , e) X.Forged x23 = elim x23 [ ]
+  only (Refused X.Ended) written (hello_7 f o , e) X.TooOld x24 = elim x24 [ ]
+  only (Refused X.Ended) written (hello_7 f o , e) X.Repeated x25 = elim x25 [ ]
+  only (Refused X.Ended) written (hello_7 f o , e) X.Malformed x26 = elim x26 [ ]
+  only (Refused X.Ended) written (hello_7 f o , e) X.Unacceptable x27 = elim x27 [ ]
+  only (Refused X.Ended) written (hello_7 f o , e) X.Checksum x28 = elim x28 [ ]
+  only (Refused X.Ended) written (hello_7 f o , e) X.Spent x29 = elim x29 [ ]
+  only (Refused X.Ended) written (hello_7 f o , e) X.WrongFinished x30 = elim x30 [ ]
+  only (Refused X.NotAllowed) written (hello_8 f o , e) (X.Framing _) x24 = elim x24 [ ]
+  only (Refused X.NotAllowed) written (hello_8 f o , e) X.Forged x24 = elim x24 [ ]
+  only (Refused X.NotAllowed) written (hello_8 f o , e) X.TooOld x25 = elim x25 [ ]
+  only (Refused X.NotAllowed) written (hello_8 f o , e) X.Repeated x26 = elim x26 [ ]
+  only (Refused X.NotAllowed) written (hello_8 f o , e) X.Malformed x27 = elim x27 [ ]
+  only (Refused X.NotAllowed) written (hello_8 f o , e) X.Unacceptable x28 = elim x28 [ ]
+  only (Refused X.NotAllowed) written (hello_8 f o , e) X.Checksum x29 = elim x29 [ ]
+  only (Refused X.NotAllowed) written (hello_8 f o , e) X.Spent x30 = elim x30 [ ]
+  only (Refused X.NotAllowed) written (hello_8 f o , e) X.WrongFinished x31 = elim x31 [ ]
+  only (Refused X.Forged) written (w, e) _ _ = elim w [ ]
+  only (Refused X.TooOld) written (w, e) _ _ = elim w [ ]
+  only (Refused X.Repeated) written (w, e) _ _ = elim w [ ]
+  only (Refused X.Malformed) written (w, e) _ _ = elim w [ ]
+  only (Refused X.Unacceptable) written (w, e) _ _ = elim w [ ]
+  only (Refused X.Checksum) written (w, e) _ _ = elim w [ ]
+  only (Refused X.Spent) written (w, e) _ _ = elim w [ ]
+  only (Refused X.Argument) written (hello_16 m , e) (X.Framing _) x32 = elim x32 [ ]
+  only (Refused X.Argument) written (hello_16 m , e) X.Forged x32 = elim x32 [ ]
+  only (Refused X.Argument) written (hello_16 m , e) X.TooOld x33 = elim x33 [ ]
+  only (Refused X.Argument) written (hello_16 m , e) X.Repeated x34 = elim x34 [ ]
+  only (Refused X.Argument) written (hello_16 m , e) X.Malformed x35 = elim x35 [ ]
+  only (Refused X.Argument) written (hello_16 m , e) X.Unacceptable x36 = elim x36 [ ]
+  only (Refused X.Argument) written (hello_16 m , e) X.Checksum x37 = elim x37 [ ]
+  only (Refused X.Argument) written (hello_16 m , e) X.Spent x38 = elim x38 [ ]
+  only (Refused X.Argument) written (hello_16 m , e) X.WrongFinished x39 = elim x39 [ ]
+  only (Refused X.WrongFinished) written (w, e) _ _ = elim w [ ]
   only Done written ((f, i, l), e) X.Argument (hello_16 n) = absurd (n f)
   only Done written ((f, i, l), e) X.Ended (hello_7 g o) = clash-state i (inl o)
   only Done written ((f, i, l), e) X.NotAllowed (hello_8 g o) = clash-state i (inr o)
@@ -536,6 +614,15 @@ module _ (u : Ship) (id8 : length u.id ≡ 8) (random macs : List ℕ) (refresh 
 
   only-done : (o : Outcome) (written : ℕ) → OutcomeHolds HelloWhy HelloGoes (hello_size macs) written o → HelloGoes → o ≡ Done
   only-done Done written h g = refl
+  only-done (Refused (X.Framing _)) written (w, e) g = elim w [ ]
+  only-done (Refused X.Forged) written (w, e) g = elim w [ ]
+  only-done (Refused X.TooOld) written (w, e) g = elim w [ ]
+  only-done (Refused X.Repeated) written (w, e) g = elim w [ ]
+  only-done (Refused X.Malformed) written (w, e) g = elim w [ ]
+  only-done (Refused X.Unacceptable) written (w, e) g = elim w [ ]
+  only-done (Refused X.Checksum) written (w, e) g = elim w [ ]
+  only-done (Refused X.Spent) written (w, e) g = elim w [ ]
+  only-done (Refused X.WrongFinished) written (w, e) g = elim w [ ]
   only-done (Refused X.Argument) written (hello_16 n, e) (f, i, l) = absurd (n f)
   only-done (Refused X.Ended) written (hello_7 g o, e) (f, i, l) = clash-state i (inl o)
   only-done (Refused X.NotAllowed) written (hello_8 g o, e) (f, i, l) = clash-state i (inr o)
@@ -603,6 +690,16 @@ module _ (u : Ship) (room : ℕ) where
   again-at s t e o h = ap (λ x. (again_in u x room).outcome) e ∙ h
 
   again-because : (s : State) (x : Refusal) → AgainWhy s x → (again_in u s room).outcome ≡ Refused x
+  again-because s (X.Framing _) x3 = elim x3 [ ]
+  again-because s X.Forged x3 = elim x3 [ ]
+  again-because s X.TooOld x4 = elim x4 [ ]
+  again-because s X.Repeated x5 = elim x5 [ ]
+  again-because s X.Malformed x6 = elim x6 [ ]
+  again-because s X.Unacceptable x7 = elim x7 [ ]
+  again-because s X.Checksum x8 = elim x8 [ ]
+  again-because s X.Spent x9 = elim x9 [ ]
+  again-because s X.Argument x10 = elim x10 [ ]
+  again-because s X.WrongFinished x11 = elim x11 [ ]
   again-because s X.Ended (again_7 (inl e)) = again-at s S.Closed e (Refused X.Ended) refl
   again-because s X.Ended (again_7 (inr e)) = again-at s S.Barred e (Refused X.Ended) refl
   again-because s X.NotAllowed (again_8 (inl e)) = again-at s S.Idle e (Refused X.NotAllowed) refl
@@ -659,6 +756,18 @@ module _ (u : Ship) where
   close-holds S.Barred = close_7 refl
 
   close-because : (s : State) (x : Refusal) → WhyClose s x → (closed_in u s).outcome ≡ Refused x
+  close-because s (X.Framing _) x3 = elim x3 [ ]
+  close-because s X.Room x3 = elim x3 [ ]
+  close-because s X.NotAllowed x4 = elim x4 [ ]
+  close-because s X.Forged x5 = elim x5 [ ]
+  close-because s X.TooOld x6 = elim x6 [ ]
+  close-because s X.Repeated x7 = elim x7 [ ]
+  close-because s X.Malformed x8 = elim x8 [ ]
+  close-because s X.Unacceptable x9 = elim x9 [ ]
+  close-because s X.Checksum x10 = elim x10 [ ]
+  close-because s X.Spent x11 = elim x11 [ ]
+  close-because s X.Argument x12 = elim x12 [ ]
+  close-because s X.WrongFinished x13 = elim x13 [ ]
   close-because s X.Ended (close_7 e) = ap (λ t. (closed_in u t).outcome) e
 
   close-goes : (s : State) → s ≢ S.Barred → (closed_in u s).outcome ≡ Done
@@ -682,6 +791,17 @@ module _ (u : Ship) where
   start-holds S.Barred = start_7 refl
 
   start-because : (s : State) (x : Refusal) → WhyStart s x → (started_in u s).outcome ≡ Refused x
+  start-because s (X.Framing _) x3 = elim x3 [ ]
+  start-because s X.Room x3 = elim x3 [ ]
+  start-because s X.Forged x4 = elim x4 [ ]
+  start-because s X.TooOld x5 = elim x5 [ ]
+  start-because s X.Repeated x6 = elim x6 [ ]
+  start-because s X.Malformed x7 = elim x7 [ ]
+  start-because s X.Unacceptable x8 = elim x8 [ ]
+  start-because s X.Checksum x9 = elim x9 [ ]
+  start-because s X.Spent x10 = elim x10 [ ]
+  start-because s X.Argument x11 = elim x11 [ ]
+  start-because s X.WrongFinished x12 = elim x12 [ ]
   start-because s X.Ended (start_7 e) = ap (λ t. (started_in u t).outcome) e
   start-because s X.NotAllowed (start_8 (inl (inl e))) = ap (λ t. (started_in u t).outcome) e
   start-because s X.NotAllowed (start_8 (inl (inr (inl e)))) = ap (λ t. (started_in u t).outcome) e
@@ -733,11 +853,59 @@ module _ (id secret : List ℕ) (width : ℕ) where
   fresh-clash (a, b, h) (inr (inr (inr l))) = absurd (omega (arith, h.1))
 
   fresh-because : (o : Outcome) → CallHolds FreshWhy FreshGoes o → (x : Refusal) → FreshWhy x → o ≡ Refused x
+  fresh-because Done h (X.Framing _) x6 = elim x6 [ ]
+  fresh-because Done h X.Room x6 = elim x6 [ ]
+  fresh-because Done h X.Ended x7 = elim x7 [ ]
+  fresh-because Done h X.NotAllowed x8 = elim x8 [ ]
+  fresh-because Done h X.Forged x9 = elim x9 [ ]
+  fresh-because Done h X.TooOld x10 = elim x10 [ ]
+  fresh-because Done h X.Repeated x11 = elim x11 [ ]
+  fresh-because Done h X.Malformed x12 = elim x12 [ ]
+  fresh-because Done h X.Unacceptable x13 = elim x13 [ ]
+  fresh-because Done h X.Checksum x14 = elim x14 [ ]
+  fresh-because Done h X.Spent x15 = elim x15 [ ]
+  fresh-because Done h X.WrongFinished x16 = elim x16 [ ]
+  fresh-because (Refused (X.Framing _)) h _ _ = elim h [ ]
+  fresh-because (Refused X.Room) h _ _ = elim h [ ]
+  fresh-because (Refused X.Ended) h _ _ = elim h [ ]
+  fresh-because (Refused X.NotAllowed) h _ _ = elim h [ ]
+  fresh-because (Refused X.Forged) h _ _ = elim h [ ]
+  fresh-because (Refused X.TooOld) h _ _ = elim h [ ]
+  fresh-because (Refused X.Repeated) h _ _ = elim h [ ]
+  fresh-because (Refused X.Malformed) h _ _ = elim h [ ]
+  fresh-because (Refused X.Unacceptable) h _ _ = elim h [ ]
+  fresh-because (Refused X.Checksum) h _ _ = elim h [ ]
+  fresh-because (Refused X.Spent) h _ _ = elim h [ ]
+  fresh-because (Refused X.Argument) h (X.Framing _) x22 = elim x22 [ ]
+  fresh-because (Refused X.Argument) h X.Room x22 = elim x22 [ ]
+  fresh-because (Refused X.Argument) h X.Ended x23 = elim x23 [ ]
+  fresh-because (Refused X.Argument) h X.NotAllowed x24 = elim x24 [ ]
+  fresh-because (Refused X.Argument) h X.Forged x25 = elim x25 [ ]
+  fresh-because (Refused X.Argument) h X.TooOld x26 = elim x26 [ ]
+  fresh-because (Refused X.Argument) h X.Repeated x27 = elim x27 [ ]
+  fresh-because (Refused X.Argument) h X.Malformed x28 = elim x28 [ ]
+  fresh-because (Refused X.Argument) h X.Unacceptable x29 = elim x29 [ ]
+  fresh-because (Refused X.Argument) h X.Checksum x30 = elim x30 [ ]
+  fresh-because (Refused X.Argument) h X.Spent x31 = elim x31 [ ]
+  fresh-because (Refused X.Argument) h X.WrongFinished x32 = elim x32 [ ]
+  fresh-because (Refused X.WrongFinished) h _ _ = elim h [ ]
   fresh-because Done h X.Argument (fresh_16 w) = fresh-clash h w
   fresh-because (Refused X.Argument) h X.Argument (fresh_16 w) = refl
 
   fresh-goes : (o : Outcome) → CallHolds FreshWhy FreshGoes o → FreshGoes → o ≡ Done
   fresh-goes Done h w = refl
+  fresh-goes (Refused (X.Framing _)) h w = elim h [ ]
+  fresh-goes (Refused X.Room) h w = elim h [ ]
+  fresh-goes (Refused X.Ended) h w = elim h [ ]
+  fresh-goes (Refused X.NotAllowed) h w = elim h [ ]
+  fresh-goes (Refused X.Forged) h w = elim h [ ]
+  fresh-goes (Refused X.TooOld) h w = elim h [ ]
+  fresh-goes (Refused X.Repeated) h w = elim h [ ]
+  fresh-goes (Refused X.Malformed) h w = elim h [ ]
+  fresh-goes (Refused X.Unacceptable) h w = elim h [ ]
+  fresh-goes (Refused X.Checksum) h w = elim h [ ]
+  fresh-goes (Refused X.Spent) h w = elim h [ ]
+  fresh-goes (Refused X.WrongFinished) h w = elim h [ ]
   fresh-goes (Refused X.Argument) (fresh_16 v) w = fresh-clash w v
 
 pub exactly-fresh : ExactlyFresh

@@ -72,6 +72,18 @@ module _ (u : Ship) (d out : List ℕ) where
       (λ o. let b = ltb-false (length out) 128 o in subst H (sym (is_framed b)) (by-holds b (framing_of d) (framing-says d)))
 
   whole-because : (x : Refusal) → WhyWhole (length out) x → result ≡ received (T.Refused x) (slots_of []) 0
+  whole-because (X.Framing _) x3 = elim x3 [ ]
+  whole-because X.Ended x3 = elim x3 [ ]
+  whole-because X.NotAllowed x4 = elim x4 [ ]
+  whole-because X.Forged x5 = elim x5 [ ]
+  whole-because X.TooOld x6 = elim x6 [ ]
+  whole-because X.Repeated x7 = elim x7 [ ]
+  whole-because X.Malformed x8 = elim x8 [ ]
+  whole-because X.Unacceptable x9 = elim x9 [ ]
+  whole-because X.Checksum x10 = elim x10 [ ]
+  whole-because X.Spent x11 = elim x11 [ ]
+  whole-because X.Argument x12 = elim x12 [ ]
+  whole-because X.WrongFinished x13 = elim x13 [ ]
   whole-because X.Room (receive_6 o) = is-room o
 
   by-fault : (f : Fault) (at : ℕ) → result_by (faulty f at) ≡ received (T.Misframed (X.Framing f) at) (slots_of []) 0

@@ -198,6 +198,11 @@ module _ (u : Ship) (numbers d : List ℕ) (r : Record) (bytes : Bytes (fragment
 
   guards-as : (s : State) (k : Kind) → Guards s k → (p : Bool) (n : Content) → KindSeen k p n first
       → (p ≡ true) × (((s ≡ S.Spec) × ((n ≡ C.Alert) ⊎ (n ≡ C.Handshake))) ⊎ Up s)
+  guards-as s K.ClearHello x'' p n _ = elim x'' [ ]
+  guards-as s K.ClearRequest x3 p n _ = elim x3 [ ]
+  guards-as s K.ClearChange x4 p n _ = elim x4 [ ]
+  guards-as s K.ClearAlert x5 p n _ = elim x5 [ ]
+  guards-as s K.OtherClear x6 p n _ = elim x6 [ ]
   guards-as S.Spec K.ProtectedAlert spec-alert p n (a, b) = (a, inl (refl, inl b))
   guards-as S.Spec K.ProtectedHandshake spec-handshake p n (a, b) = (a, inl (refl, inr b))
   guards-as s K.ProtectedChange (up-change o) p n (a, b) = (a, inr o)
@@ -211,7 +216,7 @@ module _ (u : Ship) (numbers d : List ℕ) (r : Record) (bytes : Bytes (fragment
       record { protection = g.0; kind = g.1 }
 
   coded-as : (c : List ℕ) → Protected u.protection.keys d r c → CodedAs u.protection.keys q c
-  coded-as c s = s.is-coded
+  coded-as c s = s.is_coded
 
   as-coded : (c : List ℕ) → r.protected ≡ true → CodedAs u.protection.keys q c → Protected u.protection.keys d r c
   as-coded c p e = record { is_protected = p; is_coded = e }
@@ -222,7 +227,7 @@ module _ (u : Ship) (numbers d : List ℕ) (r : Record) (bytes : Bytes (fragment
   new-as : (c : List ℕ) (w : Window) → New u d r c w → NewAs u numbers q c
   new-as c w n =
       let t = new_means width numbers r.number w n.arrived (sym by_history ∙ n.accepted) in
-      record { guarded = guarded-as n.ruled; coded = n.coded.is-coded; recent = t.0; unseen = t.1 }
+      record { guarded = guarded-as n.ruled; coded = n.coded.is_coded; recent = t.0; unseen = t.1 }
 
   abbrev marked : Window
   marked = window_of width (r.number ∷ numbers)
@@ -281,9 +286,9 @@ module _ (u : Ship) (numbers d : List ℕ) (r : Record) (bytes : Bytes (fragment
   stays-holds (not_first e z) =
       let n = not-over T.Agree (λ y. let x : ◌≡◌ {A = ℕ} 0 1 = cc in omega arith) e in (n, later-not e z n)
   stays-holds (forged e never) = (guarded-as e, λ c k. never c (as-coded c (ruled-protected u d r e) k))
-  stays-holds (too_old_lem c e s y) = (guarded-as e, (c, s.is-coded), old_means width numbers r.number (sym by_history ∙ y))
+  stays-holds (too_old_lem c e s y) = (guarded-as e, (c, s.is_coded), old_means width numbers r.number (sym by_history ∙ y))
   stays-holds (repeated c e s y) =
-      let t = repeated_means width numbers r.number (sym by_history ∙ y) in (guarded-as e, (c, s.is-coded), t.0, t.1)
+      let t = repeated_means width numbers r.number (sym by_history ∙ y) in (guarded-as e, (c, s.is_coded), t.0, t.1)
   stays-holds (Z.bad_hello e z y) =
       let t = ruled-says u d r T.Agree e in
       Y.bad_hello t.0 (is_hello_lem t.1) z (subst (AgreementHolds f u.id u.offer) y (agreement-holds f u.id u.offer bytes))
@@ -387,7 +392,7 @@ module _ (u : Ship) (numbers d : List ℕ) (r : Record) (bytes : Bytes (fragment
   because : (x : Refusal) → Why x → (judged_record u d r).answer ≡ W.Refused x
   because X.Ended o = answer-stays (at_end (over_rule o))
   because X.NotAllowed (n, a) = not-allowed-by n a (rule_of u.state (kind_in d r)) refl
-  because X.Forged (g, n) = answer-stays (forged (guarded_rule g) (λ c s. n c s.is-coded))
+  because X.Forged (g, n) = answer-stays (forged (guarded_rule g) (λ c s. n c s.is_coded))
   because X.TooOld (g, (c, k), l) =
       answer-stays (too_old_lem c (guarded_rule g) (as-coded c g.protection k) (by_history ∙ old_when width numbers r.number l))
   because X.Repeated (g, (c, k), l, a) =

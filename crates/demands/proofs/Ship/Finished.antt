@@ -190,10 +190,10 @@ module _ (id secret : List ℕ) (past : List Happened) (u : Ship) (p : Progress 
   alike-carries : (x : Ship) → Alike u x → Carries u x
   alike-carries x a =
       record {
-        barred-from = λ n e. n (a.state-same ∙ e);
-        midway-from = λ m. subst Midway a.state-same m;
-        reading-from = λ m. subst Reading a.state-same m;
-        up_from = λ o. subst Up a.state-same o;
+        barred-from = λ n e. n (a.state_same ∙ e);
+        midway-from = λ m. subst Midway a.state_same m;
+        reading-from = λ m. subst Reading a.state_same m;
+        up_from = λ o. subst Up a.state_same o;
         id_same = λ n. a.id_same;
         keys_same = λ n. a.keys_same;
         offer_same = λ m. a.offer_same;
@@ -359,7 +359,7 @@ module _ (id secret : List ℕ) (past : List Happened) (u : Ship) (p : Progress 
             replied = g.last;
             plan = g.plan;
             agreed = g.agreed;
-            handshake = kind-content d r K.ProtectedHandshake n.coded.is-protected k;
+            handshake = kind-content d r K.ProtectedHandshake n.coded.is_protected k;
             c = c;
             coded = subst (λ x. Protected x d r c) g.keys_are n.coded;
             finished = sym (ap (judged_of c) g.expected_is) ∙ v;

@@ -24,12 +24,12 @@ use Rattle.demands.proofs.Coded.{content_before}
 module _ (k : Keys) (d : List ℕ) (r : Record) where
   pub protected_right : (c : List ℕ) → Protected k d r c → genuine_under k FromShore r.number r.byte (fragment_of d r) ≡ true
   protected_right c s =
-      ap (genuine_under k FromShore r.number r.byte) s.is-coded
+      ap (genuine_under k FromShore r.number r.byte) s.is_coded
       ∙ protected_genuine (shore_key k r.number) k.mac r.number r.byte c
 
   pub protected_content : (c : List ℕ) → Protected k d r c → content_bytes k d r ≡ c
   protected_content c s =
-      ap (content_under k) s.is-coded ∙ content_before (shore_key k r.number) k.mac r.number r.byte c
+      ap (content_under k) s.is_coded ∙ content_before (shore_key k r.number) k.mac r.number r.byte c
 
   pub right_protected : r.protected ≡ true → genuine_under k FromShore r.number r.byte (fragment_of d r) ≡ true
       → Protected k d r (content_bytes k d r)
@@ -49,7 +49,7 @@ module _ (k : Keys) (d : List ℕ) (r : Record) where
       told false e = inr (λ c s. true_false (genuine_under k FromShore r.number r.byte (fragment_of d r)) (protected_right c s) e)
 
   pub bytes-right : (c : List ℕ) → Protected k d r c → genuine_bytes k d r ≡ true
-  bytes-right c s = (λ i. pick (s.is-protected i) (protected_right c s i) false)
+  bytes-right c s = (λ i. pick (s.is_protected i) (protected_right c s i) false)
 
   pub bytes-wrong : ((c : List ℕ) → Protected k d r c → ⊥) → genuine_bytes k d r ≡ false
   bytes-wrong never = told r.protected refl (genuine_under k FromShore r.number r.byte (fragment_of d r)) refl

@@ -91,6 +91,11 @@ up-not-over s (inr a) (inr b) = let y : S.Open ≡ S.Barred = sym a ∙ b in let
 
 -- what is opened is opened in a state that is not over
 pub guards-not-over : {P : Type 0} (s : State) (k : Kind) → Over s → Guards s k → P
+guards-not-over {P = P} s K.ClearHello o x'' = elim x'' [ ]
+guards-not-over {P = P} s K.ClearRequest o x3 = elim x3 [ ]
+guards-not-over {P = P} s K.ClearChange o x4 = elim x4 [ ]
+guards-not-over {P = P} s K.ClearAlert o x5 = elim x5 [ ]
+guards-not-over {P = P} s K.OtherClear o x6 = elim x6 [ ]
 guards-not-over S.Spec K.ProtectedAlert (inl e) spec-alert = let z : ◌≡◌ {A = ℕ} 0 1 = cc in absurd (omega arith)
 guards-not-over S.Spec K.ProtectedAlert (inr e) spec-alert = let z : ◌≡◌ {A = ℕ} 0 1 = cc in absurd (omega arith)
 guards-not-over S.Spec K.ProtectedHandshake (inl e) spec-handshake = let z : ◌≡◌ {A = ℕ} 0 1 = cc in absurd (omega arith)
@@ -266,7 +271,7 @@ module _ (k : Keys) (expected : List ℕ) (course : Course) (u : Ship) (a : Alon
         -- what the content is
         content-as : (x : Kind) → kind_in d r ≡ x → (b : Bool) → content_shuts (contentKind x) c expected ≡ b → shuts ≡ b
         content-as x e b f =
-            ap (λ t. content_shuts t c expected) (kind-content d r x n.coded.is-protected e) ∙ f
+            ap (λ t. content_shuts t c expected) (kind-content d r x n.coded.is_protected e) ∙ f
 
         verdict_at : (x : Verified) → judged_of c u.expected ≡ x → judged_of c expected ≡ x
         verdict_at x e = sym (ap (judged_of c) (a.expected_same z)) ∙ e
@@ -306,11 +311,11 @@ module _ (k : Keys) (expected : List ℕ) (course : Course) (u : Ship) (a : Alon
   alike-along x s =
       record {
         held = a.held;
-        is_up = λ z. subst Up (sym s.state-same) (a.is_up z);
+        is_up = λ z. subst Up (sym s.state_same) (a.is_up z);
         keys_same = λ z. s.keys_same ∙ a.keys_same z;
         expected_same = λ z. s.expected_same ∙ a.expected_same z;
         window_same = λ z. s.window_same ∙ a.window_same z;
-        is_over = λ z. subst Over (sym s.state-same) (a.is_over z);
+        is_over = λ z. subst Over (sym s.state_same) (a.is_over z);
       }
 
   -- our own close ends it
@@ -446,7 +451,7 @@ module _ (u : Ship) (d : List ℕ) (r : Record) where
 pub handed_part : (k : Keys) (d : List ℕ) (r : Record) (c : List ℕ) → 0 < length c → Protected k d r c → part_at d (r.start + r.head) (length c) ≡ c
 unfolding fragment_by
 handed_part k d r c some s =
-    part_is d (r.start + r.head) r.size c (code_by (hmac (shore_key k r.number)) (size_of k.mac) r.number r.byte c) some s.is-coded
+    part_is d (r.start + r.head) r.size c (code_by (hmac (shore_key k r.number)) (size_of k.mac) r.number r.byte c) some s.is_coded
 
 -- in Opening and Open every protected kind is opened
 pub up-opens : (s : State) (c : Content) (first : ℕ) → Up s → rule_of s (kind_of c true first) ≡ T.Unprotect
@@ -466,7 +471,7 @@ module _ (k : Keys) (expected : List ℕ) (course : Course) (u : Ship) (a : Alon
         record {
           not_shut = z;
           genuine = record { in_place = at; protected_as = subst (λ x. Protected x d r f.c) (a.keys_same z) f.new.coded };
-          is_data_lem = kind-content d r K.ProtectedData f.new.coded.is-protected f.kind;
+          is_data_lem = kind-content d r K.ProtectedData f.new.coded.is_protected f.kind;
           some = f.some;
           not_before = q.1;
           recent = all_below course.width course.numbers r.number q.0;
@@ -482,14 +487,14 @@ module _ (k : Keys) (expected : List ℕ) (course : Course) (u : Ship) (a : Alon
 
   data_due : (c : List ℕ) → Due k course d r c → (judged_record u d r).answer ≡ W.Data r.number (r.start + r.head) (length c)
   data_due c x =
-      let z = x.not-shut in
-      let p = x.genuine.protected-as.is-protected in
-      let kind = content-kind-in d r C.Data p x.is-data in
+      let z = x.not_shut in
+      let p = x.genuine.protected_as.is_protected in
+      let kind = content-kind-in d r C.Data p x.is_data_lem in
       let n : New u d r c (window_of course.width (r.number ∷ course.numbers)) = record {
         ruled = ap (rule_of u.state) kind ∙ up-opens u.state C.Data (get_or (fragment_of d r) 0 0) (a.is_up z);
-        coded = subst (λ y. Protected y d r c) (sym (a.keys_same z)) x.genuine.protected-as;
+        coded = subst (λ y. Protected y d r c) (sym (a.keys_same z)) x.genuine.protected_as;
         arrived = arrived_of course.width (r.number ∷ course.numbers);
-        accepted = ap (λ w. accept_of w r.number) (a.window_same z) ∙ due_new course.width a.held course.numbers r.number x.not-before x.recent;
+        accepted = ap (λ w. accept_of w r.number) (a.window_same z) ∙ due_new course.width a.held course.numbers r.number x.not_before x.recent;
       } in
       ap (λ j. j.answer) (row_is u d r (row_marked c (window_of course.width (r.number ∷ course.numbers)) n (some_data kind x.some)))
 
@@ -500,7 +505,7 @@ module _ (k : Keys) (expected : List ℕ) (course : Course) (u : Ship) (a : Alon
   )
 
   pub due_handed : (c : List ℕ) → Due k course d r c → handed_by d (judged_record u d r).answer ≡ c
-  due_handed c x = ap (handed_by d) (data_due c x) ∙ handed_part k d r c x.some x.genuine.protected-as
+  due_handed c x = ap (handed_by d) (data_due c x) ∙ handed_part k d r c x.some x.genuine.protected_as
 
 pub handed_out_at : (u : Ship) (numbers : List ℕ) → Up u.state → HoldsNumbers u numbers → (later : List Event) → OngoingFrom u numbers later
     → (d : List ℕ) (r : Record) → RecordOf d r
@@ -541,11 +546,11 @@ module _ (k : Keys) (expected : List ℕ) (n : ℕ) where
 due_used : (k : Keys) (expected : List ℕ) (course : Course) → Held course.width → (d : List ℕ) (r : Record) (c : List ℕ) → Due k course d r c
     → accepted (with_record k expected course d r).numbers r.number ≡ true
 due_used k expected course held d r c x =
-    let g : genuine_bytes k d r ≡ true = bytes-right k d r c x.genuine.protected-as in
+    let g : genuine_bytes k d r ≡ true = bytes-right k d r c x.genuine.protected_as in
     let n : is_new course.width course.numbers r.number ≡ true
-    = is_new_lem course.width held course.numbers r.number (due_below course.width held course.numbers r.number x.recent) x.not-before in
+    = is_new_lem course.width held course.numbers r.number (due_below course.width held course.numbers r.number x.recent) x.not_before in
     let used : with_record k expected course d r ≡ used_by k expected course d r
-    = λ i. pick (x.not-shut i) course (pick (g i) (pick (n i) (used_by k expected course d r) course) course) in
+    = λ i. pick (x.not_shut i) course (pick (g i) (pick (n i) (used_by k expected course d r) course) course) in
     ap (λ y. accepted y.numbers r.number) used ∙ accepted_here r.number course.numbers
 
 pub course_more : (k : Keys) (expected : List ℕ) (es fs : List Event) (course : Course)
@@ -574,4 +579,4 @@ handed_once u numbers o h later between d r d' r' here there go x y same =
     let still : accepted (course_from u numbers all).numbers r.number ≡ true
     = ap (λ c. accepted c.numbers r.number) (course_more k expected later (took d r ∷ between) start)
     ∙ grows k expected r.number between (with_record k expected (course_from u numbers later) d r) used in
-    true_false (accepted (course_from u numbers all).numbers r'.number) (ap (accepted (course_from u numbers all).numbers) (sym same) ∙ still) second.1.not-before
+    true_false (accepted (course_from u numbers all).numbers r'.number) (ap (accepted (course_from u numbers all).numbers) (sym same) ∙ still) second.1.not_before

@@ -111,7 +111,7 @@ module _ (width : ℕ) (held : Held width) (past : List Happened) (u : Ship) (is
       marked_by a x e ns m =
           e
           ∙ window_more width held (accepted_in past) r.number w n.arrived (sym (ap (λ y. accept_of y r.number) is) ∙ n.accepted)
-          ∙ sym (ap (window_of width) (marked a ns m n.coded.is-protected))
+          ∙ sym (ap (window_of width) (marked a ns m n.coded.is_protected))
 
       marked-follows : (x : Ship) → x.protection.window ≡ w → {a : Answer} {s : State} → Marked u d r c a s → Follows (answered d r a) x
       marked-follows x e (no_change k) = marked_by (W.Refused X.Malformed) x e refl refl

@@ -109,8 +109,8 @@ module _ (k : Keys) (u : Ship) (d : List ℕ) (r : Record) where
 module _ (k : Keys) (u : Ship) where
   alike-settled : (x : Ship) → Alike u x → Settled k u → Settled k x
   unfolding Settled
-  alike-settled x s (inl (o, e)) = inl (subst Up (sym s.state-same) o, s.keys_same ∙ e)
-  alike-settled x s (inr o) = inr (subst Over (sym s.state-same) o)
+  alike-settled x s (inl (o, e)) = inl (subst Up (sym s.state_same) o, s.keys_same ∙ e)
+  alike-settled x s (inr o) = inr (subst Over (sym s.state_same) o)
 
   close-settled : (s : State) → u.state ≡ s → Settled k (closed_in u s).unit
   unfolding Settled

@@ -111,7 +111,7 @@ module _ (u : Ship) (d : List ℕ) (r : Record) where
     marked_is = sym (ap (marked_as u) n.accepted)
 
     twelve : with_window u w ≡ refused_leaves u r.protected r.number X.Malformed
-    twelve = marked_is ∙ ap (λ b. pick b (marked u r.number) u) (sym n.coded.is-protected)
+    twelve = marked_is ∙ ap (λ b. pick b (marked u r.number) u) (sym n.coded.is_protected)
 
     marked-leaves : {a : Answer} {s : State} → Marked u d r c a s → LeavesBy a (with_state (with_window u w) s)
     marked-leaves (no_change k) = twelve

@@ -220,6 +220,11 @@ kind_protected C.Data true first = refl
 kind_protected C.Data false first = refl
 
 guards-protected : (s : State) (k : Kind) → Guards s k → protected_kind k ≡ true
+guards-protected s K.ClearHello x' = elim x' [ ]
+guards-protected s K.ClearRequest x'' = elim x'' [ ]
+guards-protected s K.ClearChange x3 = elim x3 [ ]
+guards-protected s K.ClearAlert x4 = elim x4 [ ]
+guards-protected s K.OtherClear x5 = elim x5 [ ]
 guards-protected S.Spec K.ProtectedAlert spec-alert = refl
 guards-protected S.Spec K.ProtectedHandshake spec-handshake = refl
 guards-protected s K.ProtectedChange (up-change e) = refl
@@ -229,6 +234,11 @@ guards-protected s K.ProtectedData (up-data e) = refl
 
 -- what is opened is opened in Spec, Opening or Open, data in the last two
 guards-state : (s : State) (k : Kind) → Guards s k → (s ≡ S.Spec) ⊎ Up s
+guards-state s K.ClearHello x' = elim x' [ ]
+guards-state s K.ClearRequest x'' = elim x'' [ ]
+guards-state s K.ClearChange x3 = elim x3 [ ]
+guards-state s K.ClearAlert x4 = elim x4 [ ]
+guards-state s K.OtherClear x5 = elim x5 [ ]
 guards-state S.Spec K.ProtectedAlert spec-alert = inl refl
 guards-state S.Spec K.ProtectedHandshake spec-handshake = inl refl
 guards-state s K.ProtectedChange (up-change x) = inr x
@@ -237,6 +247,11 @@ guards-state s K.ProtectedHandshake (up-handshake x) = inr x
 guards-state s K.ProtectedData (up-data x) = inr x
 
 pub data-up : (s : State) (k : Kind) → k ≡ K.ProtectedData → Guards s k → Up s
+data-up s K.ClearHello e x'' = elim x'' [ ]
+data-up s K.ClearRequest e x3 = elim x3 [ ]
+data-up s K.ClearChange e x4 = elim x4 [ ]
+data-up s K.ClearAlert e x5 = elim x5 [ ]
+data-up s K.OtherClear e x6 = elim x6 [ ]
 data-up S.Spec K.ProtectedAlert e spec-alert = let z : ◌≡◌ {A = ℕ} 0 1 = cc in absurd (omega arith)
 data-up S.Spec K.ProtectedHandshake e spec-handshake = let z : ◌≡◌ {A = ℕ} 0 1 = cc in absurd (omega arith)
 data-up s K.ProtectedChange e (up-change o) = o
@@ -319,7 +334,7 @@ module _ (u : Ship) (d : List ℕ) (r : Record) where
   front_is : (c : List ℕ) → Protected u.protection.keys d r c → take (length c) (fragment_of d r) ≡ c
   unfolding fragment_by
   front_is c s =
-      ap (take (length c)) s.is-coded
+      ap (take (length c)) s.is_coded
       ∙ take_at c (code_by (hmac (shore_key u.protection.keys r.number)) (size_of u.protection.keys.mac) r.number r.byte c) (length c) refl
 
   abbrev unprotectedAs : Opening → Step
@@ -338,7 +353,7 @@ module _ (u : Ship) (d : List ℕ) (r : Record) where
   unfolding ruled_by step_by unprotected_by
   unprotect-is c s x e =
       ap (λ o. stepped_by u (unprotectedAs o))
-      (coded_opens u.protection FromShore r.number r.byte (fragment_of d r) c s.is-coded ∙ ap (opened_to u.protection (length c)) e)
+      (coded_opens u.protection FromShore r.number r.byte (fragment_of d r) c s.is_coded ∙ ap (opened_to u.protection (length c)) e)
       ∙ ap (stepped_by u) (opened-is c s x)
 
   forged_is : r.protected ≡ true → ((c : List ℕ) → Protected u.protection.keys d r c → ⊥) → ruledAs T.Unprotect ≡ judged (W.Refused X.Forged) u
