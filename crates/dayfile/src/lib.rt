@@ -1,6 +1,6 @@
-// The day's list as a file (02 P9) and its mending (02 P10), for Rattle and, by the calls of this page, for C and Rust. There
-// is no heap; everything is lent. No call has a `requires`: what is lent is tested. A refused call
-// leaves every lent byte as it was.
+// The day's list as a file (02 P9) and its mending (02 P10), for Rattle and, by the calls of this page, which `dayfile_c` exports
+// under their names, for C and Rust. There is no heap; everything is lent. No call has a `requires`: what is lent is tested. A
+// refused call leaves every lent byte as it was.
 #![tactic(auto)]
 
 ghost use Rattle.std.specs.Prelude.{◌≡◌, ◌+◌, ◌*◌, ◌≤◌, length, drop};
@@ -27,13 +27,7 @@ use write::{Writing, write_file};
 
 // The file of a list, at the front of `out`: report i has numbers[i], and the next sizes[i] of the
 // bytes. Answers how many bytes the file has. Refusals: 16, 24, 6.
-#[unsafe(no_mangle)]
-pub extern "C" fn dayfile_write(
-    numbers: &[u16],
-    sizes: &[usize],
-    bytes: &[u8],
-    out: &mut [u8],
-) -> u64
+pub fn dayfile_write(numbers: &[u16], sizes: &[usize], bytes: &[u8], out: &mut [u8]) -> u64
     ensures exact { result ≡ writing_result (writing_told (write_lent numbers.now sizes.now bytes.now (length out.old))) }
     ensures bytes { out.new ≡ left_by out.old (write_lent numbers.now sizes.now bytes.now (length out.old)) }
 {
@@ -44,8 +38,7 @@ pub extern "C" fn dayfile_write(
 }
 
 // Whether bytes are the file of a list. Answers how many reports it has. Refusals: 24, 25.
-#[unsafe(no_mangle)]
-pub extern "C" fn dayfile_read(file: &[u8]) -> u64
+pub fn dayfile_read(file: &[u8]) -> u64
     ensures exact { result ≡ reading_result (reading_told (read_of file.now)) }
 {
     match read_file(file) {
@@ -56,8 +49,7 @@ pub extern "C" fn dayfile_read(file: &[u8]) -> u64
 
 // The whole report that begins at `at`: its number and its size, 0 where there is none. Its bytes
 // stand behind the five of its head, and the next report behind them.
-#[unsafe(no_mangle)]
-pub extern "C" fn dayfile_report(file: &[u8], at: usize) -> u64
+pub fn dayfile_report(file: &[u8], at: usize) -> u64
     ensures exact { result ≡ found_result (front_of (drop at file.now)) }
 {
     match report_at(file, at) {
@@ -69,8 +61,7 @@ pub extern "C" fn dayfile_report(file: &[u8], at: usize) -> u64
 // The file of the longest run of whole reports from the front, at the front of `out`. Answers how
 // many reports were kept, how many bytes stood after them, and whether the file changed. Refusals:
 // 24, 6.
-#[unsafe(no_mangle)]
-pub extern "C" fn dayfile_mend(file: &[u8], out: &mut [u8]) -> u64
+pub fn dayfile_mend(file: &[u8], out: &mut [u8]) -> u64
     ensures exact { result ≡ mending_result (mending_told (mend_of file.now (length out.old))) }
     ensures bytes { out.new ≡ mend_left out.old (mend_of file.now (length out.old)) }
 {

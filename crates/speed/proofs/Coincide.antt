@@ -1,6 +1,6 @@
 -- Two outcomes that meet the contract of one call are the same (`Determined`, in `digest`, says what is stated). Each contract is an
 -- equation for the lent output, which w stands for in its place among the parameters; nothing else comes back.
-use mathlib.Core.Path.{◌≡◌, refl, sym, ◌∙◌, ap}
+use mathlib.Core.Path.{refl, sym, ◌∙◌, ap}
 use Rattle.digest.specs.Determined.{OneOutcome}
 use Rattle.speed.proofs.speed_sha1 as speed-sha1
 use Rattle.speed.specs.contracts.speed_sha1 as speed-sha1-contract
