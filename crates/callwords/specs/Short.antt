@@ -1,5 +1,5 @@
 -- Which call of short messages a line makes.
-use Rattle.std.specs.Prelude.{Bool, true, false, List, [], ◌∷◌, ℕ, eqb}
+use Rattle.std.specs.Prelude.{Bool, false, List, [], ◌∷◌, ℕ, eqb}
 use Rattle.digest.specs.Pick.{pick}
 use Rattle.lines.specs.Words.{spaces_in}
 use Rattle.lines.specs.Said.{is_named, number_at}

@@ -10,9 +10,9 @@ mod outcome;
 mod run;
 
 use hand::Hand;
-use libc::STDIN_FILENO;
+use std::io::Read;
 
-fn main() {
+fn main(rt: HostRuntime) -> std::io::Result<()> {
     let mut chunk = io::large_buffer();
     let mut held = [0u8; 8192];
     let mut text = io::buffer();
@@ -22,6 +22,7 @@ fn main() {
     let mut file = [0u8; 70000];
     let mut out = [0u8; 70000];
     take_input(
+        &mut rt.reader(),
         &mut chunk,
         &mut held,
         &mut text,
@@ -30,12 +31,13 @@ fn main() {
         &mut bytes,
         &mut file,
         &mut out,
-    );
+    )
 }
 
 // Takes the input as it comes, to its end. A proved loop has to end, and nothing says that the input
 // does: the turns are counted down from a number that no run uses up.
-fn take_input(
+fn take_input<R: Read>(
+    input: &mut R,
     chunk: &mut [u8],
     held: &mut [u8],
     text: &mut [u8],
@@ -44,21 +46,22 @@ fn take_input(
     bytes: &mut [u8],
     file: &mut [u8],
     out: &mut [u8],
-) {
+) -> std::io::Result<()> {
     let mut hand = Hand::new();
     let mut size: usize = 0;
     let mut turns = u64::MAX;
     while turns > 0 {
         let taken = take_chunk(
-            hand, size, chunk, held, text, numbers, sizes, bytes, file, out,
-        );
+            input, hand, size, chunk, held, text, numbers, sizes, bytes, file, out,
+        )?;
         if !taken.more {
-            return;
+            return Ok(());
         }
         hand = taken.hand;
         size = taken.size;
         turns -= 1;
     }
+    Ok(())
 }
 
 // What is at hand after one chunk, the size of the line that is held, and whether more may come.
@@ -70,7 +73,8 @@ pub struct Taken {
 }
 
 // Reads a chunk and runs its lines; at the end of the input, the line that is held.
-fn take_chunk(
+fn take_chunk<R: Read>(
+    input: &mut R,
     hand: Hand,
     size: usize,
     chunk: &mut [u8],
@@ -81,16 +85,15 @@ fn take_chunk(
     bytes: &mut [u8],
     file: &mut [u8],
     out: &mut [u8],
-) -> Taken {
-    let got = libc::read(STDIN_FILENO, chunk);
-    let n = io::count(got, chunk);
+) -> std::io::Result<Taken> {
+    let n = input.read(chunk)?;
     if n == 0 {
         line::end(hand, held, size, text, numbers, sizes, bytes, file, out);
-        return Taken {
+        return Ok(Taken {
             hand,
             size,
             more: false,
-        };
+        });
     }
     let fed = line::feed(
         hand,
@@ -105,9 +108,9 @@ fn take_chunk(
         out,
     );
     let left = fed.hand;
-    Taken {
+    Ok(Taken {
         hand: left,
         size: fed.size,
         more: true,
-    }
+    })
 }

@@ -1,6 +1,7 @@
 // A line of the output: the MAC kind, the name of a value, and the value in hexadecimal.
 use digest::Mac;
-use libc::STDOUT_FILENO;
+
+const STDOUT_FILENO: i32 = 1;
 
 pub fn line(mac: Mac, name: &[u8], value: &[u8]) {
     named(mac, name);

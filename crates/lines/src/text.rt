@@ -2,7 +2,7 @@
 // is full and before the next read. Each function here answers how many are in use afterwards.
 ghost use Rattle.std.specs.Prelude.{◌<◌};
 
-use libc::STDOUT_FILENO;
+const STDOUT_FILENO: i32 = 1;
 
 // Writes out what is gathered.
 pub fn flush(text: &[u8], at: usize) {

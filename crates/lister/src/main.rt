@@ -5,10 +5,13 @@
 ghost use Rattle.std.specs.Prelude.{◌≡◌, ◌+◌, ◌^◌, ◌<◌};
 ghost use Rattle.record.specs.Datagram.{walk_of};
 
-use libc::{STDIN_FILENO, STDOUT_FILENO};
 use record::datagram::{Outcome, Walk, walked};
 use record::header::number_of;
 use record::reader::{Fault, Record, fault_number};
+
+const STDIN_FILENO: i32 = 0;
+
+const STDOUT_FILENO: i32 = 1;
 
 // One byte more than a datagram may have, so that a longer input is seen to be one.
 fn main() {
@@ -30,7 +33,7 @@ fn drain() {
 // Takes some input, if there is any.
 fn taken() -> bool {
     let mut space = [0u8; 4096];
-    0 < libc::read(STDIN_FILENO, &mut space)
+    0 < io::read_full(STDIN_FILENO, &mut space)
 }
 
 // The listing of a datagram.

@@ -1,5 +1,5 @@
 // A line of the output: a name, a value as it was published, and a value as it was computed.
-use libc::STDOUT_FILENO;
+const STDOUT_FILENO: i32 = 1;
 
 pub fn line(name: &[u8], published: &[u8], computed: &[u8]) {
     io::write_all(STDOUT_FILENO, name);
