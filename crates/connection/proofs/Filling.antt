@@ -1,13 +1,12 @@
 -- Arrays filled from the front, and the rule of a record.
-use mathlib.Core.Path.{◌≡◌, refl, sym, ◌∙◌, ap, ap₂}
-use mathlib.Core.List.{List, [], ◌∷◌, ◌++◌, append-nil, append_assoc}
+use mathlib.Core.Path.{◌≡◌, sym, ◌∙◌, ap, ap₂}
+use mathlib.Core.List.{List, ◌++◌, append-nil, append_assoc}
 use Prim.Native.Nat.{ℕ, ◌+◌, ◌-◌, ◌≤◌}
 use native.Mathlib.Omega.{arith}
-use lib.ListN.{length, take, drop, get_or, replicate, length-replicate, length-append}
+use lib.ListN.{length, drop, get_or, replicate, length-replicate, length-append}
 use mathlib.Core.Bool.{true}
 use lib.Dec.{leb}
 use borrow.Author.Tests.{le-leb}
-use Rattle.digest.specs.Pick.{pick}
 use Rattle.digest.specs.Bytes.{laid_over, laid_within}
 use Rattle.digest.proofs.Codes.{laid_zeros}
 use Rattle.digest.proofs.Lay.{length_laid}

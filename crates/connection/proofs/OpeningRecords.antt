@@ -12,7 +12,6 @@ use Rattle.record.specs.declared.window.Acceptance.{Acceptance}
 use Rattle.record.specs.declared.window.Acceptance.TheVariants as A
 use Rattle.record.specs.declared.protection.Protection.{Protection}
 use Rattle.record.specs.declared.protection.Opening.{Opening}
-use Rattle.record.specs.declared.protection.Opened.TheVariants as O
 use Rattle.record.proofs.Protecting.{forged_as, opened_as_lem}
 use Rattle.connection.specs.Handshake.{with_window}
 use Rattle.connection.specs.Answer.{refusing}

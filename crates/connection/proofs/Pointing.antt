@@ -1,7 +1,7 @@
 -- The laws of a record that is reached: one record more before it, and the point at the end of them.
 use mathlib.Core.Path.{◌≡◌, refl, sym, ◌∙◌, ap}
 use mathlib.Core.List.{List, [], ◌∷◌, ◌++◌}
-use Prim.Native.Nat.{ℕ, zero, suc, ◌+◌, ◌<◌, ◌≤◌}
+use Prim.Native.Nat.{ℕ, ◌+◌, ◌<◌, ◌≤◌}
 use native.Mathlib.Omega.{arith}
 use native.Mathlib.Numerals.{add-one}
 use lib.ListN.{length, take, get_or}
@@ -15,7 +15,6 @@ use Rattle.connection.specs.Told.{told_record}
 use Rattle.connection.specs.Receive.{end_of}
 use Rattle.connection.specs.Point.{nowhere, point_on, point_at, point_among}
 use Rattle.connection.specs.declared.refusal.Refusal.TheVariants.{Argument}
-use Rattle.connection.specs.declared.answer.Answer.{Answer}
 use Rattle.connection.specs.declared.asked.Whom.{Whom}
 use Rattle.connection.specs.declared.connection.Connection.{Connection}
 use Rattle.connection.specs.declared.told.Told.{Told}

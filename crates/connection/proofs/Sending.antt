@@ -1,20 +1,19 @@
 -- What a send writes: the size of a record, and the record at the front of the output.
-use mathlib.Core.Path.{◌≡◌, refl, sym, ◌∙◌, ap, ap₂}
+use mathlib.Core.Path.{◌≡◌, refl, sym, ◌∙◌, ap}
 use mathlib.Core.Bool.{Bool, true, false}
-use mathlib.Core.List.{List, [], ◌∷◌, ◌++◌}
+use mathlib.Core.List.{List}
 use Prim.Native.Nat.{ℕ, ◌+◌, ◌≤◌}
 use native.Mathlib.Omega.{arith}
 use native.Mathlib.Nat.{zero-add}
 use lib.ListN.{length, take}
 use lib.Dec.{leb, ltb, eqb}
 use borrow.Author.Tests.{le-leb, ltb-false}
-use Rattle.digest.specs.Bytes.{word_at, laid_over}
+use Rattle.digest.specs.Bytes.{laid_over}
 use Rattle.digest.specs.Hmac.{hmac}
 use Rattle.digest.specs.Mac.{size_of}
 use Rattle.digest.specs.declared.mac.Mac.{Mac}
 use Rattle.digest.proofs.Lay.{laid_front}
-use Rattle.record.specs.Checksum.{checksum_of}
-use Rattle.record.specs.Written.{record_of, byte_for, written_of, count_of}
+use Rattle.record.specs.Written.{byte_for, written_of, count_of}
 use Rattle.record.specs.Code.{protected_by, fragment_by}
 use Rattle.record.proofs.Fronts.{record_length}
 use Rattle.record.proofs.ProtectedBytes.{protected_length}

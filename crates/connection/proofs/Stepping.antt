@@ -1,7 +1,7 @@
 -- A record that is no ClientHello first in its datagram: judged as a step, which sends nothing; and what it leaves of the connection.
 use mathlib.Core.Path.{◌≡◌, refl, sym, ◌∙◌, ap, ap₂, subst}
 use mathlib.Core.Bool.{Bool, true, false}
-use mathlib.Core.List.{List, []}
+use mathlib.Core.List.{List}
 use Prim.Native.Nat.{ℕ, ◌+◌}
 use native.Mathlib.Omega.{arith}
 use lib.ListN.{length, take, get_or}
@@ -28,14 +28,14 @@ use Rattle.connection.specs.State.{kind_of, rule_of}
 use Rattle.connection.specs.Handshake.{with_window}
 use Rattle.connection.specs.Connection.{connection_of}
 use Rattle.connection.specs.Sent.{matches_of}
-use Rattle.connection.specs.Answer.{reply_size, judged, refusing}
+use Rattle.connection.specs.Answer.{reply_size}
 use Rattle.connection.specs.Clear.{is_kept, changed_by, by_level, heard_by, heard_alert}
 use Rattle.connection.specs.Protected.{finished_in, verified_to, verified_by, protected_level, alerted_to, alerted_by, content_by, opened_as, opened_record}
 use Rattle.connection.specs.Judge.{ruled_by, fragment_of, kind_in, judged_record}
 use Rattle.connection.specs.Asked.{under_way, right_under, is_spec, beside_to, hello_to, greeting_to, finished_to, open_to, whom_in, whom_of, asked_of}
 use Rattle.connection.specs.Told.{sent_after, beside_open, started_to, left_with, is_beside, told_by, judged_in, told_record}
 use Rattle.connection.specs.Step.{stepped_by, led_by, is_stay}
-use Rattle.connection.specs.Later.{is_hello, ruled_else, judged_else, open_window, started_window, windowed_by}
+use Rattle.connection.specs.Later.{is_hello, ruled_else, judged_else, windowed_by}
 use Rattle.connection.specs.declared.state.State.{State}
 use Rattle.connection.specs.declared.state.State.TheVariants as S
 use Rattle.connection.specs.declared.state.Kind.{Kind}

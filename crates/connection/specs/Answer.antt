@@ -1,5 +1,5 @@
 -- What an answer hands out, and what it sends (01, "Handshake").
-use Rattle.std.specs.Prelude.{List, [], ℕ, ◌+◌, ◌-◌, length, take, drop, leb}
+use Rattle.std.specs.Prelude.{List, [], ℕ, ◌-◌, length, take, drop, leb}
 use Rattle.digest.specs.Pick.{pick}
 use Rattle.connection.specs.Refusal.{refusal_number}
 use Rattle.connection.specs.declared.answer.Answer.{Answer}

@@ -8,7 +8,6 @@ use Rattle.message.specs.Alert.{alert_of}
 use Rattle.message.specs.Change.{is_change}
 use Rattle.message.specs.declared.acceptance.Heard.{Heard}
 use Rattle.message.specs.declared.acceptance.Heard.TheVariants as H
-use Rattle.message.specs.declared.alert.Alert.{Alert}
 use Rattle.message.specs.declared.alert.Level.{Level}
 use Rattle.message.specs.declared.alert.Level.TheVariants as L
 use Rattle.message.specs.declared.alert.Description.{Description}

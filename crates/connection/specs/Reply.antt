@@ -1,5 +1,5 @@
 -- The reply to an accepted ClientHello (01, "Handshake"; 002 10.5.1.3, 10.1, 10.5.9).
-use Rattle.std.specs.Prelude.{List, [], ◌∷◌, ◌++◌, true, false, ℕ, ◌-◌, length, take, drop, replicate}
+use Rattle.std.specs.Prelude.{List, ◌++◌, true, false, ℕ, ◌-◌, length, take, drop, replicate}
 use Rattle.digest.specs.Hmac.{hmac}
 use Rattle.digest.specs.Mac.{size_of, server_expansion}
 use Rattle.digest.specs.declared.mac.Mac.{Mac}

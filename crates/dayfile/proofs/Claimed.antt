@@ -7,24 +7,23 @@ use mathlib.Core.Logic.{◌⊎◌, inl, inr, ⊎_elim, by_cases}
 use Prim.Native.Nat.{ℕ, suc, ◌+◌, ◌*◌, ◌≤◌, ◌<◌}
 use native.Mathlib.Omega.{arith}
 use native.Mathlib.Decide.{dec_le}
-use lib.ListN.{length, get_or, take, drop, length-append}
+use lib.ListN.{length, drop, length-append}
 use lib.Seq.{take_at, drop_at, drop-drop}
 use lib.Dec.{eqb, ltb, leb}
-use borrow.Author.Tests.{eq-eqb, eqb-true, ltb-true, ltb-false, leb-true, leb-false, lt-ltb, le-ltb, le-leb, lt-leb}
+use borrow.Author.Tests.{eq-eqb, eqb-true, ltb-true, leb-true, leb-false}
 use Rattle.digest.specs.Pick.{pick}
 use Rattle.digest.specs.Mac.{same_bytes}
 use Rattle.digest.specs.Bytes.{bytes2}
 use Rattle.digest.proofs.Same.{equal_same, same_equal}
-use Rattle.dayfile.specs.File.{Report, report_of, body_of, trailer_of, distances_of, file_of, is_sized, all_sized, is_within, Sound, none, more, Writable}
-use Rattle.dayfile.specs.Runs.{front_of, found_in, run_of}
+use Rattle.dayfile.specs.File.{Report, report_of, body_of, trailer_of, distances_of, file_of, is_sized, all_sized, is_within, Sound, Writable}
+use Rattle.dayfile.specs.Runs.{found_in, run_of}
 use Rattle.dayfile.specs.Lent.{sum_of, is_list, list_of}
-use Rattle.dayfile.specs.Writing.{Written, file, refused, write_of, write_lent, left_by}
+use Rattle.dayfile.specs.Writing.{file, refused, write_of, left_by}
 use Rattle.dayfile.specs.Reading.{Read, reports, read_of}
 use Rattle.dayfile.specs.Reading as reading
-use Rattle.dayfile.specs.Claims.{Exactly, AreBytes, Unsized, empty, long, later, ReadsBack, OneList, OnlyFiles, FoundInOrder, WritingExactly, RefusedWritesNothing, Lendable, ReadingExactly, size_of_reports, SizeOfFile}
+use Rattle.dayfile.specs.Claims.{AreBytes, Unsized, empty, long, later, ReadsBack, OneList, OnlyFiles, FoundInOrder, WritingExactly, RefusedWritesNothing, Lendable, ReadingExactly, size_of_reports, SizeOfFile}
 use Rattle.dayfile.specs.declared.refusal.Refusal.{Refusal}
 use Rattle.dayfile.specs.declared.refusal.Refusal.TheVariants.{Argument, Limit, Room, NoFile}
-use Rattle.dayfile.specs.declared.report.Found.TheVariants.{Whole, Nothing}
 use Rattle.dayfile.proofs.Fronts.{length_report, other_nothing, sized_is}
 use Rattle.dayfile.proofs.Running.{run_append, run_stop, run_next, run_sound}
 use Rattle.dayfile.proofs.Trailing.{length_file}

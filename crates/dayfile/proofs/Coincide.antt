@@ -1,7 +1,7 @@
 -- Two outcomes that meet the contract of one public call are the same: a theorem for each call, over the very predicate
 -- of its `ensures` (`Determined`, in `digest`, says what is stated). w stands for the lent room, in its place among the
 -- parameters.
-use mathlib.Core.Path.{◌≡◌, refl, sym, ◌∙◌, ap}
+use mathlib.Core.Path.{refl, sym, ◌∙◌, ap}
 use Rattle.digest.specs.Determined.{OneOutcome}
 use Rattle.dayfile.proofs.refusal.number as refusal_number_lem
 use Rattle.dayfile.specs.contracts.refusal.number as refusal_number_lem-contract

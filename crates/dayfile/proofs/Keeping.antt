@@ -1,6 +1,6 @@
 -- The claims of mending, proved. The idea: what mending writes is the file of the run, so P9's laws hold of it; and a cut
 -- of a written file ends the run at the first report that it passes, since the length of that report still says so.
-use mathlib.Core.Path.{◌≡◌, refl, sym, ◌∙◌, ap, subst}
+use mathlib.Core.Path.{◌≡◌, refl, sym, ◌∙◌, ap}
 use mathlib.Core.Bool.{Bool, true, false, not}
 use mathlib.Core.List.{List, [], ◌∷◌, ◌++◌, append_assoc, append-nil}
 use mathlib.Core.Logic.{◌⊎◌, inl, inr, ⊎_elim, by_cases}
@@ -8,22 +8,22 @@ use Prim.Native.Nat.{ℕ, zero, suc, ◌+◌, ◌*◌, ◌-◌, ◌≤◌, ◌<�
 use native.Mathlib.Omega.{arith}
 use native.Mathlib.Nat.{zero-add}
 use native.Mathlib.Decide.{dec_le}
-use lib.ListN.{length, get_or, take, drop, length-append, length-take, take-append-drop}
+use lib.ListN.{length, get_or, take, drop, length-append, length-take}
 use lib.Seq.{take_at, take-append-add, get_or-take}
-use lib.Dec.{ltb, leb}
-use borrow.Author.Tests.{lt-ltb, le-ltb, le-leb, lt-leb}
+use lib.Dec.{leb}
+use borrow.Author.Tests.{le-leb, lt-leb}
 use Rattle.digest.specs.Pick.{pick}
 use Rattle.digest.specs.Bytes.{bytes2}
 use Rattle.digest.specs.Mac.{same_bytes}
 use Rattle.digest.proofs.Same.{equal_same, same_equal}
-use Rattle.dayfile.specs.File.{Report, report_of, body_of, distances_of, trailer_of, file_of, is_within, Sound, none, more, Writable}
-use Rattle.dayfile.specs.Runs.{front_of, run_of, pair_at}
-use Rattle.dayfile.specs.Reading.{reports, read_of}
-use Rattle.dayfile.specs.Claims.{Exactly, AreBytes}
-use Rattle.dayfile.specs.Mending.{Mend, mended, refused, said_of, mend_of, mend_left}
+use Rattle.dayfile.specs.File.{Report, report_of, body_of, distances_of, trailer_of, file_of, Sound, none, more}
+use Rattle.dayfile.specs.Runs.{front_of, run_of}
+use Rattle.dayfile.specs.Reading.{read_of}
+use Rattle.dayfile.specs.Claims.{AreBytes}
+use Rattle.dayfile.specs.Mending.{mended, refused, said_of, mend_of, mend_left}
 use Rattle.dayfile.specs.Kept.{SoundUnchanged, MendedReads, ChangedExactly, Longest, InPlace, ending_by, CutKeeps, CutNever24, MendingExactly, RefusedMendsNothing}
 use Rattle.dayfile.specs.declared.refusal.Refusal.{Refusal}
-use Rattle.dayfile.specs.declared.refusal.Refusal.TheVariants.{Argument, Limit, Room, NoFile}
+use Rattle.dayfile.specs.declared.refusal.Refusal.TheVariants.{Limit, Room}
 use Rattle.dayfile.specs.declared.mend.Mended.{Mended}
 use Rattle.dayfile.specs.declared.report.Found.{Found}
 use Rattle.dayfile.specs.declared.report.Found.TheVariants.{Whole, Nothing}

@@ -1,6 +1,6 @@
 -- Reading, test by test.
-use mathlib.Core.Path.{◌≡◌, refl, sym, ◌∙◌, ap}
-use mathlib.Core.Bool.{Bool, true, false}
+use mathlib.Core.Path.{◌≡◌}
+use mathlib.Core.Bool.{true, false}
 use mathlib.Core.List.{List}
 use Prim.Native.Nat.{ℕ, ◌≤◌, ◌<◌}
 use lib.ListN.{length}
@@ -8,7 +8,7 @@ use borrow.Author.Tests.{lt-ltb, le-ltb, le-leb, lt-leb}
 use Rattle.digest.specs.Mac.{same_bytes}
 use Rattle.dayfile.specs.File.{file_of}
 use Rattle.dayfile.specs.Runs.{run_of}
-use Rattle.dayfile.specs.Reading.{Read, reports, refused, is_file_of, read_of}
+use Rattle.dayfile.specs.Reading.{reports, refused, is_file_of, read_of}
 use Rattle.dayfile.specs.declared.refusal.Refusal.TheVariants.{Limit, NoFile}
 
 module _ (b : List ℕ) where

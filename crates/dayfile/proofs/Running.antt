@@ -3,12 +3,12 @@
 -- (`run_stop`, `run_next`). What holds in these two cases holds of every run (`by_run`).
 use mathlib.Core.Path.{◌≡◌, refl, sym, ◌∙◌, ap, subst}
 use mathlib.Core.List.{List, [], ◌∷◌, ◌++◌, append_assoc, append-nil}
-use Prim.Native.Nat.{ℕ, zero, suc, ◌+◌, ◌-◌, ◌≤◌, ◌<◌}
+use Prim.Native.Nat.{ℕ, zero, suc, ◌+◌, ◌≤◌, ◌<◌}
 use native.Mathlib.Omega.{arith}
 use lib.ListN.{length, get_or, take, drop, length-append, length-drop, length-take}
 use lib.Seq.{length-take-le, take-add, drop-drop, drop_at, get_or-drop}
 use Rattle.dayfile.specs.File.{Report, report_of, body_of, Sound, none, more}
-use Rattle.dayfile.specs.Runs.{front_of, found_in, Standing, ahead, run_within, run_of, counted, RunStands, pair_at}
+use Rattle.dayfile.specs.Runs.{front_of, found_in, Standing, ahead, run_within, run_of, counted, RunStands}
 use Rattle.dayfile.specs.declared.report.Found.{Found}
 use Rattle.dayfile.specs.declared.report.Found.TheVariants.{Whole, Nothing}
 use Rattle.dayfile.specs.declared.run.Run.{Run}

@@ -1,9 +1,9 @@
 -- What is claimed of the day file (02 P9), each claim under the sentence that it renders. `proofs/Claimed.antt` proves them.
-use Rattle.std.specs.Prelude.{◌≡◌, true, List, [], ◌∷◌, ◌++◌, ◌⊎◌, ℕ, ◌+◌, ◌*◌, ◌≤◌, ◌<◌, length, get_or, drop}
+use Rattle.std.specs.Prelude.{◌≡◌, true, List, [], ◌∷◌, ◌⊎◌, ℕ, ◌+◌, ◌*◌, ◌≤◌, ◌<◌, length, get_or, drop}
 use Rattle.dayfile.specs.File.{Report, file_of, Sound, Writable}
 use Rattle.dayfile.specs.Runs.{front_of, found_in, run_of}
 use Rattle.dayfile.specs.Lent.{is_list, list_of}
-use Rattle.dayfile.specs.Writing.{Written, file, refused, write_of, write_lent, left_by}
+use Rattle.dayfile.specs.Writing.{Written, file, refused, write_of, left_by}
 use Rattle.dayfile.specs.Reading.{Read, reports, read_of}
 use Rattle.dayfile.specs.Reading as reading
 use Rattle.dayfile.specs.declared.refusal.Refusal.{Refusal}

@@ -1,5 +1,5 @@
 -- What is claimed of mending (02 P10), each claim under the sentence that it renders. `proofs/Keeping.antt` proves them.
-use Rattle.std.specs.Prelude.{◌≡◌, Bool, true, false, List, [], ◌∷◌, ◌++◌, ◌⊎◌, ℕ, ◌+◌, ◌*◌, ◌-◌, ◌≤◌, ◌<◌, length, take, drop, leb}
+use Rattle.std.specs.Prelude.{◌≡◌, false, List, [], ◌∷◌, ◌++◌, ◌⊎◌, ℕ, ◌+◌, ◌*◌, ◌≤◌, ◌<◌, length, take, drop, leb}
 use Rattle.digest.specs.Pick.{pick}
 use Rattle.dayfile.specs.File.{Report, body_of, file_of, Sound, Writable}
 use Rattle.dayfile.specs.Runs.{run_of}
@@ -7,7 +7,7 @@ use Rattle.dayfile.specs.Reading.{reports, read_of}
 use Rattle.dayfile.specs.Claims.{Exactly, AreBytes}
 use Rattle.dayfile.specs.Mending.{Mend, mended, refused, said_of, mend_of, mend_left}
 use Rattle.dayfile.specs.declared.refusal.Refusal.{Refusal}
-use Rattle.dayfile.specs.declared.refusal.Refusal.TheVariants.{Argument, Limit, Room, NoFile}
+use Rattle.dayfile.specs.declared.refusal.Refusal.TheVariants.{Limit, Room}
 use Rattle.dayfile.specs.declared.mend.Mended.{Mended}
 
 -- "A sound file comes out the same and is reported unchanged."

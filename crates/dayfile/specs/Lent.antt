@@ -1,6 +1,6 @@
 -- A list of reports as it is lent: a slice with their numbers, one with their sizes, and one with the bytes of all of them,
 -- one report's behind the other's.
-use Rattle.std.specs.Prelude.{Bool, true, false, List, [], ◌∷◌, ℕ, ◌+◌, ◌-◌, length, take, drop, eqb, ltb}
+use Rattle.std.specs.Prelude.{Bool, false, List, [], ◌∷◌, ℕ, ◌+◌, ◌-◌, length, take, drop, eqb, ltb}
 use Rattle.digest.specs.Pick.{pick}
 use Rattle.dayfile.specs.File.{Report}
 

@@ -1,7 +1,7 @@
 -- Mending a cut day file (02 P10). "A mending tool keeps the longest run of whole reports from the front, writes a new
 -- trailer and says how many reports it kept, how many bytes stood after them and whether the file changed. .. Refusals: 24
 -- if the file lent, or the file it would become, passes P9's limits, then 6 if the mended file does not fit the room."
-use Rattle.std.specs.Prelude.{Bool, true, false, not, List, ℕ, ◌-◌, length, ltb, leb}
+use Rattle.std.specs.Prelude.{not, List, ℕ, ◌-◌, length, ltb, leb}
 use Rattle.digest.specs.Pick.{pick}
 use Rattle.digest.specs.Bytes.{laid_over}
 use Rattle.digest.specs.Mac.{same_bytes}

@@ -26,7 +26,6 @@ use Rattle.connection.specs.declared.asked.Whom.TheVariants as A
 use Rattle.connection.specs.declared.answer.Judged.{Judged}
 use Rattle.connection.specs.declared.answer.Answer.TheVariants as W
 use Rattle.connection.specs.declared.refusal.Refusal.TheVariants as X
-use Rattle.connection.specs.declared.handshake.Handshake.{Handshake}
 use Rattle.connection.specs.declared.connection.Connection.{Connection}
 use Rattle.connection.specs.declared.told.Told.{Told}
 use Rattle.connection.proofs.OpeningRecords.{content_in}

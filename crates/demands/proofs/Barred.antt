@@ -31,7 +31,7 @@ use Rattle.demands.specs.Runs.{Call, receive, send_data, send_alert, close, star
 use Rattle.demands.specs.Genuine.{RecordOf}
 use Rattle.demands.specs.Table.{Row, New}
 use Rattle.demands.specs.Table.{row_ended, row_returned, row_not_allowed, row_reply, row_hello_malformed, row_unacceptable, row_resent, row_change, row_change_malformed, row_clear_malformed, row_checksum, row_clear_warning, row_clear_critical, row_clear_fatal, row_forged, row_old, row_repeated, row_malformed, row_data, row_warning, row_critical, row_barred, row_open, row_again, row_wrong_finished}
-use Rattle.demands.specs.Calls.{Chain, chain_end, chain_more, taken, CallRow, receive_16, receive_6, receive_framing, receive_records, data_16, data_7, data_8, data_15, data_6, data_sent_lem, alert_16, alert_7, alert_8, alert_15, alert_6, alert_sent_lem, close_7, close_done, start_7, start_8, start_done, may_alert}
+use Rattle.demands.specs.Calls.{Chain, chain_end, chain_more, CallRow, receive_16, receive_6, receive_framing, receive_records, data_16, data_7, data_8, data_15, data_6, data_sent_lem, alert_16, alert_7, alert_8, alert_15, alert_6, alert_sent_lem, close_7, close_done, start_7, start_8, start_done, may_alert}
 use Rattle.demands.specs.Refusals.{lent_by}
 use Rattle.demands.specs.Events.{took, sending, alerting, closing, starting}
 use Rattle.demands.specs.Barred.{FatalUnderCode, BarredOnlyByFatal, refused_all, AnswersSeven, BarredForGood}

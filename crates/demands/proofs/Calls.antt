@@ -40,7 +40,7 @@ use Rattle.connection.specs.declared.calls.Outcome.{Outcome}
 use Rattle.connection.specs.declared.calls.Outcome.TheVariants as O
 use Rattle.connection.specs.declared.receive.Taken.TheVariants as T
 use Rattle.connection.specs.declared.handshake.Handshake.{Handshake}
-use Rattle.demands.specs.Runs.{Call, receive, send_data, send_alert, close, start, received, sent, received_as, sent_as, called_as, Step, step_of, fresh_one}
+use Rattle.demands.specs.Runs.{Call, receive, send_data, send_alert, close, start, received, received_as, sent_as, called_as, Step, step_of, fresh_one}
 use Rattle.demands.specs.Calls.{Chain, chain_end, chain_more, not_taken, not_sent, not_called, taken, was_called, may_alert, number_for, code_for, BadData, BadAlert, GoodData, GoodAlert, CallRow, CallsHold, FreshRow, fresh_16, fresh_done, FreshHolds}
 use Rattle.demands.specs.Calls.{receive_16, receive_6, receive_framing, receive_records, data_16, data_7, data_8, data_15, data_6, data_sent_lem, alert_16, alert_7, alert_8, alert_15, alert_6, alert_sent_lem, close_7, close_done, start_7, start_8, start_done}
 use Rattle.demands.proofs.States.{ended, live_over, over_live, over_ended, ended_over}

@@ -4,7 +4,7 @@ use mathlib.Core.Logic.{inr}
 use mathlib.Core.Path.{◌≡◌, refl, sym, ◌∙◌, ap, ap₂, subst}
 use mathlib.Core.Bool.{Bool, true, false}
 use mathlib.Core.List.{List, [], ◌∷◌, ◌++◌, map, append-nil}
-use Prim.Native.Nat.{ℕ, ◌+◌, ◌-◌, ◌≤◌, ◌<◌}
+use Prim.Native.Nat.{ℕ, ◌+◌, ◌≤◌, ◌<◌}
 use native.Mathlib.Omega.{arith}
 use lib.Count.{ones}
 use lib.Dec.{eqb, lit≤}
@@ -45,7 +45,7 @@ use Rattle.connection.specs.declared.state.State.TheVariants as S
 use Rattle.demands.specs.Seen.{seen_in}
 use Rattle.demands.specs.Runs.{step_of}
 use Rattle.demands.specs.Genuine.{Protected, keys_of, unit_key}
-use Rattle.demands.specs.Table.{Row, New, Guarded, row_forged, row_old, row_repeated, row_data}
+use Rattle.demands.specs.Table.{Row, Guarded, row_forged, row_old, row_repeated, row_data}
 use Rattle.demands.specs.Calls.{may_alert, alert_sent_lem}
 use Rattle.demands.specs.Events.{Event, took, AllSound, after}
 use Rattle.demands.specs.Past.{is_data}

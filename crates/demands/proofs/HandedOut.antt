@@ -24,7 +24,6 @@ use Rattle.record.specs.declared.window.Acceptance.{Acceptance}
 use Rattle.record.specs.declared.window.Acceptance.TheVariants as A
 use Rattle.record.proofs.Histories.{meaning, new_means, old_means, repeated_means, new_when, all_below, below_all, accepted_here, accepted_still, held_some}
 use Rattle.message.specs.Finished.{judged_of as verdictOf}
-use Rattle.message.specs.declared.alert.Alert.{Alert}
 use Rattle.message.specs.declared.finished.Verified.{Verified as Verdict}
 use Rattle.message.specs.declared.finished.Verified.TheVariants as F
 use Rattle.connection.specs.Answer.{handed_of, part_at}

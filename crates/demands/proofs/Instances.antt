@@ -3,7 +3,7 @@ use mathlib.Core.Path.{◌≡◌, refl, sym, ◌∙◌, ap, subst}
 use mathlib.Core.Logic.{inl, inr, ◌≢◌}
 use mathlib.Core.Bool.{true, false}
 use mathlib.Core.List.{List, [], ◌∷◌, ◌++◌}
-use Prim.Native.Nat.{ℕ, ◌+◌, ◌≤◌}
+use Prim.Native.Nat.{ℕ}
 use native.Mathlib.Omega.{arith}
 use lib.ListN.{length, length-append, get_or}
 use lib.Dec.{lit≤}
@@ -12,7 +12,6 @@ use Rattle.record.specs.declared.header.Content.TheVariants as C
 use Rattle.record.specs.declared.reader.Record.{Record}
 use Rattle.record.proofs.ProtectedBytes.{size_most}
 use Rattle.message.specs.Alert.{alert_bytes}
-use Rattle.message.specs.declared.alert.Alert.{Alert}
 use Rattle.message.specs.declared.alert.Description.TheVariants as D
 use Rattle.message.specs.declared.alert.Level.TheVariants as L
 use Rattle.message.proofs.AlertLaws.{alert_back, level_back, description_back}

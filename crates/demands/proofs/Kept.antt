@@ -11,7 +11,7 @@ use lib.Seq.{take_at}
 use Rattle.digest.specs.Pick.{pick}
 use Rattle.digest.specs.Bytes.{laid_over}
 use Rattle.record.specs.Window.{accept_of, emptied, Held}
-use Rattle.record.specs.History.{window_of, accepted}
+use Rattle.record.specs.History.{window_of}
 use Rattle.record.specs.declared.header.Content.{Content}
 use Rattle.record.specs.declared.header.Content.TheVariants as C
 use Rattle.record.specs.declared.reader.Record.{Record}

@@ -5,7 +5,7 @@ use mathlib.Core.Path.{◌≡◌, refl, sym, ◌∙◌, ap, ap₂, subst}
 use mathlib.Core.Logic.{◌⊎◌, inl, inr, ◌≢◌}
 use mathlib.Core.Bool.{Bool, true, false}
 use mathlib.Core.List.{List, [], ◌∷◌, ◌++◌, map, append_assoc}
-use Prim.Native.Nat.{ℕ, zero, suc, ◌+◌, ◌-◌}
+use Prim.Native.Nat.{ℕ, zero, suc, ◌-◌}
 use native.Mathlib.Omega.{arith}
 use lib.ListN.{length, get_or, replicate}
 use Rattle.digest.specs.Pick.{pick}

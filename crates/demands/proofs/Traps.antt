@@ -3,7 +3,7 @@ use mathlib.Core.Logic.{inr}
 use mathlib.Core.Path.{◌≡◌, refl, sym, ◌∙◌, ap, ap₂}
 use mathlib.Core.Bool.{true, false}
 use mathlib.Core.List.{List, [], ◌∷◌, ◌++◌}
-use Prim.Native.Nat.{ℕ, suc, ◌+◌, ◌-◌, ◌≤◌}
+use Prim.Native.Nat.{ℕ, suc, ◌+◌, ◌≤◌}
 use native.Mathlib.Omega.{arith}
 use lib.ListN.{length, length-append}
 use Rattle.digest.specs.Mac.{size_of}
@@ -19,7 +19,6 @@ use Rattle.record.proofs.Histories.{meaning, new_when, repeated_when}
 use Rattle.record.proofs.RoundTrip.{read_back}
 use Rattle.record.proofs.ProtectedBytes.{size_most}
 use Rattle.message.specs.Alert.{alert_bytes}
-use Rattle.message.specs.declared.alert.Alert.{Alert}
 use Rattle.message.specs.declared.alert.Level.TheVariants as L
 use Rattle.message.proofs.AlertLaws.{alert_back}
 use Rattle.connection.specs.Answer.{judged, refusing, reply_size}

@@ -65,7 +65,7 @@ use Rattle.demands.specs.Seen.{seen_in}
 use Rattle.demands.specs.Runs.{receive, send_alert, sent, step_of}
 use Rattle.record.specs.declared.keys.Keys.{Keys}
 use Rattle.demands.specs.Genuine.{Protected, keys_of, unit_key}
-use Rattle.demands.specs.Table.{Row, New, IsHello, Hears, row_reply, row_change, row_open, row_data, row_wrong_finished}
+use Rattle.demands.specs.Table.{Row, IsHello, Hears, row_reply, row_change, row_open, row_data, row_wrong_finished}
 use Rattle.demands.specs.Calls.{chain_end, chain_more, taken}
 use Rattle.demands.specs.Runs.{fresh_with}
 use Rattle.demands.specs.Works.{clear_datagram, protected_datagram, keys_after, one_answer, Worked, Works, Rebooted, Reboots}

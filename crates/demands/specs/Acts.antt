@@ -1,7 +1,7 @@
 -- A run of a connection, record by record. A call to receive that is not refused as a whole is its records, one after the other:
 -- "each later record is handed on", "one answer per record". So a place in a run is a place between two acts, also inside a
 -- datagram.
-use Rattle.std.specs.Prelude.{◌≡◌, Bool, true, false, List, [], ◌∷◌, ◌++◌, map, ℕ, length, eqb, ltb}
+use Rattle.std.specs.Prelude.{◌≡◌, Bool, true, List, [], ◌∷◌, ◌++◌, map, ℕ, length, eqb, ltb}
 use Rattle.digest.specs.Pick.{pick}
 use Rattle.record.specs.Datagram.{Framing, framed, faulty, framing_of}
 use Rattle.record.specs.declared.reader.Record.{Record}

@@ -1,7 +1,7 @@
 -- 02, P6, "A unit that rebooted": "Hold the started handshake beside the open connection, by the rows of Idle, Replied and Spec.
 -- The open one goes on until the new Finished is verified, and is then replaced." For which handshake of a connection a record is,
 -- and what its judgement leaves of both: the Open rows, beside those of 01 (`Table`), which each handshake follows for itself.
-use Rattle.std.specs.Prelude.{◌≡◌, ◌↔◌, ◌≢◌, Bool, true, false, List, ℕ}
+use Rattle.std.specs.Prelude.{◌≡◌, ◌↔◌, ◌≢◌, true, false, List, ℕ}
 use Rattle.record.specs.declared.header.Content.TheVariants as C
 use Rattle.record.specs.declared.reader.Record.{Record}
 use Rattle.connection.specs.Handshake.{kept_hello, none_started}
@@ -9,7 +9,6 @@ use Rattle.connection.specs.Connection.{connection_of}
 use Rattle.connection.specs.Judge.{fragment_of}
 use Rattle.connection.specs.Asked.{whom_of, asked_of}
 use Rattle.connection.specs.Told.{sent_after, left_by, is_beside, told_record}
-use Rattle.connection.specs.declared.state.State.{State}
 use Rattle.connection.specs.declared.state.State.TheVariants.{Open, Spec}
 use Rattle.connection.specs.declared.asked.Whom.{Whom}
 use Rattle.connection.specs.declared.asked.Whom.TheVariants as A

@@ -1,6 +1,6 @@
 -- Demand 2: "A fatal alert accepted under its authentication code bars that connection's session from being resumed."
 -- 01: "Barred holds for this connection and all its starts."
-use Rattle.std.specs.Prelude.{◌≡◌, ◌≢◌, Bool, true, false, List, [], ◌∷◌, map, ℕ, ◌≤◌, length}
+use Rattle.std.specs.Prelude.{◌≡◌, ◌≢◌, Bool, List, map, ℕ, ◌≤◌, length}
 use Rattle.record.specs.Datagram.{framed, framing_of}
 use Rattle.record.specs.declared.reader.Record.{Record}
 use Rattle.record.specs.declared.header.Content.TheVariants as C
@@ -24,7 +24,7 @@ use Rattle.connection.specs.declared.connection.Connection.{Connection}
 use Rattle.connection.specs.declared.calls.Outcome.TheVariants as O
 use Rattle.connection.specs.declared.receive.Taken.TheVariants as T
 use Rattle.connection.specs.declared.handshake.Handshake.{Handshake}
-use Rattle.demands.specs.Runs.{Call, receive, send_data, send_alert, close, start, Result, received, sent, called, Step, Gateway, step_of, final_of}
+use Rattle.demands.specs.Runs.{Call, receive, send_data, send_alert, close, start, received, sent, called, Gateway, step_of, final_of}
 use Rattle.demands.specs.Genuine.{Genuine, keys_of}
 use Rattle.demands.specs.Seen.{seen_in}
 use Rattle.demands.specs.Table.{Guarded}

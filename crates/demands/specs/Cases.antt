@@ -1,6 +1,6 @@
 -- Cases that the worked handshake does not show, each met in a run from fresh: both MAC kinds, a forged record of full
 -- size, one that is too old, a repeated one, a late one from before a key refresh, and an alert that we send clear.
-use Rattle.std.specs.Prelude.{◌≡◌, Bool, true, false, List, [], ◌∷◌, ℕ, ◌≤◌, length}
+use Rattle.std.specs.Prelude.{◌≡◌, true, false, List, [], ℕ, ◌≤◌, length}
 use Rattle.digest.specs.Mac.{size_of}
 use Rattle.digest.specs.declared.mac.Mac.{Mac}
 use Rattle.digest.specs.declared.mac.Mac.TheVariants.{Sha80, Sha}
@@ -12,7 +12,6 @@ use Rattle.connection.specs.declared.answer.Answer.{Answer}
 use Rattle.connection.specs.declared.answer.Answer.TheVariants.{Data, Refused}
 use Rattle.connection.specs.declared.refusal.Refusal.TheVariants as X
 use Rattle.connection.specs.declared.calls.Outcome.TheVariants.{Done}
-use Rattle.connection.specs.declared.handshake.Handshake.{Handshake}
 use Rattle.connection.specs.declared.state.State.TheVariants.{Replied, Open}
 use Rattle.demands.specs.Genuine.{keys_of}
 use Rattle.demands.specs.Events.{Event, took, Sound, AllSound, after}

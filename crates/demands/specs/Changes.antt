@@ -2,7 +2,7 @@
 -- critical closes the connection, fatal closes it and, if protected, bars the session"; "Sending one, at any level,
 -- changes only our number and our last sent record"; "Start again leads from Closed to Idle and forgets the window
 -- and the kept hello. Close leads anywhere but Barred to Closed." 02, P6: "What closes .. the open one drops the started one too."
-use Rattle.std.specs.Prelude.{◌≡◌, Bool, true, false, List, ℕ, ◌+◌, length, take}
+use Rattle.std.specs.Prelude.{◌≡◌, Bool, true, false, List, ℕ, length, take}
 use Rattle.record.specs.Window.{emptied}
 use Rattle.record.specs.declared.reader.Record.{Record}
 use Rattle.message.specs.Acceptance.{heard_of}

@@ -10,7 +10,7 @@ use Rattle.connection.specs.declared.connection.Connection.{Connection}
 use Rattle.connection.specs.declared.refusal.Refusal.{Refusal}
 use Rattle.connection.specs.declared.refusal.Refusal.TheVariants as X
 use Rattle.connection.specs.declared.tally.Tally.{Tally}
-use Rattle.demands.specs.Runs.{Call, Result, Step, Gateway}
+use Rattle.demands.specs.Runs.{Call, Result, Gateway}
 use Rattle.demands.specs.Past.{is_data}
 use Rattle.demands.specs.LeftOut.{answers_in}
 

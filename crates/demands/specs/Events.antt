@@ -1,11 +1,10 @@
 -- The life of one handshake: the events that are handed to it, record by record. Which events of a connection these are: `Lives`.
-use Rattle.std.specs.Prelude.{◌≡◌, Bool, true, false, List, [], ◌∷◌, ℕ, length, take}
+use Rattle.std.specs.Prelude.{◌≡◌, Bool, true, List, [], ◌∷◌, ℕ, length, take}
 use Rattle.record.specs.declared.reader.Record.{Record}
 use Rattle.connection.specs.Judge.{judged_record}
 use Rattle.connection.specs.Send.{data_sent, data_output, alert_sent, alert_output}
 use Rattle.connection.specs.Calls.{closed_of, started_of}
 use Rattle.connection.specs.declared.answer.Answer.{Answer}
-use Rattle.connection.specs.declared.connection.Connection.{Connection}
 use Rattle.connection.specs.declared.calls.Outcome.{Outcome}
 use Rattle.connection.specs.declared.calls.Outcome.TheVariants.{Done, Refused}
 use Rattle.connection.specs.declared.handshake.Handshake.{Handshake}

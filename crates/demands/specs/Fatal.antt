@@ -1,7 +1,7 @@
 -- Demand 2, over runs and their history: "A fatal alert accepted under its authentication code bars that connection's
 -- session from being resumed." A genuine, new, well-formed fatal alert bars, and nothing else does: genuine under the
 -- keys of the last new reply, new by the numbers accepted since the last change cipher spec that was taken.
-use Rattle.std.specs.Prelude.{◌≡◌, ◌⊎◌, ◌≢◌, Bool, true, false, List, [], ℕ, ◌+◌, ◌<◌}
+use Rattle.std.specs.Prelude.{◌≡◌, ◌⊎◌, ◌≢◌, true, false, List, [], ℕ, ◌+◌, ◌<◌}
 use Rattle.record.specs.History.{accepted}
 use Rattle.record.specs.Window.{Held}
 use Rattle.record.specs.declared.header.Content.TheVariants as C

@@ -1,5 +1,5 @@
 -- Demand 2: "Data is handed out only after the unit's Finished has been verified."
-use Rattle.std.specs.Prelude.{◌≡◌, Bool, true, false, List, [], ◌∷◌, ◌++◌, ℕ, length}
+use Rattle.std.specs.Prelude.{◌≡◌, true, false, List, [], ◌∷◌, ◌++◌, ℕ}
 use Rattle.message.specs.Acceptance.{heard_of}
 use Rattle.message.specs.Finished.{finished_of}
 use Rattle.message.specs.declared.acceptance.Plan.{Plan}
@@ -13,7 +13,7 @@ use Rattle.connection.specs.declared.answer.Answer.TheVariants.{Open}
 use Rattle.connection.specs.declared.handshake.Session.{Session}
 use Rattle.demands.specs.Genuine.{Genuine}
 use Rattle.demands.specs.Events.{Event, took, Sound, AllSound, Happened, answered, wrote, closed, started, refused, after, history}
-use Rattle.demands.specs.Past.{Greeting, greeting, last_reply, is_reply, is_data, shuts, keys_in}
+use Rattle.demands.specs.Past.{greeting, last_reply, is_reply, is_data, shuts, keys_in}
 use Rattle.record.specs.Window.{Held}
 use Rattle.demands.specs.Runs.{fresh_with}
 use Rattle.connection.specs.declared.sent.SentRecords.{SentRecords}

@@ -3,7 +3,7 @@
 -- 3); one that answers each record alike (the table); one that does nothing (Finished must open); one that acts on
 -- the first record of a datagram and only acknowledges the rest (one answer per record, demand 2); an invented tally
 -- (the history rule)."
-use Rattle.std.specs.Prelude.{◌≡◌, ◌↔◌, ◌≢◌, Bool, true, false, List, [], ◌∷◌, ◌++◌, map, ℕ, ◌≤◌, length, take}
+use Rattle.std.specs.Prelude.{◌≡◌, ◌↔◌, ◌≢◌, true, List, [], ◌∷◌, ◌++◌, map, ℕ, ◌≤◌, length, take}
 use Rattle.digest.specs.Bytes.{laid_over}
 use Rattle.record.specs.Datagram.{framed, framing_of}
 use Rattle.record.specs.declared.reader.Record.{Record}

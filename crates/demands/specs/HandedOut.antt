@@ -1,6 +1,6 @@
 -- Demand 3: "Each genuine data record of at least one byte, whose number was not accepted before and is above the
 -- highest accepted less 32, is handed out by that very call, once, as sent." Since 02, P1: "less the width".
-use Rattle.std.specs.Prelude.{◌≡◌, ◌↔◌, ◌≢◌, Bool, true, false, List, [], ◌∷◌, ◌++◌, map, ℕ}
+use Rattle.std.specs.Prelude.{◌≡◌, ◌↔◌, ◌≢◌, true, false, List, [], ◌∷◌, ◌++◌, map, ℕ}
 use Rattle.record.specs.Window.{Held}
 use Rattle.record.specs.declared.reader.Record.{Record}
 use Rattle.connection.specs.Answer.{handed_of}

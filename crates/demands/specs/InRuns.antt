@@ -1,7 +1,7 @@
 -- Refusals that turn on what happened before, in a life from fresh, by its history alone: 9 by the keys of the last new
 -- reply, 10 and 11 by the numbers accepted since the last change cipher spec that was taken, 17 by the very messages of the life.
 -- (14, by the records that the connection sent: `Lives.ChecksumInRuns`.) With `Table.TableHolds` and `Kept.KeptIsWhatHappened` behind it.
-use Rattle.std.specs.Prelude.{◌≡◌, ◌↔◌, ◌≢◌, Bool, true, false, List, [], ℕ, ◌+◌, ◌≤◌, ◌<◌}
+use Rattle.std.specs.Prelude.{◌≡◌, ◌↔◌, true, List, [], ℕ, ◌+◌, ◌≤◌, ◌<◌}
 use Rattle.record.specs.History.{accepted}
 use Rattle.record.specs.declared.header.Content.TheVariants as C
 use Rattle.record.specs.declared.reader.Record.{Record}
@@ -13,7 +13,6 @@ use Rattle.connection.specs.declared.state.State.TheVariants.{Open}
 use Rattle.connection.specs.declared.refusal.Refusal.TheVariants as X
 use Rattle.connection.specs.declared.answer.Answer.{Answer}
 use Rattle.connection.specs.declared.answer.Answer.TheVariants.{Refused}
-use Rattle.connection.specs.declared.handshake.Handshake.{Handshake}
 use Rattle.connection.specs.declared.handshake.Session.{Session}
 use Rattle.demands.specs.Runs.{fresh_with, fresh_one}
 use Rattle.demands.specs.Genuine.{Genuine, RecordOf}

@@ -1,13 +1,12 @@
 -- No premise is empty: beside the statements that have premises, an instance that meets them.
-use Rattle.std.specs.Prelude.{◌≡◌, ◌≢◌, Bool, true, false, List, [], ◌∷◌, ℕ, length}
-use Rattle.record.specs.Datagram.{framed, faulty, framing_of}
+use Rattle.std.specs.Prelude.{◌≡◌, true, List, [], ℕ, length}
+use Rattle.record.specs.Datagram.{framed, framing_of}
 use Rattle.record.specs.declared.reader.Record.{Record}
 use Rattle.message.specs.Acceptance.{heard_of}
 use Rattle.message.specs.declared.acceptance.Heard.TheVariants.{Accepted}
 use Rattle.connection.specs.Judge.{judged_record}
 use Rattle.connection.specs.Send.{data_sent, alert_sent}
 use Rattle.connection.specs.declared.state.State.TheVariants.{Open, Barred}
-use Rattle.connection.specs.declared.connection.Connection.{Connection}
 use Rattle.connection.specs.declared.calls.Outcome.TheVariants.{Done}
 use Rattle.connection.specs.declared.handshake.Handshake.{Handshake}
 use Rattle.demands.specs.Runs.{fresh_with, fresh_one, step_of}

@@ -1,7 +1,7 @@
 -- What is kept is what happened: after any life from fresh, each field of a handshake is what the history of its life says; with
 -- `Lives`, of both handshakes of a connection. (The records that we sent are the connection's: `Lives.SentIsWhatHappened`.) So that
 -- "the key", "the expected Finished", "the same reply" and "the window" elsewhere are no mere fields.
-use Rattle.std.specs.Prelude.{◌≡◌, Bool, true, false, List, [], ℕ}
+use Rattle.std.specs.Prelude.{◌≡◌, true, false, List, [], ℕ}
 use Rattle.record.specs.History.{window_of}
 use Rattle.demands.specs.Runs.{fresh_with}
 use Rattle.connection.specs.Handshake.{no_session, nothing_kept, kept_hello, kept_reply, planted}
@@ -10,7 +10,7 @@ use Rattle.connection.specs.declared.handshake.Handshake.{Handshake}
 use Rattle.connection.specs.declared.handshake.Session.{Session}
 use Rattle.connection.specs.declared.state.State.TheVariants.{Barred}
 use Rattle.demands.specs.Events.{Event, Happened, after, history}
-use Rattle.demands.specs.Past.{last_reply, kept_greeting, agreed_for, hello_as, reply_for, protected_next, next_clear_number, accepted_in, barred_in, agreed_of, nothing_agreed, Agreed}
+use Rattle.demands.specs.Past.{last_reply, kept_greeting, agreed_for, hello_as, reply_for, protected_next, next_clear_number, accepted_in, barred_in, agreed_of, nothing_agreed}
 use Rattle.record.specs.Window.{Held}
 
 pub record KeptAs (session : Session) (width : ℕ) (past : List Happened) (h : Handshake) : Type 0 where

@@ -3,14 +3,14 @@
 -- connection are the same." 02, P6: it "speaks of the open connection until that replacement; when datagrams are left out, the
 -- started handshake, its keys and the kept list of records sent may differ. Genuine means under the open keys; both runs compared
 -- end at the first record that is right under the started keys in either."
-use Rattle.std.specs.Prelude.{◌≡◌, ◌≢◌, Bool, true, false, List, [], ◌∷◌, ◌++◌, map, ℕ}
+use Rattle.std.specs.Prelude.{◌≡◌, ◌≢◌, List, [], ◌∷◌, ◌++◌, map, ℕ}
 use Rattle.digest.specs.Pick.{pick}
 use Rattle.record.specs.declared.reader.Record.{Record}
 use Rattle.connection.specs.Answer.{handed_of}
 use Rattle.connection.specs.Told.{told_record}
 use Rattle.connection.specs.Receive.{end_of}
 use Rattle.record.specs.Datagram.{framed, framing_of}
-use Rattle.connection.specs.Tally.{counted_of, counted_answer}
+use Rattle.connection.specs.Tally.{counted_of}
 use Rattle.connection.specs.declared.answer.Slot.{Slot}
 use Rattle.connection.specs.declared.connection.Connection.{Connection}
 use Rattle.connection.specs.declared.state.State.{State}

@@ -24,7 +24,6 @@ use Rattle.connection.specs.declared.handshake.Handshake.{Handshake}
 use Rattle.connection.specs.declared.connection.Connection.{Connection}
 use Rattle.demands.specs.Runs.{fresh_with, fresh_one}
 use Rattle.demands.specs.Table.{Hears}
-use Rattle.demands.specs.Asked.{RightBeside, Asks}
 use Rattle.demands.specs.Events.{Event, took, sending, alerting, closing, starting, AllSound, after, history}
 use Rattle.demands.specs.Acts.{Act, comes, sends, alerts, closes, starts, SoundActs, leaves, behind, history_of}
 use Rattle.demands.specs.Past.{sent_since, MatchesNone, is_data}

@@ -6,7 +6,6 @@ use Rattle.gather.specs.Gatherer.{Left, drop_of, datagram_of}
 use Rattle.gather.specs.declared.gatherer.Gatherer.{Gatherer}
 use Rattle.connection.specs.declared.connection.Connection.{Connection}
 use Rattle.connection.specs.declared.state.State.TheVariants.{Open}
-use Rattle.connection.specs.declared.tally.Tally.{Tally}
 use Rattle.short.specs.Message.{Leaves, is_shown, gathered_of, message_of}
 use Rattle.demands.specs.Genuine.{keys_of}
 use Rattle.demands.specs.Runs.{Call, receive, Step, received_as, step_of, steps_of, final_of}

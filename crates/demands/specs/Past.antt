@@ -1,13 +1,12 @@
 -- What a history says: the last new reply, what was written since, and which numbers were accepted. It is read off
 -- what happened, never off what the connection keeps. Histories have the latest first.
-use Rattle.std.specs.Prelude.{◌≡◌, Bool, true, false, ◌≢◌, List, [], ◌∷◌, ◌++◌, ℕ, ◌+◌, ◌<◌, eqb, length, get_or, replicate}
+use Rattle.std.specs.Prelude.{Bool, true, false, ◌≢◌, List, [], ◌∷◌, ◌++◌, ℕ, ◌+◌, ◌<◌, eqb, length, get_or, replicate}
 use Rattle.digest.specs.Pick.{pick}
 use Rattle.digest.specs.declared.mac.Mac.{Mac}
 use Rattle.digest.specs.declared.mac.Mac.TheVariants.{Sha80}
 use Rattle.message.specs.Acceptance.{heard_of}
 use Rattle.message.specs.declared.acceptance.Heard.{Heard}
 use Rattle.message.specs.declared.acceptance.Heard.TheVariants as H
-use Rattle.record.specs.declared.reader.Record.{Record}
 use Rattle.connection.specs.Answer.{answer_number}
 use Rattle.connection.specs.Judge.{fragment_of}
 use Rattle.connection.specs.Reply.{client_random, expected_of, reply_to, last_of, our_hello, hello_record, change_record}

@@ -1,6 +1,6 @@
 -- A run of calls is a run of acts: a receive is its records, one after the other, and the answer of each stands in
 -- its place.
-use Rattle.std.specs.Prelude.{◌≡◌, List, [], ◌∷◌, ◌++◌, map, ℕ, ◌≤◌, length, get_or}
+use Rattle.std.specs.Prelude.{◌≡◌, List, ◌∷◌, ◌++◌, map, ℕ, ◌≤◌, length, get_or}
 use Rattle.record.specs.Datagram.{framed, framing_of}
 use Rattle.record.specs.declared.reader.Record.{Record}
 use Rattle.connection.specs.Told.{told_record}

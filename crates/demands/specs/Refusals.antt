@@ -27,7 +27,7 @@ use Rattle.connection.specs.declared.calls.Outcome.TheVariants as O
 use Rattle.connection.specs.declared.receive.Taken.{Taken}
 use Rattle.connection.specs.declared.receive.Taken.TheVariants as T
 use Rattle.connection.specs.declared.handshake.Handshake.{Handshake}
-use Rattle.demands.specs.Runs.{Call, receive, send_data, send_alert, close, start, Result, received, sent, called, Step, Gateway, step_of}
+use Rattle.demands.specs.Runs.{Call, receive, send_data, send_alert, close, start, Result, received, sent, called, Gateway, step_of}
 use Rattle.connection.specs.declared.sent.SentRecords.{SentRecords}
 
 -- the output that a call lends

@@ -2,7 +2,7 @@
 use Rattle.std.specs.Prelude.{◌≡◌, List, ℕ}
 use Rattle.record.specs.declared.reader.Record.{Record}
 use Rattle.connection.specs.Connection.{connection_of}
-use Rattle.connection.specs.Handshake.{with_state, with_window, none_started}
+use Rattle.connection.specs.Handshake.{with_state, none_started}
 use Rattle.connection.specs.Told.{told_record}
 use Rattle.connection.specs.declared.state.State.TheVariants.{Open}
 use Rattle.connection.specs.declared.answer.Answer.TheVariants as W

@@ -1,6 +1,6 @@
 -- What we send. 01: "After each new reply our data and protected alerts count on from 1, clear alerts from 2, each as
 -- a datagram of one record without a length." "Sending never passes 65,535."
-use Rattle.std.specs.Prelude.{◌≡◌, Bool, true, false, List, [], ℕ, ◌+◌, ◌≤◌, length, take, drop}
+use Rattle.std.specs.Prelude.{◌≡◌, Bool, true, false, List, [], ℕ, ◌≤◌, length, take, drop}
 use Rattle.digest.specs.Hmac.{hmac}
 use Rattle.digest.specs.Mac.{size_of}
 use Rattle.record.specs.Reader.{read_of}

@@ -1,29 +1,24 @@
 -- Small cases of demand 3 that are easy to get wrong. A genuine record refused 12 is accepted all the same; two
 -- records of one number in one datagram; a closing record in the midst of a datagram. Each from the Open connection
 -- of a worked handshake, with any acceptable hello.
-use Rattle.std.specs.Prelude.{◌≡◌, Bool, true, false, List, [], ◌∷◌, ◌++◌, ℕ, ◌≤◌, ◌<◌, length}
+use Rattle.std.specs.Prelude.{◌≡◌, true, false, List, [], ◌∷◌, ◌++◌, ℕ, ◌≤◌, ◌<◌, length}
 use Rattle.digest.specs.Hmac.{hmac}
 use Rattle.digest.specs.Mac.{size_of}
 use Rattle.record.specs.Code.{protected_by}
 use Rattle.record.specs.declared.header.Content.{Content}
 use Rattle.record.specs.declared.header.Content.TheVariants as C
-use Rattle.message.specs.Acceptance.{heard_of}
 use Rattle.message.specs.Alert.{alert_bytes}
-use Rattle.message.specs.declared.acceptance.Plan.{Plan}
-use Rattle.message.specs.declared.acceptance.Heard.TheVariants.{Accepted}
 use Rattle.message.specs.declared.alert.Description.{Description}
 use Rattle.message.specs.declared.alert.Level.TheVariants.{Critical}
 use Rattle.connection.specs.Receive.{slots_of}
 use Rattle.connection.specs.declared.state.State.TheVariants.{Open}
-use Rattle.connection.specs.declared.answer.Answer.{Answer}
 use Rattle.connection.specs.declared.answer.Answer.TheVariants as W
 use Rattle.connection.specs.declared.refusal.Refusal.TheVariants as X
 use Rattle.connection.specs.declared.connection.Connection.{Connection}
 use Rattle.connection.specs.declared.receive.Taken.TheVariants as T
-use Rattle.demands.specs.Runs.{receive, Result, received, Gateway}
+use Rattle.demands.specs.Runs.{receive, received, Gateway}
 use Rattle.record.specs.declared.keys.Keys.{Keys}
 use Rattle.demands.specs.Genuine.{unit_key, keys_of}
-use Rattle.record.specs.declared.window.Window.{Window}
 use Rattle.record.specs.Window.{Held}
 use Rattle.record.specs.History.{window_of}
 

@@ -1,13 +1,13 @@
 -- Demand 2: "Records, alerts, hellos, key changes and Finished are read and written exactly as WAP-261 WTLS of 6
 -- April 2001 defines them, within the stated profile." What is written is read back, and the well-formed hellos are
 -- exactly those that are written. The laws stand in the layers that own the definitions.
-use Rattle.std.specs.Prelude.{◌≡◌, ◌↔◌, Bool, true, false, List, [], ◌∷◌, ◌++◌, ℕ, ◌+◌, ◌<◌, length, take, drop, get_or}
+use Rattle.std.specs.Prelude.{◌≡◌, ◌↔◌, Bool, true, false, List, ◌++◌, ℕ, ◌+◌, ◌<◌, length, take, drop, get_or}
 use Rattle.digest.specs.Hmac.{hmac}
 use Rattle.digest.specs.Mac.{size_of}
 use Rattle.digest.specs.declared.mac.Mac.{Mac}
 use Rattle.record.specs.Reader.{read_of}
 use Rattle.record.specs.Written.{record_of, byte_for, header_size}
-use Rattle.record.specs.Code.{fragment_by, genuine_by, protected_by}
+use Rattle.record.specs.Code.{fragment_by, genuine_by}
 use Rattle.record.specs.declared.header.Content.{Content}
 use Rattle.record.specs.declared.reader.Record.{Record}
 use Rattle.record.specs.declared.reader.Reading.TheVariants as Q

@@ -1,28 +1,25 @@
 -- What the unit does with the shore's records, row by row: by the table, the protection's laws and what each content is.
-use mathlib.Core.Path.{◌≡◌, refl, sym, ◌∙◌, ap, ap₂}
+use mathlib.Core.Path.{◌≡◌, refl, ◌∙◌, ap, ap₂}
 use mathlib.Core.Logic.{◌⊎◌, inl, inr}
-use mathlib.Core.Bool.{Bool, true, false}
-use mathlib.Core.List.{List, [], ◌∷◌, ◌++◌}
-use Prim.Native.Nat.{ℕ, ◌+◌, ◌-◌, ◌≤◌, ◌<◌}
+use mathlib.Core.Bool.{true, false}
+use mathlib.Core.List.{List, [], ◌∷◌}
+use Prim.Native.Nat.{ℕ, ◌+◌, ◌≤◌}
 use native.Mathlib.Omega.{arith}
-use lib.ListN.{length, take, drop, get_or}
+use lib.ListN.{length, take, get_or}
 use lib.Seq.{take_at}
 use lib.Dec.{eqb, ltb}
 use borrow.Author.Tests.{eq-eqb, ne_eqb, le-ltb}
 use Rattle.digest.specs.Pick.{pick}
 use Rattle.digest.specs.Hmac.{hmac}
 use Rattle.digest.specs.Mac.{size_of}
-use Rattle.digest.specs.declared.mac.Mac.{Mac}
 use Rattle.record.specs.Keys.{secret_for}
 use Rattle.record.specs.Code.{code_by, fragment_by}
 use Rattle.record.specs.Window.{accept_of, emptied}
 use Rattle.record.specs.Protection.{opened_to, next_record, counted_on, output_by}
 use Rattle.record.specs.declared.protection.Writing.{Writing}
 use Rattle.record.proofs.Protecting.{record_under_length, wrote_when, output_when}
-use Rattle.record.specs.Datagram.{Framing, framed, framing_of}
-use Rattle.record.specs.declared.header.Content.{Content}
+use Rattle.record.specs.Datagram.{framed, framing_of}
 use Rattle.record.specs.declared.header.Content.TheVariants as C
-use Rattle.record.specs.declared.keys.Keys.{Keys}
 use Rattle.record.specs.declared.keys.Sense.TheVariants.{FromShore, FromUnit}
 use Rattle.record.specs.declared.window.Window.{Window}
 use Rattle.record.specs.declared.window.Acceptance.TheVariants as A
@@ -32,7 +29,7 @@ use Rattle.record.specs.declared.reader.Record.{Record}
 use Rattle.record.proofs.Protected.{CodedUnder, coded_opens}
 use Rattle.message.specs.Agreement.{agreement_of}
 use Rattle.message.specs.Change.{is_change, change_bytes}
-use Rattle.message.specs.Finished.{finished_of, judged_of}
+use Rattle.message.specs.Finished.{judged_of}
 use Rattle.message.specs.Request.{is_request}
 use Rattle.message.specs.declared.acceptance.Plan.{Plan}
 use Rattle.message.specs.declared.agreement.Agreement.TheVariants as G
@@ -59,12 +56,10 @@ use Rattle.unit.specs.declared.state.State.{State}
 use Rattle.unit.specs.declared.state.State.TheVariants as S
 use Rattle.unit.specs.declared.state.Kind.{Kind}
 use Rattle.unit.specs.declared.state.Kind.TheVariants as K
-use Rattle.unit.specs.declared.state.Rule.{Rule}
 use Rattle.unit.specs.declared.state.Rule.TheVariants as T
 use Rattle.unit.specs.declared.answer.Answer.{Answer}
 use Rattle.unit.specs.declared.answer.Answer.TheVariants as W
 use Rattle.unit.specs.declared.step.Move.TheVariants as M
-use Rattle.unit.specs.declared.step.Step.{Step}
 use Rattle.unit.specs.declared.agree.Judged.{Judged}
 use Rattle.unit.specs.declared.unit.Unit.{Unit as ShipsUnit}
 

@@ -1,9 +1,8 @@
 -- What the shore gives on a datagram and on a send, from the rows of the demands.
-use mathlib.Core.Path.{◌≡◌, refl, sym, ◌∙◌, ap, ap₂}
-use mathlib.Core.Bool.{Bool, true, false}
-use mathlib.Core.List.{List, [], ◌∷◌, ◌++◌}
-use Prim.Native.Nat.{ℕ, ◌+◌, ◌≤◌, ◌<◌}
-use native.Mathlib.Omega.{arith}
+use mathlib.Core.Path.{◌≡◌, ◌∙◌, ap, ap₂}
+use mathlib.Core.Bool.{true}
+use mathlib.Core.List.{List, []}
+use Prim.Native.Nat.{ℕ, ◌+◌, ◌≤◌}
 use lib.ListN.{length, take}
 use Rattle.digest.specs.Bytes.{laid_over}
 use Rattle.digest.specs.Mac.{size_of}
@@ -17,11 +16,10 @@ use Rattle.connection.specs.declared.answer.Slot.{Slot}
 use Rattle.connection.specs.declared.calls.Outcome.{Outcome}
 use Rattle.connection.specs.declared.calls.Outcome.TheVariants as O
 use Rattle.connection.specs.declared.connection.Connection.{Connection}
-use Rattle.connection.specs.declared.receive.Received.{Received}
 use Rattle.connection.specs.declared.receive.Taken.{Taken}
 use Rattle.connection.specs.declared.receive.Taken.TheVariants as T
 use Rattle.connection.specs.declared.state.State.TheVariants as S
-use Rattle.demands.specs.Runs.{Call, receive, send_data, Result, received, sent, called, Step, step_of}
+use Rattle.demands.specs.Runs.{Result, received, sent, called, Step, step_of}
 use Rattle.demands.specs.Calls.{Chain, GoodData, data_sent_lem}
 use Rattle.demands.proofs.Calls.{by_chain, call_is}
 use Rattle.demands.proofs.Refusals.{laid_front}

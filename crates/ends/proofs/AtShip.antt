@@ -1,23 +1,21 @@
 -- The ship on its two courses: what it takes goes along with demand 3, and what it sends is a record of its own number.
 use mathlib.Core.Path.{◌≡◌, refl, sym, ◌∙◌, ap, ap₂, subst}
-use mathlib.Core.Logic.{◌⊎◌, inl, inr, ◌≢◌}
+use mathlib.Core.Logic.{inl, inr}
 use mathlib.Core.Bool.{Bool, true, false}
 use mathlib.Core.List.{List, [], ◌∷◌, ◌++◌, map, append-nil, append_assoc}
-use Prim.Native.Nat.{ℕ, zero, suc, ◌+◌, ◌-◌, ◌≤◌, ◌<◌}
+use Prim.Native.Nat.{ℕ, zero, suc, ◌-◌, ◌≤◌}
 use native.Mathlib.Omega.{arith}
 use lib.ListN.{length, take, replicate}
 use lib.Dec.{eqb, ltb}
-use borrow.Author.Tests.{eq-eqb, ne_eqb, eqb-false, le-ltb, ltb-false}
+use borrow.Author.Tests.{eqb-false, le-ltb, ltb-false}
 use Rattle.digest.specs.Pick.{pick}
 use Rattle.digest.specs.Bytes.{laid_over}
-use Rattle.digest.specs.Mac.{size_of}
-use Rattle.record.specs.Datagram.{Framing, framed, faulty, framing_of}
-use Rattle.record.specs.Protection.{next_record, record_under, counted_on, writing, wrote_by, output_by}
+use Rattle.record.specs.Datagram.{framed, faulty, framing_of}
+use Rattle.record.specs.Protection.{next_record, counted_on, wrote_by, output_by}
 use Rattle.record.specs.declared.header.Content.{Content}
 use Rattle.record.specs.declared.header.Content.TheVariants as C
 use Rattle.record.specs.declared.keys.Keys.{Keys}
 use Rattle.record.specs.declared.keys.Sense.TheVariants.{FromUnit, FromShore}
-use Rattle.record.specs.declared.protection.Protection.{Protection}
 use Rattle.record.specs.declared.protection.Writing.{Writing}
 use Rattle.record.specs.declared.reader.Fault.{Fault}
 use Rattle.record.specs.declared.reader.Record.{Record}
@@ -33,7 +31,6 @@ use Rattle.message.specs.declared.alert.Sorted.TheVariants as D
 use Rattle.connection.specs.Answer.{handed_of}
 use Rattle.connection.specs.Send.{alert_body}
 use Rattle.connection.specs.Sent.{sum_of}
-use Rattle.connection.specs.declared.calls.Outcome.{Outcome}
 use Rattle.connection.specs.declared.calls.Outcome.TheVariants as O
 use Rattle.connection.specs.declared.receive.Taken.TheVariants as T
 use Rattle.connection.specs.declared.refusal.Refusal.{Refusal}
@@ -41,7 +38,7 @@ use Rattle.connection.specs.declared.refusal.Refusal.TheVariants as X
 use Rattle.unit.specs.Answer.{as_ashore, slot}
 use Rattle.unit.specs.Judge.{judged_record, kind_in}
 use Rattle.unit.specs.Receive.{end_of, answers_of, slots_of, received_of, whole_of, framed_to, run_of}
-use Rattle.unit.specs.Send.{may_protect, may_clear, unsent, done_with, sent_if, output_if, wrote_to, protected_sent, clear_sent, data_sent, data_output, alert_sent_by, alert_output_by, alert_sent_as, alert_sent, alert_output_as, alert_output}
+use Rattle.unit.specs.Send.{may_protect, may_clear, unsent, done_with, wrote_to, protected_sent, data_sent, data_output, alert_sent_by, alert_output_by, alert_sent_as, alert_sent, alert_output_as, alert_output}
 use Rattle.unit.specs.State.{rule_of, opened_rule}
 use Rattle.unit.specs.Unit.{with_sent}
 use Rattle.unit.specs.declared.agree.Judged.{Judged}
@@ -60,7 +57,7 @@ use Rattle.demands.specs.Course.{Course}
 use Rattle.demands.specs.Genuine.{RecordOf}
 use Rattle.demands.specs.Past.{is_data}
 use Rattle.demands.specs.Ship.Course.{Due, course_of}
-use Rattle.demands.specs.Ship.Events.{Event, took, after}
+use Rattle.demands.specs.Ship.Events.{took, after}
 use Rattle.demands.specs.Ship.Genuine.{Genuine}
 use Rattle.demands.specs.Ship.HandedOut.{Along}
 use Rattle.demands.specs.Ship.Table.{Row, Up, row_stays, row_shuts, row_hello, row_change, row_marked, row_opens, row_bars, some_data}
@@ -69,7 +66,6 @@ use Rattle.demands.proofs.Refusals.{laid_front}
 use Rattle.demands.proofs.Ship.HandedOut.{along_all, data_facts, due_exactly, due_handed}
 use Rattle.demands.proofs.Ship.Table.{row_of, row_is}
 use Rattle.ends.specs.Link.{GenuineFor, Handed, handed, number_in, handed_as, out_aboard}
-use Rattle.ends.proofs.Aboard as Calls
 use Rattle.ends.proofs.Courses.{DueFor, Taken, nothing, hands, passes, step_for, stays_shut}
 
 -- ---- what the answers of a datagram hand out

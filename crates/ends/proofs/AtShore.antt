@@ -1,20 +1,16 @@
 -- The shore on its two courses: what it takes goes along with demand 3, and what it sends is a record of its own number.
 use mathlib.Core.Path.{◌≡◌, refl, sym, ◌∙◌, ap, ap₂, subst}
-use mathlib.Core.Logic.{◌⊎◌, inl, inr, ◌≢◌}
 use mathlib.Core.Bool.{Bool, true, false}
 use mathlib.Core.List.{List, [], ◌∷◌, ◌++◌, map, append-nil, append_assoc}
-use Prim.Native.Nat.{ℕ, zero, suc, ◌+◌, ◌-◌, ◌≤◌, ◌<◌}
-use native.Mathlib.Omega.{arith}
+use Prim.Native.Nat.{ℕ, zero, suc, ◌+◌, ◌-◌, ◌≤◌}
 use lib.ListN.{length, take, replicate}
-use lib.Dec.{eqb, ltb}
 use borrow.Author.Tests.{eq-eqb, le-ltb}
 use Rattle.digest.specs.Pick.{pick}
 use Rattle.digest.specs.Mac.{size_of}
-use Rattle.record.specs.Datagram.{Framing, framed, faulty, framing_of}
-use Rattle.record.specs.Protection.{record_under}
+use Rattle.record.specs.Datagram.{framed, faulty, framing_of}
 use Rattle.record.specs.declared.header.Content.TheVariants as C
 use Rattle.record.specs.declared.keys.Keys.{Keys}
-use Rattle.record.specs.declared.keys.Sense.TheVariants.{FromUnit, FromShore}
+use Rattle.record.specs.declared.keys.Sense.TheVariants.{FromUnit}
 use Rattle.record.specs.declared.reader.Fault.{Fault}
 use Rattle.record.specs.declared.reader.Record.{Record}
 use Rattle.record.proofs.Histories.{decide}
@@ -24,7 +20,7 @@ use Rattle.message.specs.declared.alert.Graded.TheVariants as G
 use Rattle.message.specs.declared.alert.Level.{Level}
 use Rattle.connection.specs.Answer.{handed_of}
 use Rattle.connection.specs.Receive.{end_of, answers_of, slot, slots_of, received_of, whole_of, framed_to}
-use Rattle.connection.specs.Send.{data_sent, data_output, alert_sent, alert_output, next_protected, next_alert, sender_of, after_send, alert_body}
+use Rattle.connection.specs.Send.{data_sent, alert_sent, alert_output, next_protected, after_send, alert_body}
 use Rattle.connection.specs.Told.{told_record}
 use Rattle.connection.specs.declared.answer.Answer.{Answer}
 use Rattle.connection.specs.declared.answer.Answer.TheVariants as W
@@ -41,11 +37,11 @@ use Rattle.connection.specs.declared.refusal.Refusal.TheVariants as X
 use Rattle.connection.specs.declared.sent.SentRecords.{SentRecords}
 use Rattle.connection.specs.declared.state.State.TheVariants as S
 use Rattle.connection.specs.declared.told.Told.{Told}
-use Rattle.demands.specs.Acts.{Act, comes, acts_in, records_in, behind}
+use Rattle.demands.specs.Acts.{comes, acts_in, records_in, behind}
 use Rattle.demands.specs.Asked.{RightBeside}
-use Rattle.demands.specs.Calls.{CallRow, GoodData, GoodAlert, data_16, data_7, data_8, data_15, data_6, data_sent_lem, alert_16, alert_7, alert_8, alert_15, alert_6, alert_sent_lem}
-use Rattle.demands.specs.Course.{Course, with_record, course_of, Due}
-use Rattle.demands.specs.Genuine.{Genuine, RecordOf, keys_of}
+use Rattle.demands.specs.Calls.{CallRow, GoodData, data_16, data_7, data_8, data_15, data_6, data_sent_lem, alert_16, alert_7, alert_8, alert_15, alert_6, alert_sent_lem}
+use Rattle.demands.specs.Course.{Course, course_of, Due}
+use Rattle.demands.specs.Genuine.{Genuine, RecordOf}
 use Rattle.demands.specs.LeftOut.{Unreplaced}
 use Rattle.demands.specs.Past.{is_data}
 use Rattle.demands.specs.Runs as Runs
@@ -57,7 +53,6 @@ use Rattle.demands.proofs.Genuine.{true_false}
 use Rattle.demands.proofs.HandedOut.{Along, along_all, told_exactly, told_handed, data_facts}
 use Rattle.demands.proofs.LeftOut.{greets_not_open, clear_noise, told_open}
 use Rattle.demands.proofs.Lives.{data_asked}
-use Rattle.demands.proofs.Places.{behind_records}
 use Rattle.demands.proofs.Refusals.{laid_front}
 use Rattle.demands.proofs.Table.{row_of, row_is}
 use Rattle.ends.specs.Link.{GenuineFor, Handed, handed, number_in, handed_as, out_ashore}

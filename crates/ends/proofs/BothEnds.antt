@@ -1,17 +1,17 @@
 -- Both ends on one bad link. The idea: each call of either end is one step of each of the two courses; what an end takes goes along with
 -- its demand 3, what it sends is the next record of its own; and one course is the theorem of `Courses`, for either sense.
-use mathlib.Core.Path.{◌≡◌, refl, sym, ◌∙◌, ap, ap₂, subst}
-use mathlib.Core.Logic.{◌⊎◌, inl, inr, ◌≢◌}
-use mathlib.Core.Bool.{Bool, true, false}
-use mathlib.Core.List.{List, [], ◌∷◌, ◌++◌, map}
-use Prim.Native.Nat.{ℕ, ◌+◌, ◌≤◌, ◌<◌}
+use mathlib.Core.Path.{◌≡◌, refl, sym, ◌∙◌, ap, subst}
+use mathlib.Core.Logic.{◌⊎◌, inl, inr}
+use mathlib.Core.Bool.{true, false}
+use mathlib.Core.List.{List, [], ◌∷◌, ◌++◌}
+use Prim.Native.Nat.{ℕ, ◌+◌, ◌≤◌}
 use native.Mathlib.Omega.{arith}
 use lib.ListN.{length, take}
 use Rattle.digest.specs.Bytes.{word_at}
 use Rattle.record.specs.Checksum.{checksum_of}
 use Rattle.record.specs.Datagram.{Framing, framed, faulty, framing_of}
 use Rattle.record.specs.History.{accepted}
-use Rattle.record.specs.Protection.{record_under, next_record, counted_on}
+use Rattle.record.specs.Protection.{record_under, next_record}
 use Rattle.record.specs.Window.{Held}
 use Rattle.record.specs.declared.header.Content.{Content}
 use Rattle.record.specs.declared.header.Content.TheVariants as C
@@ -19,14 +19,10 @@ use Rattle.record.specs.declared.keys.Keys.{Keys}
 use Rattle.record.specs.declared.keys.Sense.{Sense}
 use Rattle.record.specs.declared.keys.Sense.TheVariants.{FromUnit, FromShore}
 use Rattle.record.specs.declared.reader.Record.{Record}
-use Rattle.message.specs.Alert.{level_of, alert_of, alert_bytes}
-use Rattle.message.specs.declared.alert.Level.{Level}
 use Rattle.message.specs.declared.alert.Level.TheVariants as L
 use Rattle.connection.specs.Calls.{started_in, session_of}
 use Rattle.connection.specs.Receive as Ashore
 use Rattle.connection.specs.Send as AshoreSends
-use Rattle.connection.specs.declared.calls.Outcome.{Outcome}
-use Rattle.connection.specs.declared.calls.Outcome.TheVariants as O
 use Rattle.connection.specs.declared.connection.Connection.{Connection}
 use Rattle.connection.specs.declared.handshake.Handshake.{Handshake}
 use Rattle.connection.specs.declared.send.Sent.{Sent as SentAshore}
@@ -35,15 +31,12 @@ use Rattle.unit.specs.Calls as AboardCalls
 use Rattle.unit.specs.Receive as Aboard
 use Rattle.unit.specs.Send as AboardSends
 use Rattle.unit.specs.declared.send.Sent.{Sent as SentAboard}
-use Rattle.unit.specs.declared.state.State.TheVariants as Z
 use Rattle.unit.specs.declared.unit.Unit.{Unit as ShipsUnit}
-use Rattle.demands.specs.Acts.{comes, sends as sending, alerts, starts, records_in, acts_in, behind}
-use Rattle.demands.specs.Course.{Course, content_shuts, alert_shuts, course_of}
-use Rattle.demands.specs.Events as Events
-use Rattle.demands.specs.Genuine.{keys_of}
+use Rattle.demands.specs.Acts.{sends as sending, alerts, records_in, acts_in, behind}
+use Rattle.demands.specs.Course.{Course, content_shuts, course_of}
 use Rattle.demands.specs.HandedOut.{past_of}
 use Rattle.demands.specs.LeftOut.{Unreplaced}
-use Rattle.demands.specs.Past.{keys_in, expected_in, accepted_in}
+use Rattle.demands.specs.Past.{expected_in, accepted_in}
 use Rattle.demands.specs.Runs as Shore
 use Rattle.demands.specs.Ship.Course.{HoldsNumbers, course_at}
 use Rattle.demands.specs.Ship.Course as ShipCourse
@@ -56,13 +49,13 @@ use Rattle.demands.proofs.HandedOut.{Along, along_all, along_run}
 use Rattle.demands.proofs.Lives.{clear_kept}
 use Rattle.demands.proofs.Ship.Changes.{again_same, hello-up}
 use Rattle.demands.proofs.Ship.HandedOut as ShipAlong
-use Rattle.ends.specs.Sides.{Ends, ends_of}
-use Rattle.ends.specs.Link.{GenuineFor, Doing, ashore, aboard, done_by, Report, Handed, Entry, sends, writes, takes, out_ashore, out_aboard, if_done, entries_of, trace_of, In, Linked, Delivered}
+use Rattle.ends.specs.Sides.{Ends}
+use Rattle.ends.specs.Link.{Doing, ashore, aboard, done_by, Report, Entry, sends, writes, takes, out_ashore, out_aboard, if_done, entries_of, trace_of, Linked}
 use Rattle.ends.specs.BothEnds.{Quiet, Begun, JustOpen, Warns, Keeps, AllKeep, NoneBeside, AllNoneBeside, Premises, StayOpen, Reported, BothEnds}
 use Rattle.ends.proofs.Ashore as AshoreLaws
 use Rattle.ends.proofs.AtShore as AtShore
 use Rattle.ends.proofs.AtShip as AtShip
-use Rattle.ends.proofs.Courses.{Holds, Fine, Single, Warned, Taken, Runs, done, delivered}
+use Rattle.ends.proofs.Courses.{Holds, Fine, Warned, Taken, Runs, done, delivered}
 use Rattle.ends.proofs.OnWire.{report_single, warning_written}
 use Rattle.ends.proofs.Onward.{Onward, idle, reports, warns, takes_in, loses}
 

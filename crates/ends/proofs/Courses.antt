@@ -5,9 +5,9 @@ use mathlib.Core.Path.{◌≡◌, refl, sym, ◌∙◌, ap, ap₂, subst}
 use mathlib.Core.Logic.{◌⊎◌, inl, inr, ◌≢◌}
 use mathlib.Core.Bool.{Bool, true, false}
 use mathlib.Core.List.{List, [], ◌∷◌, ◌++◌}
-use Prim.Native.Nat.{ℕ, zero, suc, ◌+◌, ◌-◌, ◌≤◌, ◌<◌}
+use Prim.Native.Nat.{ℕ, ◌+◌, ◌-◌, ◌≤◌, ◌<◌}
 use native.Mathlib.Omega.{arith}
-use lib.ListN.{length, take, drop, length-append}
+use lib.ListN.{length, take, length-append}
 use lib.Seq.{take_at}
 use lib.Dec.{eqb, leb}
 use borrow.Author.Tests.{eq-eqb, eqb-true, leb-false, lt-leb}
@@ -19,21 +19,21 @@ use Rattle.record.specs.Datagram.{Framing, framed, faulty, framing_of}
 use Rattle.record.specs.History.{accepted, highest_of}
 use Rattle.record.specs.Keys.{secret_for}
 use Rattle.record.specs.Protection.{genuine_under, content_under}
-use Rattle.record.specs.Window.{Held, too_old}
+use Rattle.record.specs.Window.{Held}
 use Rattle.record.specs.declared.header.Content.{Content}
 use Rattle.record.specs.declared.header.Content.TheVariants as C
 use Rattle.record.specs.declared.keys.Keys.{Keys}
 use Rattle.record.specs.declared.keys.Sense.{Sense}
 use Rattle.record.specs.declared.reader.Fault.{Fault}
 use Rattle.record.specs.declared.reader.Record.{Record}
-use Rattle.record.proofs.Histories.{decide, accepted_here, accepted_other, accepted_still, all_below, below_all, held_some}
+use Rattle.record.proofs.Histories.{decide, accepted_here, accepted_other, accepted_still, below_all, held_some}
 use Rattle.record.proofs.ProtectedBytes.{genuine_made, protected_genuine, protected_length}
 use Rattle.message.specs.Alert.{alert_of}
 use Rattle.connection.specs.Judge.{fragment_of}
 use Rattle.demands.specs.Genuine.{RecordOf}
 use Rattle.demands.specs.Course.{Course, is_new, alert_shuts, content_shuts}
 use Rattle.demands.proofs.Genuine.{true_false}
-use Rattle.ends.specs.Link.{GenuineFor, NoneFor, OtherFor, Report, Handed, handed, Entry, sends, writes, takes, In, SentAs, AllSentAs, Within, NewIn, with_all, Once, HandedIn, AllBelow, Arrives, Exactly, Delivered}
+use Rattle.ends.specs.Link.{GenuineFor, NoneFor, OtherFor, Report, Handed, handed, Entry, sends, writes, takes, In, SentAs, AllSentAs, Within, NewIn, with_all, Once, HandedIn, AllBelow, Arrives, Exactly}
 
 -- ---- small things
 

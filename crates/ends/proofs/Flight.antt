@@ -1,8 +1,8 @@
 -- The reply and the flight on the wire: three records and two, one behind the other, each read back as it was written.
-use mathlib.Core.Path.{◌≡◌, refl, sym, ◌∙◌, ap, ap₂}
-use mathlib.Core.Bool.{Bool, true, false}
+use mathlib.Core.Path.{◌≡◌, sym, ◌∙◌, ap}
+use mathlib.Core.Bool.{true, false}
 use mathlib.Core.List.{List, [], ◌∷◌, ◌++◌, append_assoc}
-use Prim.Native.Nat.{ℕ, ◌+◌, ◌-◌, ◌≤◌, ◌<◌}
+use Prim.Native.Nat.{ℕ, ◌+◌}
 use native.Mathlib.Omega.{arith}
 use lib.ListN.{length, take, drop, length-append}
 use Rattle.digest.specs.Mac.{size_of}
@@ -13,13 +13,11 @@ use Rattle.record.specs.Written.{record_of, byte_for}
 use Rattle.record.specs.Code.{fragment_by}
 use Rattle.record.specs.Protection.{record_under}
 use Rattle.record.specs.Datagram.{framed, after, placed_at, framing_from, framing_of}
-use Rattle.record.specs.declared.header.Content.{Content}
 use Rattle.record.specs.declared.header.Content.TheVariants as C
 use Rattle.record.specs.declared.keys.Keys.{Keys}
 use Rattle.record.specs.declared.keys.Sense.{Sense}
 use Rattle.record.specs.declared.reader.Record.{Record}
 use Rattle.record.specs.declared.reader.Reading.TheVariants as Q
-use Rattle.record.proofs.Fronts.{record_length}
 use Rattle.record.proofs.RoundTrip.{read_back, read_long, read_protected, fragment_back}
 use Rattle.record.proofs.ProtectedBytes.{size_most}
 use Rattle.record.proofs.Protecting.{record_under_length}

@@ -1,14 +1,13 @@
 -- Both hellos: what the unit writes of its offer the shore accepts, and what the shore answers the unit agrees to, with the same plan.
-use mathlib.Core.Path.{◌≡◌, refl, sym, ◌∙◌, ap, ap₂}
-use mathlib.Core.Bool.{Bool, true, false}
+use mathlib.Core.Path.{◌≡◌, refl, sym, ◌∙◌, ap}
+use mathlib.Core.Bool.{true}
 use mathlib.Core.List.{List, [], ◌∷◌, ◌++◌}
-use Prim.Native.Nat.{ℕ, ◌+◌, ◌%◌, ◌≤◌, ◌<◌}
+use Prim.Native.Nat.{ℕ, ◌%◌}
 use native.Mathlib.Omega.{arith}
-use lib.ListN.{length, take, drop, get_or}
+use lib.ListN.{length}
 use lib.Seq.{take_at, length-take-le}
-use lib.Dec.{eqb, leb, ltb}
+use lib.Dec.{leb}
 use borrow.Author.Tests.{eq-eqb, le-leb, le-ltb}
-use Rattle.digest.specs.Pick.{pick}
 use Rattle.digest.specs.Hmac.{hmac}
 use Rattle.digest.specs.Sha1.{sha1}
 use Rattle.digest.specs.Expansion.{prf, expansion, terms, chain}
@@ -17,15 +16,14 @@ use Rattle.digest.proofs.Codes.{length_hmac}
 use Rattle.digest.proofs.Same.{same_self}
 use Rattle.digest.specs.declared.mac.Mac.{Mac}
 use Rattle.digest.specs.declared.mac.Mac.TheVariants as M
-use Rattle.digest.specs.declared.mac.Listed.{Listed}
 use Rattle.digest.specs.declared.mac.Listed.TheVariants as L
 use Rattle.message.specs.Acceptance.{planned, heard_of}
-use Rattle.message.specs.Agreement.{chosen_of, settled_by, agreed_of, agreed_with, agreed_as, agreement_of}
+use Rattle.message.specs.Agreement.{chosen_of, agreed_of, agreed_with, agreed_as, agreement_of}
 use Rattle.message.specs.Entry.{list_bytes, list_allowed}
-use Rattle.message.specs.Finished.{server_verify, client_verify, server_label}
+use Rattle.message.specs.Finished.{server_verify, server_label}
 use Rattle.message.specs.Given.{offers_allowed}
 use Rattle.message.specs.Offer.{kinds_named, suites_of, offer_hello}
-use Rattle.message.specs.Said.{FirstPair, Accepts}
+use Rattle.message.specs.Said.{FirstPair}
 use Rattle.message.specs.Server.{server_hello_of}
 use Rattle.message.specs.ServerHello.{ServerValues, server_allowed}
 use Rattle.message.specs.Values.{Values, hello_of, fields_allowed, allowed}

@@ -1,39 +1,38 @@
 -- All in order. The idea: both hellos give one plan, so both ends hold the same keys and the same messages; each Finished is then what
 -- the other expects, and with number 0 it is the first that either window takes.
 use mathlib.Core.Path.{◌≡◌, refl, sym, ◌∙◌, ap, ap₂, subst}
-use mathlib.Core.Logic.{◌⊎◌, inl, inr}
+use mathlib.Core.Logic.{inl, inr}
 use mathlib.Core.Bool.{Bool, true, false}
 use mathlib.Core.List.{List, [], ◌∷◌, ◌++◌}
-use Prim.Native.Nat.{ℕ, zero, suc, ◌+◌, ◌-◌, ◌%◌, ◌^◌, ◌≤◌, ◌<◌}
+use Prim.Native.Nat.{ℕ, ◌-◌, ◌%◌, ◌^◌, ◌≤◌, ◌<◌}
 use native.Mathlib.Omega.{arith}
-use lib.ListN.{length, take, drop, get_or, replicate}
+use lib.ListN.{length, take, get_or, replicate}
 use lib.Seq.{take_at}
-use lib.Dec.{eqb, leb, ltb}
+use lib.Dec.{leb}
 use borrow.Author.Tests.{eq-eqb, ne_eqb, le-leb, le-ltb}
 use Rattle.digest.specs.Pick.{pick}
 use Rattle.digest.specs.Bytes.{laid_over}
 use Rattle.digest.specs.Hmac.{hmac}
 use Rattle.digest.specs.Mac.{size_of, server_expansion}
-use Rattle.record.specs.Keys.{key_number, mac_secret, secret_for}
-use Rattle.record.specs.Code.{fragment_by, protected_by}
+use Rattle.record.specs.Keys.{key_number, mac_secret}
+use Rattle.record.specs.Code.{protected_by}
 use Rattle.record.specs.History.{accepted, highest_of, window_of, arrived_of}
 use Rattle.record.specs.Protection.{record_under}
 use Rattle.record.specs.Window.{Held, accept_of, fresh_window, emptied}
-use Rattle.record.specs.Written.{record_of, written_of, byte_for}
+use Rattle.record.specs.Written.{written_of, byte_for}
 use Rattle.record.specs.Datagram.{framed, framing_of}
 use Rattle.record.specs.declared.header.Content.TheVariants as C
 use Rattle.record.specs.declared.keys.Keys.{Keys}
 use Rattle.record.specs.declared.keys.Sense.TheVariants.{FromUnit, FromShore}
 use Rattle.record.specs.declared.reader.Record.{Record}
-use Rattle.record.specs.declared.window.Window.{Window}
 use Rattle.record.specs.declared.window.Acceptance.TheVariants as A
 use Rattle.record.proofs.Fronts.{record_length}
-use Rattle.record.proofs.Histories.{decide, meaning, fresh_means, new_when}
+use Rattle.record.proofs.Histories.{meaning, fresh_means, new_when}
 use Rattle.record.proofs.RoundTrip.{read_back}
 use Rattle.record.proofs.Protected.{CodedUnder}
 use Rattle.message.specs.Acceptance.{heard_of}
-use Rattle.message.specs.Change.{change_bytes, is_change}
-use Rattle.message.specs.Finished.{server_verify, client_verify, finished_of, judged_of}
+use Rattle.message.specs.Change.{is_change}
+use Rattle.message.specs.Finished.{server_verify, finished_of, judged_of}
 use Rattle.message.specs.Offer.{kinds_named, offer_hello}
 use Rattle.message.specs.Request.{is_request}
 use Rattle.message.specs.Server.{server_hello_of}
@@ -42,7 +41,6 @@ use Rattle.message.specs.Agreement.{agreement_of}
 use Rattle.message.specs.declared.acceptance.Heard.TheVariants as H
 use Rattle.message.specs.declared.agreement.Agreement.TheVariants as G
 use Rattle.message.specs.declared.finished.Verified.TheVariants as F
-use Rattle.message.specs.declared.offer.Named.{Named}
 use Rattle.message.specs.declared.offer.Offer.{Offer}
 use Rattle.message.proofs.FinishedLaws.{finished_right, finished_size as fifteen}
 use Rattle.message.proofs.Replies.{length_server}
@@ -52,7 +50,7 @@ use Rattle.connection.specs.Connection.{connection_of}
 use Rattle.connection.specs.Handshake.{with_state, with_window, none_started}
 use Rattle.connection.specs.Judge.{fragment_of}
 use Rattle.connection.specs.Receive as Ashore
-use Rattle.connection.specs.Reply.{client_random, our_hello, our_finished, expected_of, hello_record, change_record, finished_record, flight_of, reply_to, pad_to, answered_with}
+use Rattle.connection.specs.Reply.{our_hello, our_finished, expected_of, hello_record, change_record, finished_record, flight_of, reply_to, pad_to, answered_with}
 use Rattle.connection.specs.Sent.{no_records, sum_of}
 use Rattle.connection.specs.Told.{sent_after}
 use Rattle.connection.specs.declared.answer.Answer.TheVariants as W
@@ -60,41 +58,38 @@ use Rattle.connection.specs.declared.calls.Outcome.TheVariants as O
 use Rattle.connection.specs.declared.connection.Connection.{Connection}
 use Rattle.connection.specs.declared.handshake.Handshake.{Handshake}
 use Rattle.connection.specs.declared.handshake.Session.{Session}
-use Rattle.connection.specs.declared.receive.Received.{Received}
 use Rattle.connection.specs.declared.receive.Taken.TheVariants as T
 use Rattle.connection.specs.declared.refusal.Refusal.TheVariants as X
 use Rattle.connection.specs.declared.sent.SentRecords.{SentRecords}
 use Rattle.connection.specs.declared.state.State.TheVariants as S
 use Rattle.connection.specs.declared.told.Told.{Told}
-use Rattle.unit.specs.Agree as Agree
-use Rattle.unit.specs.Agree.{hello_in, shore_verify, unit_verify, flight_bytes, agreed_keys, agreed_with}
+use Rattle.unit.specs.Agree.{shore_verify, unit_verify, flight_bytes, agreed_keys, agreed_with}
 use Rattle.unit.specs.Answer.{opens_to}
 use Rattle.unit.specs.Calls as AboardCalls
-use Rattle.unit.specs.Hello.{hello_datagram, offer_of, may_hello, greeted_with, hello_as, hello_sent, hello_output_as, hello_output}
+use Rattle.unit.specs.Hello.{hello_datagram, offer_of, greeted_with, hello_as, hello_sent, hello_output_as, hello_output}
 use Rattle.unit.specs.Protected.{flight_size}
 use Rattle.unit.specs.Receive as Aboard
 use Rattle.unit.specs.Send.{unsent, done_with}
 use Rattle.unit.specs.Unit as B
 use Rattle.unit.specs.declared.answer.Answer.TheVariants as Y
-use Rattle.unit.specs.declared.receive.Received.{Received as ReceivedAboard}
 use Rattle.unit.specs.declared.state.State.TheVariants as Z
 use Rattle.unit.specs.declared.unit.Unit.{Unit as ShipsUnit}
 use Rattle.unit.proofs.Greeting.{hello_size_lem, hello_most}
 use Rattle.demands.specs.Asked.{tells, asks_only, left_only, Tells}
-use Rattle.demands.specs.Calls.{Chain, chain_end, chain_more, fresh_done}
+use Rattle.demands.specs.Calls.{chain_end, chain_more, fresh_done}
 use Rattle.demands.specs.Genuine.{Protected, keys_of}
 use Rattle.demands.specs.Runs.{fresh_with, fresh_one}
 use Rattle.demands.specs.Seen.{seen_in}
-use Rattle.demands.specs.Table.{Row, New, row_reply, row_change, row_open, IsHello}
+use Rattle.demands.specs.Table.{Row, row_reply, row_change, row_open, IsHello}
 use Rattle.demands.proofs.Asked.{tells_is}
 use Rattle.demands.proofs.Calls.{fresh_row}
 use Rattle.demands.proofs.Refusals.{no_reply, laid_nothing}
 use Rattle.demands.proofs.Wire.{clear_framed, clear_fragment}
 use Rattle.demands.proofs.Works.{expected_size}
-use Rattle.ends.specs.Sides.{Ends, ends_of, Turn, ListedTurns, unit_turns, shore_turns, AllHanded}
-use Rattle.ends.specs.InOrder.{Kinds, Setting, ListedSetting, Rooms, ListedRooms, Met, InOrder}
-use Rattle.ends.proofs.Flight.{finished_at, change_first, flown, flown_size, flown_framed, flown_change, flown_finished, replied, hello_first, change_next, replied_size, replied_framed, replied_hello, replied_change, replied_finished}
-use Rattle.ends.proofs.Greeting.{offered_in, named, chosen, plan_for, hello_heard, hello_random, answer_agreed, answer_random, server_size}
+use Rattle.ends.specs.Sides.{ends_of}
+use Rattle.ends.specs.InOrder.{Setting, ListedSetting, Rooms, ListedRooms, Met, InOrder}
+use Rattle.ends.proofs.Flight.{finished_at, change_first, flown, flown_size, flown_framed, flown_change, flown_finished, replied, hello_first, change_next, replied_framed, replied_hello, replied_change, replied_finished}
+use Rattle.ends.proofs.Greeting.{offered_in, named, plan_for, hello_heard, hello_random, answer_agreed, answer_random, server_size}
 use Rattle.ends.proofs.Aboard as Ship
 use Rattle.ends.proofs.Aboard.{hello_taken, change_taken, finished_taken, chained_end, chained_more}
 use Rattle.ends.proofs.Ashore as Shore

@@ -1,14 +1,14 @@
 -- After the handshake of P7 both ends are just open: the shore in a run from fresh, the unit with a window that holds the number 0; the
 -- hello and the flight, and the reply, have no genuine record but the Finished, number 0.
-use mathlib.Core.Path.{◌≡◌, refl, sym, ◌∙◌, ap, ap₂, subst}
-use mathlib.Core.Logic.{◌⊎◌, inl, inr, ◌≢◌}
-use mathlib.Core.Bool.{Bool, true, false}
+use mathlib.Core.Path.{◌≡◌, refl, sym, ◌∙◌, ap, subst}
+use mathlib.Core.Logic.{◌⊎◌, inl, inr}
+use mathlib.Core.Bool.{true, false}
 use mathlib.Core.List.{List, [], ◌∷◌, ◌++◌}
-use Prim.Native.Nat.{ℕ, zero, suc, ◌+◌, ◌≤◌, ◌<◌}
+use Prim.Native.Nat.{ℕ, ◌<◌}
 use native.Mathlib.Omega.{arith}
 use lib.ListN.{length, length-append}
 use lib.Dec.{lit≤}
-use Rattle.record.specs.Datagram.{framed, framing_of}
+use Rattle.record.specs.Datagram.{framing_of}
 use Rattle.record.specs.History.{accepted, highest_of, window_of, judged_of}
 use Rattle.record.specs.Window.{Held, accept_of}
 use Rattle.record.specs.declared.header.Content.TheVariants as C
@@ -18,7 +18,7 @@ use Rattle.record.specs.declared.keys.Sense.TheVariants.{FromUnit, FromShore}
 use Rattle.record.specs.declared.reader.Record.{Record}
 use Rattle.record.specs.declared.window.Window.{Window}
 use Rattle.record.specs.declared.window.Acceptance.TheVariants as A
-use Rattle.record.proofs.Histories.{accepted_le, accepted_here, held_some, meaning, repeated_when, repeated_means}
+use Rattle.record.proofs.Histories.{accepted_le, accepted_here, meaning, repeated_when, repeated_means}
 use Rattle.digest.specs.Hmac.{hmac}
 use Rattle.digest.specs.Mac.{size_of, server_expansion}
 use Rattle.record.specs.Code.{protected_by}
@@ -35,17 +35,15 @@ use Rattle.unit.specs.Agree.{flight_bytes}
 use Rattle.connection.specs.declared.connection.Connection.{Connection}
 use Rattle.connection.specs.declared.receive.Received.{Received}
 use Rattle.connection.specs.declared.state.State.TheVariants as S
-use Rattle.demands.specs.Acts.{Act, SoundActs, acts_of, behind}
+use Rattle.demands.specs.Acts.{Act, acts_of, behind}
 use Rattle.demands.specs.Example.{example_out}
-use Rattle.demands.specs.Genuine.{RecordOf, keys_of}
+use Rattle.demands.specs.Genuine.{keys_of}
 use Rattle.demands.specs.HandedOut.{past_of}
 use Rattle.demands.specs.LeftOut.{Unreplaced}
 use Rattle.demands.specs.Past.{keys_in, expected_in, accepted_in}
 use Rattle.demands.specs.Course.{course_of}
-use Rattle.demands.specs.Runs as Shore
 use Rattle.demands.specs.Runs.{Call, receive, final_of, step_of, fresh_one}
 use Rattle.demands.specs.Ship.Course.{HoldsNumbers}
-use Rattle.demands.specs.Ship.Table.{Up}
 use Rattle.demands.proofs.Genuine.{true_false}
 use Rattle.demands.proofs.HandedOut.{Along, along_run}
 use Rattle.demands.proofs.Places.{run_behind, run_sound}

@@ -1,14 +1,13 @@
 -- Three premises are needed: behind the handshake, what a datagram that they exclude does to the shore.
-use mathlib.Core.Path.{◌≡◌, refl, sym, ◌∙◌, ap, ap₂, subst}
-use mathlib.Core.Logic.{◌⊎◌, inl, inr, ◌≢◌}
-use mathlib.Core.Bool.{Bool, true, false}
+use mathlib.Core.Path.{◌≡◌, refl, sym, ◌∙◌, ap, subst}
+use mathlib.Core.Logic.{inl, inr}
 use mathlib.Core.List.{List, [], ◌∷◌, ◌++◌}
-use Prim.Native.Nat.{ℕ, zero, suc, ◌+◌, ◌≤◌, ◌<◌}
+use Prim.Native.Nat.{ℕ, ◌+◌, ◌≤◌, ◌<◌}
 use native.Mathlib.Omega.{arith}
 use lib.ListN.{length}
 use Rattle.digest.specs.Mac.{size_of}
 use Rattle.record.specs.Datagram.{framed, framing_of}
-use Rattle.record.specs.History.{accepted, highest_of, window_of, arrived_of}
+use Rattle.record.specs.History.{highest_of, window_of, arrived_of}
 use Rattle.record.specs.Protection.{record_under}
 use Rattle.record.specs.Window.{Held, accept_of}
 use Rattle.record.specs.declared.header.Content.{Content}
@@ -17,23 +16,17 @@ use Rattle.record.specs.declared.keys.Keys.{Keys}
 use Rattle.record.specs.declared.keys.Sense.TheVariants.{FromUnit, FromShore}
 use Rattle.record.specs.declared.reader.Record.{Record}
 use Rattle.record.specs.declared.window.Window.{Window}
-use Rattle.record.specs.declared.window.Acceptance.TheVariants as A
 use Rattle.record.proofs.Histories.{meaning, old_when}
-use Rattle.message.specs.Alert.{alert_of, alert_bytes}
-use Rattle.message.specs.declared.alert.Alert.{Alert}
+use Rattle.message.specs.Alert.{alert_bytes}
 use Rattle.message.specs.declared.alert.Description.TheVariants as D
 use Rattle.message.specs.declared.alert.Level.TheVariants as L
-use Rattle.message.specs.declared.alert.Reading.TheVariants as R
 use Rattle.message.proofs.AlertLaws.{alert_back}
-use Rattle.connection.specs.Answer.{judged, part_at}
+use Rattle.connection.specs.Answer.{part_at}
 use Rattle.connection.specs.Connection.{connection_of}
 use Rattle.connection.specs.Handshake.{with_state, with_window, none_started}
 use Rattle.connection.specs.Receive as Ashore
-use Rattle.connection.specs.declared.answer.Answer.{Answer}
 use Rattle.connection.specs.declared.answer.Answer.TheVariants as W
-use Rattle.connection.specs.declared.answer.Judged.{Judged}
 use Rattle.connection.specs.declared.connection.Connection.{Connection}
-use Rattle.connection.specs.declared.handshake.Handshake.{Handshake}
 use Rattle.connection.specs.declared.receive.Received.{Received}
 use Rattle.connection.specs.declared.receive.Taken.TheVariants as T
 use Rattle.connection.specs.declared.refusal.Refusal.TheVariants as X
@@ -46,10 +39,10 @@ use Rattle.demands.specs.Acts.{acts_in, records_in}
 use Rattle.demands.specs.LeftOut.{Unreplaced}
 use Rattle.demands.specs.Runs as Shore
 use Rattle.demands.specs.Ship.Runs as ShipRuns
-use Rattle.demands.specs.Table.{Row, New, row_data, row_critical, row_old}
-use Rattle.ends.specs.Sides.{Ends, ends_of}
+use Rattle.demands.specs.Table.{New, row_data, row_critical, row_old}
+use Rattle.ends.specs.Sides.{ends_of}
 use Rattle.ends.specs.InOrder.{Setting, ListedSetting, Rooms, ListedRooms, Met}
-use Rattle.ends.specs.Link.{Doing, ashore, aboard, done_by, Report, Handed, handed, Entry, sends, takes, out_ashore, if_done, trace_of, Linked, AllSentAs, Within}
+use Rattle.ends.specs.Link.{aboard, done_by, Report, handed, sends, takes, out_ashore, if_done, trace_of, Linked, AllSentAs, Within}
 use Rattle.ends.specs.BothEnds.{Premises, StayOpen}
 use Rattle.ends.specs.Needed.{comes, unit_data, critical_alert, ListedData, ListedRoom, report_datagram, brought_twice, Needed, ThreeNeeded}
 use Rattle.ends.proofs.Aboard as Ship
@@ -59,7 +52,7 @@ use Rattle.ends.proofs.InOrder as P
 use Rattle.ends.proofs.JustOpen as J
 use Rattle.ends.proofs.OneMeeting.{same_hello, same_reply, same_flight, same_unit, same_shore}
 use Rattle.ends.proofs.OnWire.{lone, wired_framed, wired_genuine}
-use Rattle.ends.proofs.Reports.{Together, takes as takes-above, reported_part}
+use Rattle.ends.proofs.Reports.{takes as takes-above, reported_part}
 
 -- ---- an open shore and one protected record of the unit
 

@@ -1,12 +1,10 @@
 -- A protected record of either end as it is written: its datagram has this one record, genuine, and no other.
 use mathlib.Core.Path.{◌≡◌, refl, sym, ◌∙◌, ap, ap₂, subst}
-use mathlib.Core.Bool.{Bool, true, false}
+use mathlib.Core.Bool.{true, false}
 use mathlib.Core.List.{List, [], ◌∷◌, ◌++◌}
-use Prim.Native.Nat.{ℕ, ◌+◌, ◌≤◌, ◌<◌}
+use Prim.Native.Nat.{ℕ, ◌+◌, ◌≤◌}
 use native.Mathlib.Omega.{arith}
 use lib.ListN.{length}
-use lib.Dec.{eqb}
-use Rattle.digest.specs.Pick.{pick}
 use Rattle.digest.specs.Bytes.{word_at}
 use Rattle.digest.specs.Mac.{size_of}
 use Rattle.record.specs.Datagram.{framed, framing_of}
@@ -25,7 +23,7 @@ use Rattle.message.specs.declared.alert.Level.TheVariants as L
 use Rattle.message.proofs.AlertLaws.{level_back, description_back}
 use Rattle.demands.specs.Course.{alert_shuts}
 use Rattle.demands.proofs.Wire.{protected_framed, protected_fragment}
-use Rattle.ends.specs.Link.{GenuineFor, Report}
+use Rattle.ends.specs.Link.{GenuineFor}
 use Rattle.ends.proofs.Courses.{in_one, same_records, content_for, content_is, Single, Warned}
 
 module _ (k : Keys) (sense : Sense) (content : Content) (n : ℕ) (few : n ≤ 65535) (body : List ℕ) (most : length body ≤ 1300) where

@@ -1,13 +1,12 @@
 -- A handshake of a setting, in whatever rooms, goes one way: two that meet have the same ends and the same datagrams. The idea: each call
 -- is an equation, so what it leaves is the same if what it was given is; and what was written is the counted bytes at the front.
-use mathlib.Core.Path.{◌≡◌, refl, sym, ◌∙◌, ap, ap₂}
-use mathlib.Core.List.{List, [], ◌∷◌}
+use mathlib.Core.Path.{◌≡◌, sym, ◌∙◌, ap, ap₂}
+use mathlib.Core.List.{List}
 use Prim.Native.Nat.{ℕ}
 use lib.ListN.{length, take}
 use Rattle.digest.specs.Bytes.{laid_over}
 use Rattle.connection.specs.Receive as Ashore
 use Rattle.connection.specs.declared.calls.Called.{Called as CalledAshore}
-use Rattle.connection.specs.declared.connection.Connection.{Connection}
 use Rattle.connection.specs.declared.receive.Received.{Received as ReceivedAshore}
 use Rattle.unit.specs.Hello.{hello_sent, hello_output}
 use Rattle.unit.specs.Receive as Aboard
@@ -15,9 +14,8 @@ use Rattle.unit.specs.Send.{done_with}
 use Rattle.unit.specs.declared.calls.Called.{Called as CalledAboard}
 use Rattle.unit.specs.declared.receive.Received.{Received as ReceivedAboard}
 use Rattle.unit.specs.declared.send.Sent.{Sent as SentAboard}
-use Rattle.unit.specs.declared.unit.Unit.{Unit as ShipsUnit}
 use Rattle.demands.proofs.Refusals.{laid_front}
-use Rattle.ends.specs.InOrder.{Setting, ListedSetting, Rooms, ListedRooms, Met}
+use Rattle.ends.specs.InOrder.{Setting, Rooms, Met}
 
 -- what was laid at the front of the same room, as many bytes, is the same
 same_laid : (out a b : List ℕ) → length a ≡ length b → laid_over out 0 a ≡ laid_over out 0 b → a ≡ b

@@ -1,21 +1,18 @@
 -- Reports, in order: what one end sends the other hands out. The idea: the ends agree on the keys, each may talk, and all that either
 -- has accepted is below the number that the other sends next; a report keeps that.
 use mathlib.Core.Path.{◌≡◌, refl, sym, ◌∙◌, ap, ap₂, subst}
-use mathlib.Core.Logic.{◌⊎◌, inl, inr}
-use mathlib.Core.Bool.{Bool, true, false}
-use mathlib.Core.List.{List, [], ◌∷◌, ◌++◌, map}
-use Prim.Native.Nat.{ℕ, zero, suc, ◌+◌, ◌-◌, ◌≤◌, ◌<◌, max}
+use mathlib.Core.Logic.{inr}
+use mathlib.Core.Bool.{true, false}
+use mathlib.Core.List.{List, [], ◌∷◌}
+use Prim.Native.Nat.{ℕ, ◌+◌, ◌-◌, ◌≤◌, ◌<◌}
 use native.Mathlib.Omega.{arith}
-use lib.ListN.{length, take, drop, replicate}
-use lib.Dec.{leb}
+use lib.ListN.{length, take, drop}
 use borrow.Author.Tests.{le-leb}
 use Rattle.digest.specs.Pick.{pick}
-use Rattle.digest.specs.Hmac.{hmac}
 use Rattle.digest.specs.Mac.{size_of}
 use Rattle.record.specs.Keys.{secret_for}
-use Rattle.record.specs.Code.{fragment_by, protected_by}
-use Rattle.record.specs.History.{accepted, highest_of, window_of, arrived_of}
-use Rattle.record.specs.Protection.{record_under, next_record, counted_on}
+use Rattle.record.specs.History.{highest_of, window_of, arrived_of}
+use Rattle.record.specs.Protection.{record_under}
 use Rattle.record.specs.Window.{Held, accept_of}
 use Rattle.record.specs.Written.{byte_for}
 use Rattle.record.specs.Datagram.{framed, framing_of}
@@ -32,12 +29,12 @@ use Rattle.record.proofs.RoundTrip.{read_back}
 use Rattle.record.proofs.ProtectedBytes.{size_most}
 use Rattle.record.proofs.Protecting.{record_under_length}
 use Rattle.record.proofs.Protected.{CodedUnder, written_fragment, written_content}
-use Rattle.connection.specs.Answer.{handed_of, part_at, judged}
+use Rattle.connection.specs.Answer.{part_at}
 use Rattle.connection.specs.Connection.{connection_of}
 use Rattle.connection.specs.Handshake.{with_window}
 use Rattle.connection.specs.Judge.{fragment_of}
 use Rattle.connection.specs.Receive as Ashore
-use Rattle.connection.specs.Send.{next_protected, after_send}
+use Rattle.connection.specs.Send.{next_protected}
 use Rattle.connection.specs.declared.answer.Answer.TheVariants as W
 use Rattle.connection.specs.declared.connection.Connection.{Connection}
 use Rattle.connection.specs.declared.handshake.Handshake.{Handshake}
@@ -51,11 +48,11 @@ use Rattle.unit.specs.declared.answer.Answer.TheVariants as Y
 use Rattle.unit.specs.declared.state.State.TheVariants as Z
 use Rattle.unit.specs.declared.unit.Unit.{Unit as ShipsUnit}
 use Rattle.demands.specs.Asked.{RightBeside, tells, asks_protected, left_open}
-use Rattle.demands.specs.Calls.{Chain, chain_end, chain_more, GoodData}
-use Rattle.demands.specs.Genuine.{Protected, keys_of}
+use Rattle.demands.specs.Calls.{Chain, chain_end, chain_more}
+use Rattle.demands.specs.Genuine.{keys_of}
 use Rattle.demands.specs.Table.{New, row_data}
 use Rattle.demands.proofs.Wire.{protected_framed, protected_fragment}
-use Rattle.ends.specs.Sides.{Ends, ends_of, handed_ashore, handed_aboard, Turn, from_unit_lem, from_shore_lem, sent_aboard, sent_ashore, turned, send_of, handed_in, report_in, ListedTurn, ListedTurns, unit_turns, shore_turns, AllHanded}
+use Rattle.ends.specs.Sides.{Ends, ends_of, handed_ashore, handed_aboard, Turn, from_unit_lem, from_shore_lem, sent_aboard, sent_ashore, turned, send_of, handed_in, report_in, ListedTurns, unit_turns, shore_turns, AllHanded}
 use Rattle.ends.proofs.Aboard as Ship
 use Rattle.ends.proofs.Aboard.{Talks, data_taken, chained_end, chained_more}
 use Rattle.ends.proofs.Ashore as Shore

@@ -1,5 +1,5 @@
 -- 02, P14, "Both ends on one bad link": the statement.
-use Rattle.std.specs.Prelude.{◌≡◌, ◌⊎◌, ◌≢◌, Bool, true, false, List, [], ◌∷◌, ℕ, ◌≤◌, ◌<◌, length}
+use Rattle.std.specs.Prelude.{◌≡◌, ◌≢◌, true, false, List, [], ◌∷◌, ℕ, ◌≤◌, ◌<◌, length}
 use Rattle.record.specs.History.{accepted}
 use Rattle.record.specs.Window.{Held}
 use Rattle.record.specs.declared.header.Content.TheVariants as C

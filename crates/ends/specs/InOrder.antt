@@ -14,7 +14,7 @@ use Rattle.unit.specs.Receive as Aboard
 use Rattle.unit.specs.Send as AboardSends
 use Rattle.unit.specs.declared.answer.Answer.TheVariants as B
 use Rattle.unit.specs.declared.unit.Unit.{Unit as ShipsUnit}
-use Rattle.ends.specs.Sides.{Ends, ends_of, Turn, ListedTurns, unit_turns, shore_turns, AllHanded}
+use Rattle.ends.specs.Sides.{ends_of, Turn, ListedTurns, unit_turns, shore_turns, AllHanded}
 
 -- "one or both of" SHA_80, 2, and SHA, 3, in any order
 pub data Kinds : List ℕ → Type 0 where

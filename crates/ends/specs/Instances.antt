@@ -1,5 +1,5 @@
 -- No premise is empty: a setting that is as listed, with rooms, and a report each way.
-use Rattle.std.specs.Prelude.{List, [], ◌∷◌, ℕ, replicate}
+use Rattle.std.specs.Prelude.{List, [], ◌∷◌, replicate}
 use Rattle.digest.specs.declared.mac.Mac.{Mac}
 use Rattle.demands.specs.Example.{example_id, example_secret, example_random, example_out, example_data}
 use Rattle.ends.specs.Sides.{Turn, from_unit_lem, from_shore_lem, ListedTurns}

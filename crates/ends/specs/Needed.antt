@@ -5,7 +5,7 @@ use Rattle.digest.specs.Mac.{size_of}
 use Rattle.record.specs.Protection.{record_under}
 use Rattle.record.specs.declared.header.Content.TheVariants as C
 use Rattle.record.specs.declared.keys.Keys.{Keys}
-use Rattle.record.specs.declared.keys.Sense.TheVariants.{FromUnit, FromShore}
+use Rattle.record.specs.declared.keys.Sense.TheVariants.{FromUnit}
 use Rattle.message.specs.Alert.{alert_bytes}
 use Rattle.message.specs.declared.alert.Description.TheVariants as D
 use Rattle.message.specs.declared.alert.Level.TheVariants as L

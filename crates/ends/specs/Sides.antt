@@ -1,6 +1,6 @@
 -- Both ends (02, P7): what a call of either gives, by the definitions that its contract cites; and how a report goes from one to the
 -- other, where all arrives in order.
-use Rattle.std.specs.Prelude.{◌≡◌, List, [], ◌∷◌, ℕ, zero, suc, ◌+◌, ◌≤◌, length, take}
+use Rattle.std.specs.Prelude.{◌≡◌, List, [], ◌∷◌, ℕ, suc, ◌+◌, ◌≤◌, length, take}
 use Rattle.digest.specs.Mac.{size_of}
 use Rattle.digest.specs.Pick.{pick}
 use Rattle.digest.specs.declared.mac.Mac.{Mac}

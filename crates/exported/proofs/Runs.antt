@@ -1,9 +1,9 @@
 -- An exported call on bytes that hold c: the tests that come before layer 4's call are decided both ways; where it is made, its definition
 -- is that of the contract on c. A run is its calls, one after the other.
-use mathlib.Core.Path.{◌≡◌, refl, sym, ◌∙◌, ap, ap₂, subst}
+use mathlib.Core.Path.{◌≡◌, refl, sym, ◌∙◌, ap, subst}
 use mathlib.Core.Bool.{Bool, true, false}
 use mathlib.Core.List.{List, [], ◌∷◌, ◌++◌}
-use Prim.Native.Nat.{ℕ, zero, suc, ◌+◌, ◌≤◌, ◌<◌}
+use Prim.Native.Nat.{ℕ, zero, suc, ◌+◌, ◌<◌}
 use native.Mathlib.Omega.{arith}
 use lib.ListN.{length, get_or}
 use lib.Dec.{eqb}
@@ -27,11 +27,11 @@ use Rattle.connection.specs.declared.refusal.Refusal.{Refusal}
 use Rattle.connection.specs.declared.refusal.Refusal.TheVariants as X
 use Rattle.connection.specs.declared.send.Sent.{Sent}
 use Rattle.connection.specs.declared.tally.Tally.{Tally}
-use Rattle.lent.specs.Saved.{state_size, is_saved, saved_of, connection_in, Loaded, Is, No, loaded}
+use Rattle.lent.specs.Saved.{state_size, is_saved, saved_of, connection_in, Is, No, loaded}
 use Rattle.lent.specs.Counts.{tally_in, tally_bytes, TallyRanged}
 use Rattle.lent.specs.Report.{report_of}
-use Rattle.lent.specs.Calls.{result_of, not_taken, refusal_in, left_in, left_loaded, sense, lent_for, taken_result, where_taken, got}
-use Rattle.lent.specs.Calls.{fresh_state, fresh_loads, close_result, close_state, close_loads, start_result, start_state, start_loads}
+use Rattle.lent.specs.Calls.{result_of, not_taken, refusal_in, left_in, left_loaded, lent_for, taken_result, where_taken, got}
+use Rattle.lent.specs.Calls.{fresh_loads, close_result, close_state, close_loads, start_result, start_state, start_loads}
 use Rattle.lent.specs.Calls.{data_result, data_state, data_loads, data_out, alert_result, alert_state, alert_loads, alert_out}
 use Rattle.lent.specs.Calls.{receive_result, receive_state, receive_loads, receive_tally, receive_answers, receive_out}
 use Rattle.lent.proofs.TallyHolds.{tally_held}
@@ -42,7 +42,7 @@ use Rattle.demands.specs.Refusals.{NotDone, IsRefused, RefusedCallChangesNothing
 use Rattle.demands.specs.LeftOut.{tallied_in, tallied_by}
 use Rattle.demands.proofs.Calls.{call_of, fresh_holds}
 use Rattle.demands.proofs.Refusals.{refused_call}
-use Rattle.exported.specs.Runs.{Exported, receive, send_data, send_alert, close, start, result_after, state_after, loads_after, tally_after, out_after, answers_after, calls_in, number_of, answers_of, number_in, out_in, answers_in, lent_out, lent_answers, IsLayer4, EachIsLayer4, final_state, final_tally, calls_of, AllKept, AllLayer4, RunsAreLayer4, FreshIsLayer4, Refused16, SixteenFirst, ExportedHolds}
+use Rattle.exported.specs.Runs.{Exported, receive, send_data, send_alert, close, start, state_after, loads_after, tally_after, calls_in, number_of, answers_of, number_in, out_in, answers_in, IsLayer4, EachIsLayer4, final_state, final_tally, calls_of, RunsAreLayer4, FreshIsLayer4, Refused16, SixteenFirst, ExportedHolds}
 
 -- ---- bytes that hold c
 

@@ -1,7 +1,7 @@
 -- What C links: runs of the exported calls on lent bytes. Each call is the one of its name in layer 4, on the connection
 -- that the lent bytes hold, or is refused 16 before it and leaves every lent byte as it was. So a run of exported calls
 -- is a run of layer 4, and the three demands and the count, which are about layer 4's runs, hold of it.
-use Rattle.std.specs.Prelude.{◌≡◌, Bool, true, false, List, [], ◌∷◌, ◌++◌, ℕ, length}
+use Rattle.std.specs.Prelude.{◌≡◌, List, [], ◌∷◌, ◌++◌, ℕ, length}
 use Rattle.digest.specs.Pick.{pick}
 use Rattle.record.specs.Window.{Held}
 use Rattle.connection.specs.declared.connection.Connection.{Connection}

@@ -1,21 +1,20 @@
 -- What holds of every value: at most four references, eleven places, 1,400 bytes each; and of every step: a refusal other
 -- than 22 leaves the gathering, and every refusal leaves both buffers.
-use mathlib.Core.Path.{◌≡◌, refl, sym, ap, ◌∙◌}
+use mathlib.Core.Path.{◌≡◌, refl, ap}
 use mathlib.Core.Bool.{Bool, true, false}
-use mathlib.Core.List.{List, [], ◌∷◌, ◌++◌}
+use mathlib.Core.List.{List, [], ◌∷◌}
 use mathlib.Core.Logic.{by_cases}
 use Prim.Native.Nat.{ℕ, zero, suc, ◌+◌, ◌-◌, ◌*◌, ◌≤◌, ◌<◌}
 use native.Mathlib.Omega.{arith}
 use native.Mathlib.Decide.{dec_le, ℕ_discrete}
-use lib.ListN.{length, get_or, take, drop, length-take}
+use lib.ListN.{length, get_or, drop, length-take}
 use lib.Dec.{eqb, ltb, leb}
 use borrow.Author.Tests.{eq-eqb, ne_eqb, lt-ltb, le-ltb}
 use Rattle.digest.specs.Pick.{pick}
-use Rattle.digest.specs.Bytes.{laid_over}
 use Rattle.digest.specs.Mac.{same_bytes}
 use Rattle.gather.specs.Header.{heading_of}
 use Rattle.gather.specs.Slot.{free, begun, holds, count_of, below, sized}
-use Rattle.gather.specs.Gatherer.{slot_at, with_slot, held_at, vacant_at, lower, within, upper, Left, leaves, refusing, said, again_of, add_of, join_of, step_by, step_of, drop_of}
+use Rattle.gather.specs.Gatherer.{slot_at, with_slot, held_at, vacant_at, within, Left, leaves, said, again_of, add_of, join_of, step_by, step_of, drop_of}
 use Rattle.gather.specs.Map.{Entry, absent, held, Map, is_held, held_below, held_in, joined, places_of, room_of, look_up, slots_of, map_of}
 use Rattle.gather.specs.declared.slot.Slot.{Slot}
 use Rattle.gather.specs.declared.header.Ports.{Ports}

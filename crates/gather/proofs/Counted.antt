@@ -3,16 +3,16 @@ use mathlib.Core.Path.{◌≡◌, refl, sym, ap, ◌∙◌}
 use mathlib.Core.Bool.{Bool, true, false}
 use mathlib.Core.List.{List, [], ◌∷◌}
 use mathlib.Core.Logic.{by_cases}
-use Prim.Native.Nat.{ℕ, zero, suc, ◌+◌, ◌-◌, ◌*◌, ◌≤◌, ◌<◌}
+use Prim.Native.Nat.{ℕ, zero, suc, ◌+◌, ◌≤◌, ◌<◌}
 use native.Mathlib.Omega.{arith}
 use native.Mathlib.Decide.{dec_le, ℕ_discrete}
 use lib.ListN.{length, get_or}
 use lib.Dec.{eqb}
-use borrow.Author.Tests.{eq-eqb, ne_eqb, eqb-true}
+use borrow.Author.Tests.{eq-eqb, eqb-true}
 use Rattle.digest.specs.Pick.{pick}
 use Rattle.gather.specs.Slot.{free, holds}
 use Rattle.gather.specs.Gatherer.{slot_at, vacant_at}
-use Rattle.gather.specs.Map.{Entry, absent, held, Map, is_held, held_below, held_in, places_of, room_of, look_up, slots_of, map_of, Fits, Sound}
+use Rattle.gather.specs.Map.{Entry, held, Map, is_held, held_below, held_in, places_of, room_of, look_up, slots_of, map_of, Sound}
 use Rattle.gather.specs.declared.slot.Slot.{Slot}
 use Rattle.gather.specs.declared.gatherer.Gatherer.{Gatherer}
 use Rattle.gather.proofs.Always.{hot, hot_no, hot_yes, hot_once, holds_no, one_slot, none_held, few}

@@ -4,16 +4,14 @@ use mathlib.Core.Path.{◌≡◌, refl, sym, ap, ◌∙◌}
 use mathlib.Core.List.{List, [], ◌∷◌, ◌++◌, append_assoc}
 use Prim.Native.Nat.{ℕ, zero, suc, ◌+◌, ◌-◌, ◌*◌, ◌≤◌, ◌<◌}
 use native.Mathlib.Omega.{arith}
-use native.Mathlib.Nat.{zero-add, add-zero}
-use lib.ListN.{length, get_or, take, drop, set, length-append, length-drop, take-append-drop}
+use native.Mathlib.Nat.{add-zero}
+use lib.ListN.{length, get_or, take, drop, set, length-append, take-append-drop}
 use lib.Seq.{take-add, take-take, drop-drop, take_at, drop_at, length-take-le, take-append-le, drop-append-le, take_all}
-use borrow.Author.Tests.{le-ltb}
-use Rattle.digest.specs.Pick.{pick}
 use Rattle.digest.specs.Bytes.{laid_over}
 use Rattle.digest.proofs.Lay.{laid_front}
 use Rattle.gather.specs.Slot.{together, sum_of, below, sized}
 use Rattle.gather.specs.Gatherer.{lower, upper}
-use Rattle.gather.specs.Map.{Part, missing, there, have, joined, places_of, room_of}
+use Rattle.gather.specs.Map.{there, joined, places_of, room_of}
 use Rattle.gather.specs.declared.slot.Slot.{Slot}
 use Rattle.gather.proofs.Sums.{together_mono, all_there}
 use Rattle.gather.proofs.Laying.{length_cut}

@@ -8,8 +8,7 @@ use lib.ListN.{length, get_or, take, drop}
 use lib.Dec.{eqb, ltb}
 use borrow.Author.Tests.{ltb-false, eqb-false, eq-eqb, ne_eqb, le-ltb, lt-ltb}
 use Rattle.digest.specs.Pick.{pick}
-use Rattle.digest.proofs.Picks.{pick_yes}
-use Rattle.gather.specs.Header.{pair_at, with_ports, with_place, element_of, placed_of, judged_of, heading_by, heading_of, walked_of}
+use Rattle.gather.specs.Header.{pair_at, with_ports, element_of, placed_of, judged_of, heading_by, heading_of, walked_of}
 use Rattle.gather.specs.declared.header.Ports.{Ports}
 use Rattle.gather.specs.declared.header.Place.{Place}
 use Rattle.gather.specs.declared.header.Noted.{Noted}

@@ -1,5 +1,5 @@
 -- The bytes of a slot: where its parts stand in the store, a part put between them, and all of them joined.
-use mathlib.Core.Path.{◌≡◌, refl, sym, ap, ◌∙◌}
+use mathlib.Core.Path.{◌≡◌, sym, ap, ◌∙◌}
 use mathlib.Core.Bool.{Bool, true, false}
 use mathlib.Core.List.{List, ◌++◌}
 use Prim.Native.Nat.{ℕ, ◌+◌, ◌-◌, ◌*◌, ◌≤◌, ◌<◌}
@@ -8,7 +8,6 @@ use native.Mathlib.Nat.{add-zero}
 use lib.ListN.{length, take, drop}
 use Rattle.digest.specs.Bytes.{laid_over, laid_within}
 use Rattle.digest.specs.Mac.{same_bytes}
-use Rattle.digest.specs.Pick.{pick}
 use Rattle.digest.proofs.Lay.{length_laid}
 use Rattle.gather.specs.Slot.{below, count_of}
 use Rattle.gather.specs.Gatherer.{lower, within, upper, again_of, refusing}

@@ -1,9 +1,8 @@
 -- The laws of bytes moved up and laid between others.
 use mathlib.Core.Path.{◌≡◌, refl, sym, ap, ◌∙◌}
 use mathlib.Core.List.{List, [], ◌∷◌, ◌++◌, append_assoc, append-nil}
-use Prim.Native.Nat.{ℕ, zero, suc, ◌+◌, ◌-◌, ◌*◌, ◌≤◌, ◌<◌}
+use Prim.Native.Nat.{ℕ, suc, ◌+◌, ◌-◌, ◌≤◌, ◌<◌}
 use native.Mathlib.Omega.{arith}
-use native.Mathlib.Numerals.{add-one}
 use native.Mathlib.Nat.{zero-add, add-zero}
 use lib.ListN.{length, get_or, take, drop, set, length-append, length-drop, length-set, take-append-drop}
 use lib.Seq.{take-suc, drop-cons, set_at, take_at, drop_at, take-take, take-append-le, drop-append-le, get_or-take, length-take-le, take-add, drop-drop}

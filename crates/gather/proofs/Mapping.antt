@@ -8,16 +8,15 @@ use native.Mathlib.Omega.{arith}
 use native.Mathlib.Decide.{dec_le, ℕ_discrete}
 use lib.ListN.{length, get_or, take, drop, set, length-append, length-drop}
 use lib.Seq.{drop-drop, drop-append-le, take-append-le, drop-append-add, length-take-le}
-use lib.Dec.{eqb, ltb, leb}
+use lib.Dec.{eqb, ltb}
 use borrow.Author.Tests.{eq-eqb, ne_eqb, eqb-true, eqb-false}
 use Rattle.digest.specs.Pick.{pick}
 use Rattle.digest.specs.Bytes.{laid_over}
-use Rattle.gather.specs.Slot.{free, begun, holds}
+use Rattle.gather.specs.Slot.{free, holds}
 use Rattle.gather.specs.Gatherer.{slot_at, with_slot, held_at, vacant_at}
-use Rattle.gather.specs.Map.{Entry, absent, held, Map, with, is_held, held_below, held_in, places_of, room_of, look_up, slots_of, map_of, Fits, Sound}
+use Rattle.gather.specs.Map.{Entry, absent, held, with, places_of, room_of, look_up, slots_of, map_of}
 use Rattle.gather.specs.declared.slot.Slot.{Slot}
 use Rattle.gather.specs.declared.gatherer.Gatherer.{Gatherer}
-use Rattle.gather.proofs.Always.{hot, hot_no, hot_yes, holds_no}
 use Rattle.gather.proofs.Finishing.{cut_of_front}
 
 -- ---- which slot holds a reference

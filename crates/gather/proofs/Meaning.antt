@@ -6,23 +6,20 @@ use mathlib.Core.List.{List, [], ◌∷◌, ◌++◌}
 use mathlib.Core.Logic.{by_cases}
 use Prim.Native.Nat.{ℕ, zero, suc, ◌+◌, ◌-◌, ◌*◌, ◌≤◌, ◌<◌}
 use native.Mathlib.Omega.{arith}
-use native.Mathlib.Decide.{dec_le, ℕ_discrete}
-use lib.ListN.{length, get_or, take, drop, set, replicate, length-append}
+use native.Mathlib.Decide.{dec_le}
+use lib.ListN.{length, get_or, take, set, length-append}
 use lib.Seq.{length-take-le}
-use lib.Dec.{eqb, ltb, leb}
-use borrow.Author.Tests.{eq-eqb, ne_eqb, lt-ltb, le-ltb, le-leb, lt-leb, eqb-true, eqb-false}
+use lib.Dec.{eqb}
+use borrow.Author.Tests.{eq-eqb, lt-ltb, le-ltb, le-leb, lt-leb}
 use Rattle.digest.specs.Pick.{pick}
 use Rattle.digest.specs.Bytes.{laid_over}
-use Rattle.digest.specs.Mac.{same_bytes}
-use Rattle.gather.specs.Header.{heading_of}
-use Rattle.gather.specs.Slot.{free, begun, holds, count_of, sum_of, below, sized}
-use Rattle.gather.specs.Gatherer.{slot_at, with_slot, held_at, vacant_at, lower, within, upper, Left, leaves, refusing, said, again_of, add_of}
-use Rattle.gather.specs.Map.{Part, missing, there, Entry, absent, held, Map, with, is_held, held_below, held_in, have, joined, is_there, bytes_of, Said, refused, waiting, received, gathered, Next, put, placed, joins, message_by, places_of, room_of, look_up, slots_of, map_of, said_of, Fits, Sound}
+use Rattle.gather.specs.Slot.{free, holds, count_of, sum_of, below, sized}
+use Rattle.gather.specs.Gatherer.{slot_at, with_slot, lower, upper, Left, add_of}
+use Rattle.gather.specs.Map.{Part, missing, there, absent, held, Map, with, have, joined, is_there, bytes_of, refused, waiting, gathered, Next, put, places_of, room_of, map_of, said_of, Fits}
 use Rattle.gather.specs.declared.slot.Slot.{Slot}
 use Rattle.gather.specs.declared.header.Ports.{Ports}
 use Rattle.gather.specs.declared.refusal.Refusal.TheVariants as R
 use Rattle.gather.specs.declared.gatherer.Gatherer.{Gatherer}
-use Rattle.gather.specs.declared.gatherer.Answer.TheVariants.{Refused, Waiting, Received, Gathered}
 use Rattle.gather.proofs.Always.{holds_no}
 use Rattle.gather.proofs.Places.{as_many, have_places, joined_places, place_missing}
 use Rattle.gather.proofs.Steps.{add_long, add_finished, add_waiting}

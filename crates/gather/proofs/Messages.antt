@@ -1,21 +1,21 @@
 -- A step of a sound gatherer is the step of the map: `step_means`.
 use mathlib.Core.Path.{◌≡◌, refl, sym, ap, ◌∙◌, subst}
 use mathlib.Core.Bool.{Bool, true, false}
-use mathlib.Core.List.{List, [], ◌∷◌, ◌++◌}
+use mathlib.Core.List.{List}
 use mathlib.Core.Logic.{by_cases}
 use Prim.Native.Nat.{ℕ, zero, suc, ◌+◌, ◌-◌, ◌*◌, ◌≤◌, ◌<◌}
 use native.Mathlib.Omega.{arith}
 use native.Mathlib.Decide.{dec_le, ℕ_discrete}
-use lib.ListN.{length, get_or, take, drop, set, replicate}
+use lib.ListN.{length, get_or, take, drop, replicate}
 use lib.Seq.{drop-drop}
-use lib.Dec.{eqb, ltb, leb}
-use borrow.Author.Tests.{eq-eqb, ne_eqb, lt-ltb, le-ltb, le-leb, lt-leb, eqb-true, eqb-false}
+use lib.Dec.{eqb}
+use borrow.Author.Tests.{eq-eqb, ne_eqb, lt-ltb, le-ltb, le-leb, lt-leb}
 use Rattle.digest.specs.Pick.{pick}
 use Rattle.digest.specs.Mac.{same_bytes}
 use Rattle.gather.specs.Header.{heading_of}
-use Rattle.gather.specs.Slot.{free, begun, holds, count_of, sum_of, below, sized, together}
-use Rattle.gather.specs.Gatherer.{slot_at, with_slot, held_at, vacant_at, within, Left, leaves, refusing, said, again_of, add_of, join_of, step_by, step_of}
-use Rattle.gather.specs.Map.{Part, missing, there, Entry, absent, held, Map, held_in, have, joined, refused, waiting, received, Next, put, placed, joins, message_by, message_of, places_of, room_of, map_of, Fits, Sound, Bytes}
+use Rattle.gather.specs.Slot.{begun, holds, sum_of, below, together}
+use Rattle.gather.specs.Gatherer.{slot_at, held_at, vacant_at, within, again_of, add_of, join_of, step_by, step_of}
+use Rattle.gather.specs.Map.{Part, missing, there, Entry, absent, held, held_in, have, refused, waiting, placed, joins, message_by, message_of, places_of, room_of, map_of, Fits, Sound, Bytes}
 use Rattle.gather.specs.declared.slot.Slot.{Slot}
 use Rattle.gather.specs.declared.header.Ports.{Ports}
 use Rattle.gather.specs.declared.header.Place.{Place}
@@ -23,9 +23,8 @@ use Rattle.gather.specs.declared.header.Heading.{Heading}
 use Rattle.gather.specs.declared.header.Heading.TheVariants as H
 use Rattle.gather.specs.declared.refusal.Refusal.TheVariants as R
 use Rattle.gather.specs.declared.gatherer.Gatherer.{Gatherer}
-use Rattle.gather.specs.declared.gatherer.Answer.TheVariants.{Refused, Waiting, Received}
 use Rattle.gather.proofs.Always.{holds_no}
-use Rattle.gather.proofs.Headings.{Within, part_within}
+use Rattle.gather.proofs.Headings.{part_within}
 use Rattle.gather.proofs.References.{reference_byte}
 use Rattle.gather.proofs.Places.{have_places, place_missing, place_there}
 use Rattle.gather.proofs.Sums.{together_more, together_mono, all_there}

@@ -4,11 +4,10 @@ use mathlib.Core.Path.{◌≡◌, refl, sym, ap, ◌∙◌}
 use mathlib.Core.List.{List, [], ◌∷◌, ◌++◌, append_assoc}
 use Prim.Native.Nat.{ℕ, zero, suc, ◌+◌, ◌-◌, ◌≤◌, ◌<◌}
 use native.Mathlib.Omega.{arith}
-use native.Mathlib.Nat.{zero-add}
 use lib.ListN.{length, get_or, take, drop, set, length-append, length-drop, take-append-drop}
-use lib.Seq.{take-add, drop-drop, take-append-le, drop-append-le, take_at, drop_at, length-take-le, take_all}
+use lib.Seq.{take-add, drop-drop, take-append-le, drop-append-le, take_at, drop_at}
 use borrow.Author.Tests.{ne_eqb}
-use Rattle.gather.specs.Slot.{together, count_of, sum_of, held_in}
+use Rattle.gather.specs.Slot.{together, count_of, sum_of}
 use Rattle.gather.specs.Map.{Part, missing, there, have, joined, places_of}
 
 -- as many places as sizes

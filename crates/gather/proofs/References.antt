@@ -1,15 +1,11 @@
 -- The reference that a header of bytes names is a byte.
-use mathlib.Core.Path.{◌≡◌, refl, sym, ap, ◌∙◌}
-use mathlib.Core.Bool.{Bool, true, false}
+use mathlib.Core.Path.{◌≡◌, refl}
 use mathlib.Core.List.{List, [], ◌∷◌}
-use mathlib.Core.Logic.{by_cases}
-use Prim.Native.Nat.{ℕ, zero, suc, ◌+◌, ◌-◌, ◌≤◌, ◌<◌}
+use Prim.Native.Nat.{ℕ, zero, suc, ◌+◌, ◌-◌, ◌<◌}
 use native.Mathlib.Omega.{arith}
-use native.Mathlib.Decide.{dec_le, ℕ_discrete}
 use lib.ListN.{length, get_or, take, drop}
 use lib.Dec.{eqb, ltb}
-use Rattle.digest.specs.Pick.{pick}
-use Rattle.gather.specs.Header.{nothing, with_ports, with_place, element_of, onward, elements_from, walked_of, placed_of, judged_of, heading_by, heading_of}
+use Rattle.gather.specs.Header.{nothing, element_of, onward, elements_from, walked_of, placed_of, judged_of, heading_by, heading_of}
 use Rattle.gather.specs.Map.{Bytes}
 use Rattle.gather.proofs.Always.{either_way}
 use Rattle.gather.specs.declared.header.Ports.{Ports}

@@ -2,22 +2,22 @@
 -- gatherer means its map (`Messages.step_means`).
 use mathlib.Core.Path.{◌≡◌, refl, sym, ap, ◌∙◌, subst}
 use mathlib.Core.Bool.{Bool, true, false}
-use mathlib.Core.List.{List, [], ◌∷◌, ◌++◌}
+use mathlib.Core.List.{List, ◌++◌}
 use mathlib.Core.Logic.{by_cases}
-use Prim.Native.Nat.{ℕ, zero, suc, ◌+◌, ◌-◌, ◌*◌, ◌≤◌, ◌<◌}
+use Prim.Native.Nat.{ℕ, ◌+◌, ◌-◌, ◌*◌, ◌≤◌, ◌<◌}
 use native.Mathlib.Omega.{arith}
 use native.Mathlib.Decide.{dec_le, ℕ_discrete}
-use lib.ListN.{length, get_or, take, drop, set, replicate, length-set}
+use lib.ListN.{length, get_or, take, drop, set, length-set}
 use lib.Seq.{get_or-set_same, get_or-set_other}
-use lib.Dec.{eqb, ltb, leb}
-use borrow.Author.Tests.{eq-eqb, ne_eqb, lt-ltb, le-ltb, eqb-true}
+use lib.Dec.{eqb, ltb}
+use borrow.Author.Tests.{eq-eqb, ne_eqb, lt-ltb, le-ltb}
 use Rattle.digest.specs.Pick.{pick}
 use Rattle.digest.specs.Bytes.{laid_over}
 use Rattle.digest.specs.Mac.{same_bytes}
 use Rattle.gather.specs.Header.{heading_of}
 use Rattle.gather.specs.Slot.{free, begun, holds, count_of, sum_of, below, sized}
-use Rattle.gather.specs.Gatherer.{fresh_of, slot_at, with_slot, held_at, vacant_at, lower, within, upper, Left, leaves, refusing, said, again_of, add_of, join_of, step_by, step_of, drop_of}
-use Rattle.gather.specs.Map.{Entry, absent, Map, with, slots_of, map_of, Fits, Sound, Bytes}
+use Rattle.gather.specs.Gatherer.{fresh_of, slot_at, with_slot, held_at, vacant_at, lower, within, upper, Left, again_of, add_of, join_of, step_by, step_of, drop_of}
+use Rattle.gather.specs.Map.{absent, with, slots_of, map_of, Fits, Sound, Bytes}
 use Rattle.gather.specs.declared.slot.Slot.{Slot}
 use Rattle.gather.specs.declared.header.Ports.{Ports}
 use Rattle.gather.specs.declared.header.Place.{Place}
@@ -26,7 +26,7 @@ use Rattle.gather.specs.declared.header.Heading.TheVariants as H
 use Rattle.gather.specs.declared.gatherer.Gatherer.{Gatherer}
 use Rattle.gather.specs.declared.gatherer.Step.{Step}
 use Rattle.gather.proofs.Always.{holds_no, either_way}
-use Rattle.gather.proofs.Headings.{part_within, not_first}
+use Rattle.gather.proofs.Headings.{part_within}
 use Rattle.gather.proofs.References.{reference_byte}
 use Rattle.gather.proofs.Sums.{all_there}
 use Rattle.gather.proofs.Steps.{add_again, add_long, add_finished, add_waiting}

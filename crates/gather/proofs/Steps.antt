@@ -1,5 +1,5 @@
 -- The ways through a step, each as an equation with the definition: the tests on the way, and what the calls gave.
-use mathlib.Core.Path.{◌≡◌, refl, sym, ap, ◌∙◌}
+use mathlib.Core.Path.{◌≡◌, sym, ap, ◌∙◌}
 use mathlib.Core.List.{List, ◌++◌}
 use Prim.Native.Nat.{ℕ, ◌+◌, ◌-◌, ◌*◌, ◌≤◌, ◌<◌}
 use lib.ListN.{length, get_or, take, drop}
@@ -15,7 +15,7 @@ use Rattle.gather.specs.declared.header.Heading.{Heading}
 use Rattle.gather.specs.declared.header.Heading.TheVariants as H
 use Rattle.gather.specs.declared.refusal.Refusal.TheVariants as R
 use Rattle.gather.specs.declared.gatherer.Gatherer.{Gatherer}
-use Rattle.gather.specs.declared.gatherer.Answer.TheVariants.{Refused, Waiting, Received, Gathered}
+use Rattle.gather.specs.declared.gatherer.Answer.TheVariants.{Refused, Waiting, Gathered}
 use Rattle.gather.specs.declared.gatherer.Step.{Step}
 use Rattle.gather.proofs.Laying.{rest_of}
 

@@ -5,9 +5,8 @@ use Prim.Native.Nat.{ℕ, zero, suc, ◌+◌, ◌-◌, ◌*◌, ◌≤◌, ◌<�
 use native.Mathlib.Omega.{arith}
 use native.Mathlib.Numerals.{add-one}
 use lib.ListN.{length, get_or, take}
-use lib.Seq.{take_all}
 use Rattle.digest.proofs.Picks.{picks}
-use Rattle.gather.specs.Slot.{together, count_of, sum_of, held_in, below}
+use Rattle.gather.specs.Slot.{together, sum_of, below}
 use Rattle.gather.specs.declared.slot.Slot.{Slot}
 
 together_suc : (f : ℕ → ℕ) (s : List ℕ) (i : ℕ) → i < length s → together f (take (suc i) s) ≡ together f (take i s) + f (get_or s i 0)

@@ -1,6 +1,6 @@
 -- The walk over a header's elements. The idea: the answer for the whole header is the answer for what is left of it, from
 -- what is noted so far on; one more element moves both one on (`go_on`), and each way out of the loop ends it.
-use mathlib.Core.Path.{◌≡◌, refl, sym, ap, ◌∙◌}
+use mathlib.Core.Path.{◌≡◌, sym, ap, ◌∙◌}
 use mathlib.Core.List.{List}
 use Prim.Native.Nat.{ℕ, zero, suc, ◌+◌, ◌-◌, ◌≤◌, ◌<◌}
 use native.Mathlib.Omega.{arith}

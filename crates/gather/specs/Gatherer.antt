@@ -1,6 +1,6 @@
 -- The gatherer's calls, exactly: numbers by value, and the bytes of the store and of the assembly buffer.
 -- What they mean for a map from references to totals and places is in Map.antt.
-use Rattle.std.specs.Prelude.{Bool, true, false, List, [], ◌∷◌, ◌++◌, ℕ, zero, suc, ◌+◌, ◌-◌, ◌*◌, length, get_or, take, drop, set, replicate, eqb, ltb, leb}
+use Rattle.std.specs.Prelude.{Bool, List, [], ◌++◌, ℕ, ◌+◌, ◌-◌, ◌*◌, length, get_or, take, drop, eqb, ltb, leb}
 use Rattle.digest.specs.Pick.{pick}
 use Rattle.digest.specs.Bytes.{laid_over}
 use Rattle.digest.specs.Mac.{same_bytes}

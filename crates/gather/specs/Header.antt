@@ -1,6 +1,6 @@
 -- The user data header of a short message (GSM 03.40, 9.2.3.24; 02, P2: "port addressing with 16-bit ports, and
 -- concatenation (8-bit reference, total, place); other elements are skipped, of two alike the last counts").
-use Rattle.std.specs.Prelude.{Bool, true, false, List, ℕ, zero, suc, ◌+◌, ◌-◌, ◌*◌, length, get_or, take, drop, eqb, ltb}
+use Rattle.std.specs.Prelude.{true, false, List, ℕ, zero, suc, ◌+◌, ◌-◌, ◌*◌, length, get_or, take, drop, eqb, ltb}
 use Rattle.digest.specs.Pick.{pick}
 use Rattle.gather.specs.declared.header.Ports.{Ports}
 use Rattle.gather.specs.declared.header.Place.{Place}

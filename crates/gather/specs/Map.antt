@@ -1,12 +1,11 @@
 -- What the gatherer means: a map from references to totals and places (02, P2), and one message's step over it.
-use Rattle.std.specs.Prelude.{Bool, true, false, List, [], ◌∷◌, ◌++◌, ◌≡◌, ℕ, zero, suc, ◌+◌, ◌-◌, ◌*◌, ◌≤◌, ◌<◌, length, get_or, take, drop, set, replicate, eqb, ltb, leb}
+use Rattle.std.specs.Prelude.{true, List, [], ◌∷◌, ◌++◌, ◌≡◌, ℕ, zero, suc, ◌+◌, ◌-◌, ◌*◌, ◌≤◌, ◌<◌, length, get_or, take, drop, set, replicate, eqb, ltb, leb}
 use Rattle.digest.specs.Pick.{pick}
 use Rattle.digest.specs.Mac.{same_bytes}
 use Rattle.gather.specs.Header.{heading_of}
 use Rattle.gather.specs.Slot.{holds, sum_of}
 use Rattle.gather.specs.Gatherer.{slot_at}
 use Rattle.gather.specs.declared.slot.Slot.{Slot}
-use Rattle.gather.specs.declared.header.Ports.{Ports}
 use Rattle.gather.specs.declared.header.Place.{Place}
 use Rattle.gather.specs.declared.header.Heading.{Heading}
 use Rattle.gather.specs.declared.header.Heading.TheVariants as H

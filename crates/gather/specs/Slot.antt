@@ -1,5 +1,5 @@
 -- One reference that is being gathered, as the gatherer keeps it: numbers, with the bytes in the store.
-use Rattle.std.specs.Prelude.{Bool, true, false, List, [], ◌∷◌, ℕ, zero, suc, ◌+◌, ◌-◌, ◌*◌, length, get_or, take, drop, set, replicate, eqb, ltb}
+use Rattle.std.specs.Prelude.{Bool, false, List, [], ◌∷◌, ℕ, ◌+◌, ◌-◌, take, set, replicate, eqb, ltb}
 use Rattle.digest.specs.Pick.{pick}
 use Rattle.gather.specs.declared.slot.Slot.{Slot}
 

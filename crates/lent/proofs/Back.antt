@@ -6,7 +6,7 @@ use mathlib.Core.List.{List, [], ◌∷◌, ◌++◌}
 use Prim.Native.Nat.{ℕ, zero, suc, ◌+◌, ◌*◌, ◌≤◌, ◌<◌}
 use native.Mathlib.Omega.{arith}
 use lib.ListN.{length, take, drop, get_or, length-append, get_or-eq_default}
-use lib.Seq.{take_at, drop_at, take-add, take-take, drop-drop, take_all, get_or-take, get_or-drop, length-take-le}
+use lib.Seq.{take_at, drop_at, take-add, take-take, drop-drop, take_all, get_or-take, get_or-drop}
 use lib.Dec.{eqb, ltb}
 use borrow.Author.Tests.{eqb-true, eq-eqb, ltb-true, ltb-false}
 use Rattle.digest.specs.Pick.{pick}

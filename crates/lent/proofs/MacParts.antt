@@ -3,17 +3,15 @@ use mathlib.Core.Path.{◌≡◌, refl, sym, ◌∙◌, ap}
 use mathlib.Core.Bool.{Bool, true, false}
 use mathlib.Core.Logic.{◌⊎◌, inl, inr}
 use mathlib.Core.List.{List}
-use Prim.Native.Nat.{ℕ, ◌+◌, ◌*◌, ◌/◌, ◌%◌, ◌<◌, ◌≤◌}
+use Prim.Native.Nat.{ℕ, ◌<◌, ◌≤◌}
 use native.Mathlib.Omega.{arith}
 use lib.ListN.{length}
-use lib.Dec.{eqb, ltb}
+use lib.Dec.{ltb}
 use borrow.Author.Tests.{le-ltb}
 use Rattle.digest.specs.Pick.{pick}
-use Rattle.digest.proofs.Picks.{pick_yes, pick_no}
+use Rattle.digest.proofs.Picks.{pick_no}
 use Rattle.digest.proofs.Editions.{unknown_edition, unlisted_above}
-use Rattle.digest.specs.Edition.{named_in, nameless}
-use Rattle.digest.specs.declared.edition.Sizes.TheVariants.{Shown, Unshown}
-use Rattle.digest.specs.declared.edition.Listing.TheVariants.{Listed, Unlisted, UnknownEdition}
+use Rattle.digest.specs.declared.edition.Sizes.TheVariants.{Shown}
 use Rattle.lent.specs.Calls.{result_of, not_taken}
 use Rattle.lent.specs.Macs.{sizes_count, key_part, code_part, named_result, named_out, mac_result, mac_out}
 

@@ -21,7 +21,6 @@ use Rattle.connection.specs.Receive.{received_of, output_of, framed_to, sent_of,
 use Rattle.connection.specs.Send.{data_sent, data_output, data_outcome, alert_sent, alert_output, alert_sent_as, alert_output_as, alert_outcome, alert_body, next_alert, sender_of, sent_to, output_to, done, next_protected, after_send}
 use Rattle.connection.specs.Tally.{counted_of}
 use Rattle.connection.specs.declared.refusal.Refusal.TheVariants.{Room, Argument}
-use Rattle.connection.specs.declared.handshake.Handshake.{Handshake}
 use Rattle.connection.specs.declared.connection.Connection.{Connection}
 use Rattle.connection.specs.declared.calls.Called.{Called}
 use Rattle.connection.specs.declared.calls.Outcome.{Outcome}

@@ -3,7 +3,7 @@
 use mathlib.Core.Path.{◌≡◌, refl, sym, ◌∙◌, ap, subst}
 use mathlib.Core.Bool.{Bool, true, false}
 use mathlib.Core.List.{List, [], ◌∷◌}
-use Prim.Native.Nat.{ℕ, zero, suc, ◌+◌, ◌-◌, ◌≤◌}
+use Prim.Native.Nat.{ℕ, zero, suc, ◌+◌, ◌≤◌}
 use native.Mathlib.Omega.{arith}
 use lib.ListN.{length, take, drop, length-drop, length-replicate}
 use lib.Dec.{eqb, ltb}
@@ -40,7 +40,7 @@ use Rattle.message.specs.declared.alert.Sorted.{Sorted}
 use Rattle.message.specs.declared.alert.Sorted.TheVariants as D
 use Rattle.message.specs.declared.finished.Verified.{Verified}
 use Rattle.message.specs.declared.finished.Verified.TheVariants as Fin
-use Rattle.connection.specs.Handshake.{with_state, with_window, planted, nothing_kept, newcomer_to}
+use Rattle.connection.specs.Handshake.{with_state, with_window, planted, nothing_kept}
 use Rattle.connection.specs.Sent.{matches_of}
 use Rattle.connection.specs.Asked.{whom_of, asked_of}
 use Rattle.connection.specs.Told.{judged_in, told_record, kept_by}

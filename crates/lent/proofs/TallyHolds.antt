@@ -1,14 +1,14 @@
 -- The tally in its bytes: each count is spelled by four bytes at its own place, and four bytes spell one count.
-use mathlib.Core.Path.{◌≡◌, sym, ◌∙◌, ap}
+use mathlib.Core.Path.{◌≡◌, ◌∙◌}
 use mathlib.Core.List.{List, [], ◌∷◌}
-use Prim.Native.Nat.{ℕ, ◌+◌, ◌<◌}
+use Prim.Native.Nat.{ℕ}
 use native.Mathlib.Omega.{arith}
 use lib.ListN.{length}
 use lib.Seq.{take_all}
-use Rattle.digest.specs.Bytes.{bytes4, word_at}
+use Rattle.digest.specs.Bytes.{word_at}
 use Rattle.message.proofs.AlertLaws.{word_back}
 use Rattle.connection.specs.declared.tally.Tally.{Tally}
-use Rattle.lent.specs.Fields.{joined, bytes_in}
+use Rattle.lent.specs.Fields.{joined}
 use Rattle.lent.specs.Saved.{Bytes}
 use Rattle.lent.specs.Counts.{tally_bytes, tally_in, TallyRanged, TallyHeld}
 use Rattle.lent.proofs.Numbers.{four_there, word_below}

@@ -1,8 +1,8 @@
 -- Saving and loading a gatherer are one another's inverse.
 use mathlib.Core.Path.{◌≡◌, refl, sym, ◌∙◌, ap, ap₂, subst}
 use mathlib.Core.Bool.{Bool, true, false}
-use mathlib.Core.List.{List, [], ◌∷◌, ◌++◌, append-nil, append_assoc}
-use Prim.Native.Nat.{ℕ, ◌+◌, ◌≤◌, ◌<◌}
+use mathlib.Core.List.{List, [], ◌∷◌, ◌++◌, append_assoc}
+use Prim.Native.Nat.{ℕ, ◌+◌}
 use native.Mathlib.Omega.{arith}
 use lib.ListN.{length, take, drop, length-append, take-append-drop}
 use lib.Seq.{drop_at, drop-drop}
@@ -13,12 +13,12 @@ use Rattle.digest.specs.Mac.{same_bytes}
 use Rattle.digest.proofs.Same.{same_equal}
 use Rattle.gather.specs.declared.slot.Slot.{Slot}
 use Rattle.gather.specs.declared.gatherer.Gatherer.{Gatherer}
-use Rattle.lent.specs.Fields.{joined, bytes_in}
+use Rattle.lent.specs.Fields.{joined}
 use Rattle.lent.specs.Saved.{Bytes}
 use Rattle.lent.proofs.Calling.{both_true}
 use Rattle.lent.proofs.Back.{cuts, total, cut_joined}
 use Rattle.lent.proofs.Laying.{joined_size, joined_none}
-use Rattle.lentshort.specs.Saved.{gatherer_size, store_at, mark, slot_bytes, head_fields, saved_gatherer, is_gatherer, slot_in, gatherer_in, store_in, Loaded, Is, No, loaded_gatherer, SlotRanged, Ranged}
+use Rattle.lentshort.specs.Saved.{gatherer_size, store_at, mark, slot_bytes, head_fields, saved_gatherer, is_gatherer, slot_in, gatherer_in, store_in, Is, No, loaded_gatherer, SlotRanged, Ranged}
 use Rattle.lentshort.proofs.Spelling.{slot_back, slot_size, slot_there, slot_ranged}
 
 -- ---- loading what was saved

@@ -1,5 +1,5 @@
 -- The ways through the calls, each as an equation with the definition: the tests on the way, and what the calls gave.
-use mathlib.Core.Path.{◌≡◌, refl, sym, ◌∙◌, ap, ap₂}
+use mathlib.Core.Path.{◌≡◌, refl, sym, ◌∙◌, ap}
 use mathlib.Core.Bool.{Bool, true, false}
 use mathlib.Core.List.{List}
 use Prim.Native.Nat.{ℕ, ◌+◌, ◌*◌, ◌≤◌, ◌<◌}
@@ -21,8 +21,8 @@ use Rattle.gather.specs.declared.gatherer.Gatherer.{Gatherer}
 use Rattle.lentshort.specs.Calls.{empty_result, empty_bytes, empty_loads, drop_result, drop_bytes, drop_loads, holding, held_result}
 use Rattle.lentshort.specs.Saved.{gatherer_size, saved_gatherer, is_gatherer, slot_in, gatherer_in, store_in, Is, loaded_gatherer}
 use Rattle.lentshort.specs.Said.{said_size, saying_of}
-use Rattle.lentshort.specs.Gathered.{lent_to_gather, gatherer_after, gatherer_then, unshown_number, Keeps, keeps, kept, gather_keeps, gather_loads}
-use Rattle.lentshort.specs.Message.{lent_to, Heard, hears, heard_of, heard_loads, Leaves, leaves, made, shown, message_leaves, connection_loads, gatherer_loads}
+use Rattle.lentshort.specs.Gathered.{lent_to_gather, gatherer_after, gatherer_then, unshown_number, keeps, gather_keeps, gather_loads}
+use Rattle.lentshort.specs.Message.{lent_to, hears, heard_of, heard_loads, Leaves, leaves, message_leaves, connection_loads, gatherer_loads}
 use Rattle.lentshort.proofs.Back.{gatherer_size_lem}
 
 -- what was lent to a gathering, and to a message, has its sizes

@@ -1,6 +1,6 @@
 -- Two outcomes that meet the contract of one call are the same: a theorem for each call, over the very predicate of its `ensures`
 -- (`Determined`, in `digest`, says what is stated). `message` is one equation for its answer and for the seven lent buffers.
-use mathlib.Core.Path.{◌≡◌, refl, sym, ◌∙◌, ap}
+use mathlib.Core.Path.{refl, sym, ◌∙◌, ap}
 use Rattle.digest.specs.Determined.{OneOutcome}
 use Rattle.lentshort.specs.Gathered.{Keeps}
 use Rattle.lentshort.specs.Message.{Leaves}

@@ -1,6 +1,6 @@
 -- What the code lays into lent bytes: a gatherer before its store, and what is said of a message.
 use mathlib.Core.Path.{◌≡◌, refl, sym, ◌∙◌, ap}
-use mathlib.Core.Bool.{Bool, true, false}
+use mathlib.Core.Bool.{Bool, false}
 use mathlib.Core.List.{List, [], ◌∷◌, ◌++◌, append-nil}
 use Prim.Native.Nat.{ℕ, ◌+◌, ◌-◌, ◌≤◌}
 use native.Mathlib.Omega.{arith}
@@ -12,7 +12,7 @@ use Rattle.connection.proofs.Filling.{within}
 use Rattle.gather.specs.declared.gatherer.Gatherer.{Gatherer}
 use Rattle.lent.specs.Fields.{joined}
 use Rattle.lent.proofs.Laying.{Laid, laid_none, laid_more, laid_block, joined_one}
-use Rattle.lentshort.specs.Saved.{gatherer_size, store_at, mark, slot_bytes, head_fields, saved_gatherer, is_gatherer, store_in, Is, loaded_gatherer, SlotRanged, Ranged}
+use Rattle.lentshort.specs.Saved.{gatherer_size, store_at, mark, slot_bytes, head_fields, saved_gatherer, is_gatherer, store_in, Is, loaded_gatherer, Ranged}
 use Rattle.lentshort.proofs.Spelling.{slot_size}
 use Rattle.lentshort.proofs.Back.{head_size, saved_loads}
 

@@ -5,9 +5,9 @@ use Prim.Native.Nat.{ℕ, zero, suc, ◌+◌, ◌*◌, ◌/◌, ◌%◌, ◌≤�
 use native.Mathlib.Omega.{arith}
 use native.Mathlib.Nat.{add-zero}
 use native.Mathlib.Numerals.{add-one}
-use lib.ListN.{length, take, drop, get_or, length-append, drop_of_length-le}
+use lib.ListN.{length, take, drop, get_or, drop_of_length-le}
 use lib.Seq.{get_or-drop, drop-drop, drop-cons, take-add}
-use Rattle.digest.specs.Bytes.{bytes2, laid_over, laid_within}
+use Rattle.digest.specs.Bytes.{laid_over, laid_within}
 use Rattle.connection.proofs.Filling.{within}
 use Rattle.gather.specs.declared.slot.Slot.{Slot}
 use Rattle.lent.specs.Fields.{bytes_in, two_in}

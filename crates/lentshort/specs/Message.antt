@@ -1,6 +1,6 @@
 -- A short message taken on lent bytes (02, P2): what the gatherer that the bytes hold makes of it, by `short`'s own definition, and
 -- then `lent`'s receive on the datagram that it shows.
-use Rattle.std.specs.Prelude.{Bool, true, false, List, ℕ, length}
+use Rattle.std.specs.Prelude.{Bool, false, List, ℕ, length}
 use Rattle.digest.specs.Pick.{pick}
 use Rattle.gather.specs.Gatherer.{Left, datagram_of}
 use Rattle.gather.specs.declared.gatherer.Answer.{Answer}

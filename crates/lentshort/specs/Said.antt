@@ -8,7 +8,7 @@
 --         4      2  the destination port
 --         6      2  the originator port
 --         8      2  where in the message the datagram begins; or how many bytes of the assembly buffer it is; else 0
-use Rattle.std.specs.Prelude.{List, [], ◌∷◌, ◌++◌, ℕ, ◌%◌}
+use Rattle.std.specs.Prelude.{List, ◌∷◌, ◌++◌, ℕ, ◌%◌}
 use Rattle.digest.specs.Bytes.{bytes2}
 use Rattle.gather.specs.declared.header.Ports.{Ports}
 use Rattle.gather.specs.declared.gatherer.Answer.{Answer}

@@ -14,7 +14,7 @@
 --         0      1  the reference
 --         1      1  the total; 0: the slot is free
 --         2     22  the sizes of the eleven places, two bytes each: 0 where the part has not come, else its bytes and one more
-use Rattle.std.specs.Prelude.{Bool, true, false, List, [], ◌∷◌, ◌++◌, ◌≡◌, ℕ, zero, suc, ◌+◌, ◌<◌, length, get_or, take, drop, eqb}
+use Rattle.std.specs.Prelude.{Bool, false, List, [], ◌∷◌, ◌++◌, ◌≡◌, ℕ, zero, suc, ◌+◌, ◌<◌, length, get_or, take, drop, eqb}
 use Rattle.digest.specs.Pick.{pick}
 use Rattle.digest.specs.Bytes.{bytes2}
 use Rattle.digest.specs.Mac.{same_bytes}

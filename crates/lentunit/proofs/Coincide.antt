@@ -1,7 +1,7 @@
 -- Two outcomes that meet the contract of one call are the same: a theorem for each call, over the very predicate of its `ensures`
 -- (`Determined`, in `digest`, says what is stated). `exact` is an equation for the result; each other clause but `loads`, which is
 -- not needed, is one for a lent buffer, in its place among the parameters.
-use mathlib.Core.Path.{◌≡◌, refl, sym, ◌∙◌}
+use mathlib.Core.Path.{refl, sym, ◌∙◌}
 use Rattle.digest.specs.Determined.{OneOutcome}
 use Rattle.lentunit.proofs.fresh as fresh
 use Rattle.lentunit.specs.contracts.fresh as fresh-contract

@@ -1,6 +1,6 @@
 -- The exported calls: each is a call of the unit on the unit that the lent bytes hold. "16: argument out of range" is stretched to
 -- bytes that are no saved unit, and to a tally or answers of another size. A refused call leaves every lent byte as it was.
-use Rattle.std.specs.Prelude.{Bool, true, false, List, ℕ, length, get_or, eqb}
+use Rattle.std.specs.Prelude.{Bool, false, List, ℕ, length, get_or, eqb}
 use Rattle.digest.specs.Pick.{pick}
 use Rattle.record.specs.Window.{arrival_of}
 use Rattle.connection.specs.declared.calls.Outcome.{Outcome}

@@ -24,7 +24,7 @@
 --       176      4  the next clear number
 use Rattle.std.specs.Prelude.{Bool, true, false, List, [], ◌∷◌, ◌++◌, ◌≡◌, ℕ, ◌<◌, length, get_or, eqb, ltb}
 use Rattle.digest.specs.Pick.{pick}
-use Rattle.digest.specs.Bytes.{bytes2, bytes4, bytes8, word_at}
+use Rattle.digest.specs.Bytes.{bytes4, word_at}
 use Rattle.digest.specs.Mac.{number_of}
 use Rattle.record.specs.declared.keys.Keys.{Keys}
 use Rattle.record.specs.declared.protection.Protection.{Protection}

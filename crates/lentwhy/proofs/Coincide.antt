@@ -1,6 +1,6 @@
 -- Two outcomes that meet the contract of the call are the same, over the very predicate of its `ensures` (`Determined`, in `digest`,
 -- says what is stated).
-use mathlib.Core.Path.{◌≡◌, refl, sym, ◌∙◌}
+use mathlib.Core.Path.{sym, ◌∙◌}
 use Rattle.digest.specs.Determined.{OneOutcome}
 use Rattle.lentwhy.proofs.why as why
 use Rattle.lentwhy.specs.contracts.why as why-contract

@@ -14,7 +14,7 @@
 --          9  the first field at fault of a hello, or the first condition that fails
 --         10  to 15: the numbers of the reason, in the order of `numbers_of`
 --         16  to 23: the checksums, the newest first
-use Rattle.std.specs.Prelude.{Bool, true, false, List, [], ◌∷◌, ◌++◌, ℕ, zero, suc, ◌%◌, ◌^◌, get_or}
+use Rattle.std.specs.Prelude.{Bool, List, [], ◌∷◌, ◌++◌, ℕ, zero, suc, ◌%◌, get_or}
 use Rattle.digest.specs.Pick.{pick}
 use Rattle.digest.specs.Bytes.{bytes4}
 use Rattle.message.specs.declared.hello.Field.{Field}

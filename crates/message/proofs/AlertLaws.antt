@@ -1,13 +1,13 @@
 -- What is written of an alert is read back, and each name has its own number.
 use mathlib.Core.Path.{◌≡◌, refl, sym, ◌∙◌, ap}
-use mathlib.Core.List.{List, [], ◌∷◌}
-use Prim.Native.Nat.{ℕ, ◌+◌, ◌*◌, ◌/◌, ◌%◌, ◌^◌, ◌<◌}
+use mathlib.Core.List.{List}
+use Prim.Native.Nat.{ℕ, ◌+◌, ◌*◌, ◌/◌, ◌%◌, ◌<◌}
 use native.Mathlib.Omega.{arith}
 use native.Mathlib.Nat.{div-div-eq-div-mul, div-add-mod'}
-use lib.ListN.{length, get_or}
+use lib.ListN.{length}
 use borrow.Author.Tests.{ne_eqb}
-use Rattle.digest.specs.Bytes.{word_at, bytes4}
-use Rattle.message.specs.Alert.{level_number, level_of, description_number, among, sorted_of, leveled, alert_of, alert_bytes, alert_number}
+use Rattle.digest.specs.Bytes.{word_at}
+use Rattle.message.specs.Alert.{level_number, level_of, description_number, among, sorted_of, alert_of, alert_bytes, alert_number}
 use Rattle.message.specs.declared.alert.Level.{Level}
 use Rattle.message.specs.declared.alert.Level.TheVariants.{Warning, Critical, Fatal}
 use Rattle.message.specs.declared.alert.Graded.TheVariants.{Is}

@@ -3,7 +3,6 @@ use mathlib.Core.Path.{◌≡◌, refl, sym}
 use Prim.Native.Nat.{ℕ}
 use borrow.Author.Tests.{ne_eqb}
 use Rattle.message.specs.Alert.{sorted_of, among}
-use Rattle.message.specs.declared.alert.Sorted.{Sorted}
 use Rattle.message.specs.declared.alert.Sorted.TheVariants.{Unassigned}
 
 -- what the match knows of a byte behind its single numbers: it is none of the list's, nor 41

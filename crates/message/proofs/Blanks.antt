@@ -1,15 +1,14 @@
 -- Hellos of one layout are heard alike: whether values are allowed, and how long they are written, is told by their layout
 -- and the range of their numbers; what is heard of an allowed hello does not look at its key lists.
-use mathlib.Core.Path.{◌≡◌, refl, sym, ◌∙◌, ap, subst}
+use mathlib.Core.Path.{◌≡◌, refl, sym, ◌∙◌, ap}
 use mathlib.Core.List.{List, [], ◌∷◌, ◌++◌}
-use mathlib.Core.Bool.{Bool, true, false}
-use Prim.Native.Nat.{ℕ, ◌+◌, ◌≤◌, ◌<◌}
+use mathlib.Core.Bool.{true}
+use Prim.Native.Nat.{ℕ}
 use native.Mathlib.Omega.{arith}
-use lib.ListN.{length, replicate, length-append, length-replicate}
+use lib.ListN.{length, length-append, length-replicate}
 use lib.Dec.{leb, ltb, eqb}
-use borrow.Author.Tests.{lt-ltb}
-use Rattle.message.specs.Field.{both, short, long}
-use Rattle.message.specs.Set.{Basis, onb, trinomial, pentanomial, polynomial, CurveField, prime, two, ParameterSet, dh, ec, other, is_diffie_hellman, is_elliptic_curve, basis_bytes, field_bytes, set_bytes, vector_allowed, vectors_allowed, basis_allowed, field_allowed, curve_allowed, set_allowed}
+use Rattle.message.specs.Field.{both}
+use Rattle.message.specs.Set.{Basis, onb, trinomial, pentanomial, polynomial, CurveField, prime, two, ParameterSet, dh, ec, other, is_elliptic_curve, basis_bytes, field_bytes, set_bytes, vector_allowed, vectors_allowed, basis_allowed, field_allowed, curve_allowed, set_allowed}
 use Rattle.message.specs.Entry.{Entry, Parameters, indexed, explicit, identifier_bytes, parameters_bytes, entry_bytes, list_bytes, identifier_allowed, parameters_allowed, list_allowed}
 use Rattle.message.specs.Given.{offers_allowed}
 use Rattle.message.specs.Values.{Values, bytes_of, hello_of, fields_allowed, allowed}

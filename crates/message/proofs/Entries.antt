@@ -3,13 +3,13 @@
 use mathlib.Core.Path.{◌≡◌, refl, sym, ◌∙◌, ap}
 use mathlib.Core.List.{List}
 use mathlib.Core.Bool.{Bool, true, false}
-use Prim.Native.Nat.{ℕ, zero, suc, ◌+◌, ◌-◌, ◌≤◌, ◌<◌}
+use Prim.Native.Nat.{ℕ, zero, suc, ◌+◌, ◌≤◌, ◌<◌}
 use native.Mathlib.Omega.{arith}
 use lib.ListN.{length, get_or}
 use lib.Dec.{ltb, eqb}
-use borrow.Author.Tests.{le-ltb, lt-ltb, ltb-true, ltb-false, eqb-true, eqb-false, eq-eqb, ne_eqb}
+use borrow.Author.Tests.{le-ltb, lt-ltb, eqb-false, eq-eqb, ne_eqb}
 use Rattle.digest.specs.Pick.{pick}
-use Rattle.message.specs.Field.{field_end, short_end, long_end, part_of}
+use Rattle.message.specs.Field.{long_end, part_of}
 use Rattle.message.specs.Keys.{specifier_end, identifier_end, entry_end, entries_from, key_list, keys_end}
 use Rattle.message.specs.Set.{set_sound}
 use Rattle.message.proofs.Fields.{Past, past_zero, past_pick, past_field, past_short, past_long, pick_same}

@@ -1,23 +1,21 @@
 -- A Finished message of twelve bytes is judged right against these, and against them alone.
 use mathlib.Core.Path.{◌≡◌, refl, sym, ◌∙◌, ap}
-use mathlib.Core.List.{List, [], ◌∷◌, ◌++◌}
+use mathlib.Core.List.{List}
 use mathlib.Core.Bool.{Bool, true, false}
-use Prim.Native.Nat.{ℕ, ◌+◌}
+use Prim.Native.Nat.{ℕ}
 use native.Mathlib.Omega.{arith}
-use lib.ListN.{length, get_or}
+use lib.ListN.{length}
 use lib.Seq.{take_all}
-use lib.Dec.{eqb}
 use native.Mathlib.Nat.{le_of_eq}
 use borrow.Author.Tests.{eq-eqb}
 use Rattle.digest.specs.Mac.{same_bytes}
 use Rattle.message.specs.Field.{part_of}
 use Rattle.message.specs.Handshake.{fills, finished}
 use Rattle.message.specs.Finished.{finished_of, judged_of, verified_number}
-use Rattle.message.specs.declared.finished.Verified.{Verified}
 use Rattle.message.specs.declared.finished.Verified.TheVariants.{Right, Wrong}
 use Rattle.digest.specs.Pick.{pick}
 use Rattle.digest.proofs.Same.{same_self, same_equal, differ_same}
-use Rattle.message.proofs.Written.{Filled, fills_of}
+use Rattle.message.proofs.Written.{fills_of}
 
 module _ (v : List ℕ) (e : length v ≡ 12) where
   pub finished_size : length (finished_of v) ≡ 15

@@ -1,18 +1,17 @@
 -- Hellos whose lists are given as bytes: what is written is read back with the same lists, and a message that reads as
 -- well-formed is the one that is written of its lists.
 use mathlib.Core.Path.{◌≡◌, refl, sym, ◌∙◌, ap, subst}
-use mathlib.Core.List.{List, [], ◌∷◌, ◌++◌, append_assoc}
+use mathlib.Core.List.{List, [], ◌∷◌, ◌++◌}
 use mathlib.Core.Bool.{Bool, true, false}
-use Prim.Native.Nat.{ℕ, zero, suc, ◌+◌, ◌*◌, ◌-◌, ◌/◌, ◌%◌, ◌≤◌, ◌<◌}
+use Prim.Native.Nat.{ℕ, ◌+◌, ◌-◌, ◌/◌, ◌%◌, ◌≤◌, ◌<◌}
 use native.Mathlib.Omega.{arith}
-use native.Mathlib.Numerals.{add-one}
-use lib.ListN.{length, get_or, take, drop, length-drop, length-append}
+use lib.ListN.{length, get_or, drop, length-drop, length-append}
 use lib.Seq.{drop-length}
-use lib.Dec.{leb, ltb, eqb}
-use borrow.Author.Tests.{le-leb, lt-leb, lt-ltb, leb-true, ltb-true, eq-eqb, ne_eqb, eqb-true, eqb-false}
+use lib.Dec.{leb, eqb}
+use borrow.Author.Tests.{le-leb, lt-leb, leb-true, eq-eqb, ne_eqb, eqb-true, eqb-false}
 use Rattle.digest.specs.Pick.{pick}
 use Rattle.digest.specs.Bytes.{bytes2}
-use Rattle.message.specs.Field.{field_end, short_end, long_end, two_at, part_of, short, long, both}
+use Rattle.message.specs.Field.{field_end, short_end, long_end, two_at, part_of, short, long}
 use Rattle.message.specs.Handshake.{fills, client_hello, message_of}
 use Rattle.message.specs.Keys.{key_list, keys_end}
 use Rattle.message.specs.Hello.{suites_end, placed, read_of}

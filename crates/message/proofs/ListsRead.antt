@@ -3,7 +3,7 @@
 use mathlib.Core.Path.{◌≡◌, refl, sym, ◌∙◌, ap, subst}
 use mathlib.Core.List.{List, ◌∷◌, ◌++◌, append_assoc}
 use mathlib.Core.Bool.{true, false}
-use Prim.Native.Nat.{ℕ, zero, suc, ◌+◌, ◌-◌, ◌≤◌, ◌<◌}
+use Prim.Native.Nat.{ℕ, zero, suc, ◌+◌, ◌≤◌, ◌<◌}
 use native.Mathlib.Omega.{arith}
 use lib.ListN.{length, get_or, drop}
 use lib.Seq.{drop-length}
@@ -13,7 +13,6 @@ use Rattle.message.specs.Field.{field_end, short_end, long_end, two_at, part_of,
 use Rattle.message.specs.Keys.{specifier_end, identifier_end, entry_end, entries_from, key_list}
 use Rattle.message.specs.Set.{set_bytes, set_sound, set_in}
 use Rattle.message.specs.Entry.{Identifier, null, text, binary, hash, x509, Parameters, Entry, identifier_bytes, parameters_bytes, entry_bytes, list_bytes, name_allowed, identifier_allowed, parameters_allowed, list_allowed, identifier_at, parameters_at, entry_at, entries_at, entries_in}
-use Rattle.message.proofs.Rests as rests
 use Rattle.message.proofs.Rests.{ShortThere, short_there, short_size, short_piece, long_at_lem, long_size, long_piece, bytes2_of, piece, piece_size, byte_piece, bytes_part}
 use Rattle.message.proofs.Fields.{field_there, by_test, clash, both_true}
 use Rattle.message.proofs.SetsRead.{set_read}

@@ -1,11 +1,7 @@
 -- Laws of the offer: its pairs, and the ClientHello that offers it.
-use mathlib.Core.Path.{◌≡◌, refl, sym, ◌∙◌, ap}
-use mathlib.Core.List.{List, [], ◌∷◌, ◌++◌}
-use mathlib.Core.Bool.{Bool, true, false}
-use Prim.Native.Nat.{ℕ, ◌+◌, ◌≤◌}
+use Prim.Native.Nat.{◌≤◌}
 use native.Mathlib.Omega.{arith}
-use lib.ListN.{length, length-append}
-use Rattle.message.specs.Offer.{pairs_of, pairs_size, suites_of, offer_given, offer_hello}
+use Rattle.message.specs.Offer.{pairs_size}
 use Rattle.message.specs.declared.offer.Kinds.{Kinds}
 use Rattle.message.specs.declared.offer.Kinds.TheVariants.{Sha80, Sha, Sha80First, ShaFirst}
 

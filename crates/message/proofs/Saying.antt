@@ -3,25 +3,22 @@
 use mathlib.Core.Path.{◌≡◌, refl, sym, ◌∙◌, ap, subst}
 use mathlib.Core.Logic.{◌⊎◌, inl, inr, by_cases}
 use mathlib.Core.List.{List, [], ◌∷◌}
-use mathlib.Core.Bool.{Bool, true, false}
-use Prim.Native.Nat.{ℕ, zero, suc, ◌+◌, ◌*◌, ◌≤◌, ◌<◌}
+use mathlib.Core.Bool.{true, false}
+use Prim.Native.Nat.{ℕ, zero, suc, ◌+◌, ◌*◌, ◌<◌}
 use native.Mathlib.Omega.{arith}
 use native.Mathlib.Decide.{dec_le}
-use lib.ListN.{length, get_or}
+use lib.ListN.{get_or}
 use lib.Dec.{eqb}
 use borrow.Author.Tests.{eq-eqb, ne_eqb, eqb-true, eqb-false}
-use Rattle.digest.specs.Pick.{pick}
 use Rattle.digest.specs.Mac.{number_of, listed_as, same_bytes}
 use Rattle.digest.proofs.Same.{same_equal, equal_same, differ_same}
 use Rattle.digest.specs.declared.mac.Mac.{Mac}
 use Rattle.digest.specs.declared.mac.Mac.TheVariants.{Sha80, Sha}
 use Rattle.digest.specs.declared.mac.Listed.{Listed}
 use Rattle.digest.specs.declared.mac.Listed.TheVariants as L
-use Rattle.message.specs.Hello.{read_of}
-use Rattle.message.specs.Values.{Values, hello_of, allowed, values_at, places_of}
+use Rattle.message.specs.Values.{Values, hello_of, allowed}
 use Rattle.message.specs.Acceptance.{fits_pair, first_fit, has_null, paired, accepted_of, acceptance_of, judged, heard_as, heard_of}
-use Rattle.message.specs.Said.{FitsAt, FirstPair, NoPair, NullIn, Known, Accepts, Says, HeardAsSaid}
-use Rattle.message.specs.declared.acceptance.Acceptance.TheVariants as A
+use Rattle.message.specs.Said.{FitsAt, FirstPair, NoPair, NullIn, Known, Says, HeardAsSaid}
 use Rattle.message.specs.declared.acceptance.Condition.TheVariants as C
 use Rattle.message.specs.declared.acceptance.Heard.{Heard}
 use Rattle.message.specs.declared.acceptance.Heard.TheVariants as H

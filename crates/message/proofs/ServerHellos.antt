@@ -1,21 +1,20 @@
 -- Laws of the ServerHello: where its session identifier ends; what reads as well-formed is exactly what is written of values.
-use mathlib.Core.Path.{◌≡◌, refl, sym, ◌∙◌, ap, ap₂}
+use mathlib.Core.Path.{◌≡◌, refl, sym, ◌∙◌, ap}
 use mathlib.Core.List.{List, [], ◌∷◌, ◌++◌}
 use mathlib.Core.Bool.{Bool, true, false}
-use Prim.Native.Nat.{ℕ, ◌+◌, ◌*◌, ◌-◌, ◌/◌, ◌%◌, ◌≤◌, ◌<◌}
+use Prim.Native.Nat.{ℕ, ◌+◌, ◌*◌, ◌≤◌, ◌<◌}
 use native.Mathlib.Omega.{arith}
 use lib.ListN.{length, get_or, drop, length-append, length-drop, drop_of_length-le}
 use lib.Dec.{eqb, leb}
 use borrow.Author.Tests.{leb-true, eqb-true, le-leb, eq-eqb}
 use Rattle.digest.specs.Pick.{pick}
 use Rattle.digest.specs.Bytes.{bytes2}
-use Rattle.message.specs.Field.{short, part_of, two_at}
+use Rattle.message.specs.Field.{short, part_of}
 use Rattle.message.specs.Handshake.{fills, server_hello, message_of}
 use Rattle.message.specs.ServerHello.{server_read, ServerValues, server_values_at, server_hello_from, server_allowed, ServerHellosAsWritten}
 use Rattle.message.proofs.Fields.{both_split}
 use Rattle.message.proofs.Givens.{Filled, filled, fills_of}
 use Rattle.message.proofs.Rests.{Rest, rest_byte, front_part, front_rest, short_part, short_rest, piece, piece_size, byte_piece, bytes2_of}
-use Rattle.message.specs.declared.server_hello.Reading.{Reading}
 use Rattle.message.specs.declared.server_hello.Reading.TheVariants.{WellFormed, Malformed}
 
 -- what a well-formed ServerHello satisfies

@@ -1,19 +1,18 @@
 -- Laws of writing a set: what is written by the tests of the values, how long it is, and its pieces put one after the other.
 use mathlib.Core.Path.{◌≡◌, refl, sym, ◌∙◌, ap, subst}
 use mathlib.Core.List.{List, [], ◌∷◌, ◌++◌}
-use mathlib.Core.Bool.{Bool, true, false}
-use Prim.Native.Nat.{ℕ, ◌+◌, ◌/◌, ◌%◌, ◌≤◌, ◌<◌}
+use mathlib.Core.Bool.{true, false}
+use Prim.Native.Nat.{ℕ, ◌+◌, ◌/◌, ◌%◌, ◌≤◌}
 use native.Mathlib.Omega.{arith}
 use lib.ListN.{length, length-append}
 use lib.Dec.{ltb}
 use Rattle.digest.specs.Pick.{pick}
-use Rattle.digest.specs.Bytes.{bytes2}
-use Rattle.message.specs.Field.{both, short, long}
+use Rattle.message.specs.Field.{short, long}
 use Rattle.message.specs.Buffer.{over, fitting, Puts}
 use Rattle.message.specs.Set.{Basis, onb, trinomial, pentanomial, polynomial, CurveField, prime, two, dh, ec, basis_bytes, field_bytes, set_bytes, vector_allowed, vectors_allowed, basis_allowed, field_allowed, curve_allowed, dh_written, field_written, ec_written, written_of, field_at, set_at}
 use Rattle.message.specs.declared.set.FieldId.{FieldId}
 use Rattle.message.specs.declared.set.Reading.{Reading}
-use Rattle.message.proofs.Fields.{by_test, clash, both_split}
+use Rattle.message.proofs.Fields.{by_test, both_split}
 use Rattle.message.proofs.Buffers.{put_on, puts_as}
 use Rattle.message.proofs.SetsWritten.{vector_ceiling}
 

@@ -2,23 +2,23 @@
 -- left after it.
 use mathlib.Core.Path.{◌≡◌, refl, sym, ◌∙◌, ap, subst}
 use mathlib.Core.List.{List, [], ◌∷◌, ◌++◌, append-nil}
-use mathlib.Core.Bool.{Bool, true, false}
+use mathlib.Core.Bool.{true, false}
 use Prim.Native.Nat.{ℕ, ◌+◌, ◌≤◌, ◌<◌}
 use native.Mathlib.Omega.{arith}
 use native.Mathlib.Decide.{dec_le}
 use mathlib.Core.Logic.{by_cases}
 use lib.ListN.{length, get_or, drop}
 use lib.Seq.{drop-length}
-use lib.Dec.{leb, ltb, eqb}
-use borrow.Author.Tests.{le-leb, lt-ltb, eq-eqb, eqb-true, eqb-false}
+use lib.Dec.{ltb, eqb}
+use borrow.Author.Tests.{le-leb, lt-ltb, eqb-true, eqb-false}
 use Rattle.digest.specs.Bytes.{bytes2}
-use Rattle.message.specs.Field.{both, short, long, field_end, short_end, long_end, two_at, part_of}
-use Rattle.message.specs.Set.{Basis, onb, trinomial, pentanomial, polynomial, CurveField, prime, two, ParameterSet, dh, ec, other, is_diffie_hellman, is_elliptic_curve, basis_bytes, field_bytes, set_bytes, vector_allowed, basis_allowed, field_allowed, vectors_allowed, curve_allowed, set_allowed, next_end, next_long, basis_end, curve_field_end, field_id_of, dh_placed, ec_placed, filling, read_dh, read_ec, read_of, well_formed, set_sound, field_at, set_at, set_in}
+use Rattle.message.specs.Field.{short, long, field_end, short_end, long_end, two_at, part_of}
+use Rattle.message.specs.Set.{Basis, onb, trinomial, pentanomial, polynomial, CurveField, prime, two, is_diffie_hellman, is_elliptic_curve, basis_bytes, field_bytes, set_bytes, vector_allowed, basis_allowed, field_allowed, vectors_allowed, curve_allowed, set_allowed, next_end, next_long, basis_end, curve_field_end, field_id_of, dh_placed, ec_placed, filling, read_dh, read_ec, read_of, well_formed, set_sound, field_at, set_at, set_in}
 use Rattle.message.specs.declared.set.Reading.{Reading}
-use Rattle.message.specs.declared.set.Reading.TheVariants.{Malformed, DiffieHellman, EllipticCurve}
-use Rattle.message.proofs.Rests.{ShortThere, short_there, short_size, short_piece, LongThere, long_at_lem, long_size, long_piece, bytes2_of, byte_piece}
+use Rattle.message.specs.declared.set.Reading.TheVariants.{DiffieHellman, EllipticCurve}
+use Rattle.message.proofs.Rests.{ShortThere, short_there, short_size, short_piece, long_at_lem, long_size, long_piece, bytes2_of, byte_piece}
 use Rattle.message.proofs.Fields.{field_there, by_test, clash, both_true}
-use Rattle.message.proofs.SetEnds.{next_none, next_some, long_none, long_empty, long_some, basis_onb, basis_trinomial, basis_pentanomial, basis_polynomial, basis_other, basis_cut, field_is_prime, field_is_two, field_other, field_cut, id_prime, id_onb, id_trinomial, id_pentanomial, id_polynomial, fill_none, fill_left, fill_whole, read_skipped, read_as_dh, read_as_ec}
+use Rattle.message.proofs.SetEnds.{next_none, next_some, long_none, long_empty, long_some, basis_onb, basis_trinomial, basis_pentanomial, basis_polynomial, basis_other, basis_cut, field_is_prime, field_is_two, field_other, field_cut, id_prime, id_onb, id_trinomial, id_pentanomial, id_polynomial, fill_whole, read_skipped, read_as_dh, read_as_ec}
 
 vector_can : (floor ceiling : ℕ) (x : List ℕ) → floor ≤ length x → length x ≤ ceiling → vector_allowed floor ceiling x ≡ true
 vector_can floor ceiling x f g = rw (le-leb floor (length x) f) (le-leb (length x) ceiling g)

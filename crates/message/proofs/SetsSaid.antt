@@ -6,11 +6,10 @@ use mathlib.Core.List.{List, []}
 use mathlib.Core.Bool.{true, false}
 use Prim.Native.Nat.{ℕ}
 use native.Mathlib.Omega.{arith}
-use lib.ListN.{length}
-use Rattle.message.specs.Set.{ParameterSet, dh, ec, other, is_diffie_hellman, is_elliptic_curve, vector_allowed, curve_allowed, set_bytes, set_allowed, read_dh, read_ec, read_of, well_formed, set_sound, set_in, ec_written, written_of}
+use Rattle.message.specs.Set.{ParameterSet, dh, ec, other, is_diffie_hellman, is_elliptic_curve, vector_allowed, set_bytes, set_allowed, read_dh, read_ec, well_formed, set_sound, set_in, ec_written, written_of}
 use Rattle.message.specs.Said.{Bytes, SetsAsWritten}
 use Rattle.message.specs.declared.set.Reading.TheVariants.{Malformed}
-use Rattle.message.proofs.Fields.{by_test, clash, both_split}
+use Rattle.message.proofs.Fields.{clash, both_split}
 use Rattle.message.proofs.SetEnds.{next_none, field_cut, long_none, long_empty, two_past, dh_by, ec_by, read_skipped, read_as_dh, read_as_ec}
 use Rattle.message.proofs.SetsWritten.{set_written, dh_not_ec}
 use Rattle.message.proofs.SetsRead.{set_read}

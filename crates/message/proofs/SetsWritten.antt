@@ -1,15 +1,14 @@
 -- What is written of a set's values is sound, and the same values stand in it: by what is left of the bytes after each part.
 use mathlib.Core.Path.{◌≡◌, refl, sym, ◌∙◌, ap, subst}
 use mathlib.Core.List.{List, [], ◌∷◌, ◌++◌, append-nil}
-use mathlib.Core.Bool.{Bool, true, false}
-use Prim.Native.Nat.{ℕ, ◌+◌, ◌*◌, ◌/◌, ◌%◌, ◌≤◌, ◌<◌}
+use mathlib.Core.Bool.{true, false}
+use Prim.Native.Nat.{ℕ, ◌+◌, ◌/◌, ◌%◌, ◌≤◌, ◌<◌}
 use native.Mathlib.Omega.{arith}
 use lib.ListN.{length, get_or}
 use lib.Dec.{leb, ltb}
 use borrow.Author.Tests.{leb-true, ltb-true}
-use Rattle.digest.specs.Pick.{pick}
 use Rattle.digest.specs.Bytes.{bytes2}
-use Rattle.message.specs.Field.{both, short, long, field_end, short_end, long_end, two_at, part_of}
+use Rattle.message.specs.Field.{short, long, long_end, two_at, part_of}
 use Rattle.message.specs.Set.{Basis, onb, trinomial, pentanomial, polynomial, CurveField, prime, two, ParameterSet, dh, ec, other, is_diffie_hellman, is_elliptic_curve, basis_bytes, field_bytes, set_bytes, vector_allowed, basis_allowed, field_allowed, vectors_allowed, curve_allowed, set_allowed, next_end, next_long, basis_end, curve_field_end, field_id_of, read_dh, read_ec, read_of, well_formed, set_sound, field_at, set_at, set_in}
 use Rattle.message.specs.declared.set.Reading.{Reading}
 use Rattle.message.specs.declared.set.Reading.TheVariants.{Skipped}

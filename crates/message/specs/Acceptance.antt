@@ -9,11 +9,9 @@ use Rattle.digest.specs.declared.mac.Listed.{Listed}
 use Rattle.digest.specs.declared.mac.Listed.TheVariants.{Is, Other}
 use Rattle.message.specs.Hello.{read_of}
 use Rattle.message.specs.Values.{Values, values_at}
-use Rattle.message.specs.declared.hello.Field.{Field}
 use Rattle.message.specs.declared.hello.Reading.{Reading}
 use Rattle.message.specs.declared.hello.Reading.TheVariants as reading
 use Rattle.message.specs.declared.acceptance.Plan.{Plan}
-use Rattle.message.specs.declared.acceptance.Condition.{Condition}
 use Rattle.message.specs.declared.acceptance.Condition.TheVariants.{Version, SessionId, CipherSuite, Compression, Numbering}
 use Rattle.message.specs.declared.acceptance.Acceptance.{Acceptance}
 use Rattle.message.specs.declared.acceptance.Acceptance.TheVariants.{Accepted, Unacceptable}

@@ -1,7 +1,7 @@
 -- Whether a ServerHello answers the offer (02, P7: "read the reply"; 002 10.5.1.3): version 1, the session named, client key
 -- number 0, null cipher and an offered kind, null compression, explicit numbering, and a key refresh "equal to what the client
 -- suggested or less", which is then used.
-use Rattle.std.specs.Prelude.{List, ℕ, ◌+◌, get_or, eqb, ltb}
+use Rattle.std.specs.Prelude.{List, ℕ, eqb, ltb}
 use Rattle.digest.specs.Pick.{pick}
 use Rattle.digest.specs.Mac.{listed_as, same_bytes}
 use Rattle.digest.specs.declared.mac.Listed.{Listed}
@@ -13,7 +13,6 @@ use Rattle.message.specs.declared.offer.Kinds.{Kinds}
 use Rattle.message.specs.declared.offer.Offer.{Offer}
 use Rattle.message.specs.declared.server_hello.Reading.{Reading}
 use Rattle.message.specs.declared.server_hello.Reading.TheVariants as reading
-use Rattle.message.specs.declared.agreement.Term.{Term}
 use Rattle.message.specs.declared.agreement.Term.TheVariants.{Version, SessionId, ClientKey, CipherSuite, Compression, Numbering, Refresh}
 use Rattle.message.specs.declared.agreement.Agreement.{Agreement}
 use Rattle.message.specs.declared.agreement.Agreement.TheVariants.{Agreed, Unacceptable, Malformed}

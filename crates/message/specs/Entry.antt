@@ -1,5 +1,5 @@
 -- The entries of a key list: as values, as they are written, and as they stand in a list (002 10.5.1.2).
-use Rattle.std.specs.Prelude.{List, [], ◌∷◌, ◌++◌, Bool, true, false, ℕ, zero, suc, ◌+◌, length, get_or, leb, ltb, eqb}
+use Rattle.std.specs.Prelude.{List, [], ◌∷◌, ◌++◌, Bool, true, ℕ, zero, suc, ◌+◌, length, get_or, leb, ltb, eqb}
 use Rattle.digest.specs.Pick.{pick}
 use Rattle.digest.specs.Bytes.{bytes2}
 use Rattle.message.specs.Field.{both, short, long, long_end, two_at, part_of}

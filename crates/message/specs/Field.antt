@@ -1,6 +1,6 @@
 -- Fields of a message, one after the other (002 8.1, 8.3). A field is told by the place where it ends; 0 says that
 -- the message has no such field there.
-use Rattle.std.specs.Prelude.{List, ◌∷◌, ◌++◌, Bool, true, false, ℕ, ◌+◌, ◌*◌, ◌-◌, length, get_or, take, drop, leb, ltb}
+use Rattle.std.specs.Prelude.{List, ◌∷◌, ◌++◌, Bool, false, ℕ, ◌+◌, ◌*◌, ◌-◌, length, get_or, take, drop, leb, ltb}
 use Rattle.digest.specs.Pick.{pick}
 use Rattle.digest.specs.Bytes.{bytes2}
 

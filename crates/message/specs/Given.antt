@@ -1,7 +1,6 @@
 -- A ClientHello as it is written (002 10.5.1.2), its lists given as bytes: what the writer is handed.
-use Rattle.std.specs.Prelude.{List, [], ◌∷◌, ◌++◌, Bool, true, false, ℕ, ◌%◌, length, get_or, leb, eqb}
+use Rattle.std.specs.Prelude.{List, [], ◌∷◌, ◌++◌, Bool, ℕ, ◌%◌, length, get_or, leb, eqb}
 use Rattle.digest.specs.Pick.{pick}
-use Rattle.digest.specs.Bytes.{bytes2}
 use Rattle.message.specs.Field.{both, short, long}
 use Rattle.message.specs.Handshake.{message_of, client_hello}
 use Rattle.message.specs.Keys.{key_list}

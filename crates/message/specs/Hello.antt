@@ -5,7 +5,6 @@ use Rattle.message.specs.Field.{field_end, short_end}
 use Rattle.message.specs.Handshake.{fills, client_hello}
 use Rattle.message.specs.Keys.{keys_end}
 use Rattle.message.specs.declared.hello.Hello.{Hello}
-use Rattle.message.specs.declared.hello.Field.{Field}
 use Rattle.message.specs.declared.hello.Field.TheVariants.{Header, Size, Version, Random, SessionId, ClientKeyIds, TrustedKeyIds, CipherSuites, CompressionMethods, SequenceNumberMode, KeyRefresh, Rest}
 use Rattle.message.specs.declared.hello.Reading.{Reading}
 use Rattle.message.specs.declared.hello.Reading.TheVariants.{WellFormed, Malformed}

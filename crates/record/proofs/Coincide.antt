@@ -2,7 +2,7 @@
 -- of its `ensures` (`Determined`, in `digest`, says what is stated). A clause `exact`, or the only one, is an equation
 -- for the result; of a writer `count` is that, and `bytes` one for the lent buffer, which w stands for, in its place
 -- among the parameters. A `meaning` is not needed.
-use mathlib.Core.Path.{◌≡◌, refl, sym, ◌∙◌, ap}
+use mathlib.Core.Path.{refl, sym, ◌∙◌, ap}
 use Rattle.digest.specs.Determined.{OneOutcome}
 use Rattle.record.proofs.header.split as header-split
 use Rattle.record.specs.contracts.header.split as header-split-contract

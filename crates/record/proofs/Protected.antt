@@ -1,11 +1,11 @@
 -- The laws of a protection, over the width and the sense of travel, so that nothing above proves them again. What is genuine,
 -- by bytes; the window means the history; what one end writes the other opens; numbers written count on and never
 -- repeat; a number opens as new once.
-use mathlib.Core.Path.{◌≡◌, refl, sym, ap, ap₂, ◌∙◌}
+use mathlib.Core.Path.{◌≡◌, refl, sym, ap, ◌∙◌}
 use mathlib.Core.Logic.{◌⊎◌, inl, inr}
 use mathlib.Core.Bool.{Bool, true, false}
-use mathlib.Core.List.{List, [], ◌∷◌, ◌++◌}
-use Prim.Native.Nat.{ℕ, zero, suc, ◌+◌, ◌-◌, ◌≤◌, ◌<◌}
+use mathlib.Core.List.{List, [], ◌∷◌}
+use Prim.Native.Nat.{ℕ, zero, suc, ◌+◌, ◌≤◌, ◌<◌}
 use native.Mathlib.Omega.{arith}
 use lib.ListN.{length, take, drop, get_or}
 use lib.Seq.{take_at}
@@ -17,7 +17,7 @@ use Rattle.digest.specs.Mac.{size_of}
 use Rattle.record.specs.Keys.{secret_for}
 use Rattle.record.specs.Code.{code_by, fragment_by, protected_by}
 use Rattle.record.specs.Window.{Held, accept_of}
-use Rattle.record.specs.History.{accepted, highest_of, window_of, arrived_of, judged_of}
+use Rattle.record.specs.History.{accepted, highest_of, window_of, judged_of}
 use Rattle.record.specs.Written.{byte_for, header_size, record_of, header_of}
 use Rattle.record.specs.Reader.{read_of}
 use Rattle.record.specs.Protection.{with_window, genuine_under, content_size, opening, opened_to, opened_by, record_under, next_record, counted_on, writing, wrote_by}
@@ -33,10 +33,9 @@ use Rattle.record.specs.declared.protection.Opening.{Opening}
 use Rattle.record.specs.declared.protection.Opened.{Opened}
 use Rattle.record.specs.declared.protection.Opened.TheVariants as O
 use Rattle.record.specs.declared.protection.Writing.{Writing}
-use Rattle.record.specs.declared.protection.Wrote.{Wrote}
 use Rattle.record.specs.declared.protection.Wrote.TheVariants as W
 use Rattle.record.proofs.Histories.{meaning, new_means, accepted_here, accepted_still}
-use Rattle.record.proofs.RoundTrip.{read_back, read_protected, fragment_back}
+use Rattle.record.proofs.RoundTrip.{read_back, read_protected}
 use Rattle.record.proofs.ProtectedBytes.{genuine_made, protected_genuine, protected_length}
 use Rattle.record.proofs.Protecting.{forged_as, opened_as_lem}
 

@@ -2,7 +2,7 @@
 -- number h, and sets that of s, which was free: the marks are then m * 2 ^ (h - n) + 2 ^ (h - s), cut to the width. A second
 -- number does the same, and what comes out is alike in both.
 use mathlib.Core.Path.{◌≡◌, refl, sym, ap, ap₂, ◌∙◌}
-use mathlib.Core.Bool.{Bool, true, false}
+use mathlib.Core.Bool.{false}
 use Prim.Native.Nat.{ℕ, zero, suc, ◌+◌, ◌-◌, ◌*◌, ◌/◌, ◌%◌, ◌^◌, ◌≤◌, ◌<◌, max}
 use native.Mathlib.Nat.{add-mul, mul_assoc, mul-one, mod-lt, mod-mod, mod-eq_of_lt, mod-add-mod, mod-add-div', add-mul-mod_self_right, add_right_comm, mul_right_comm}
 use native.Mathlib.Omega.{arith}
@@ -13,7 +13,7 @@ use borrow.Author.Tests.{eq-eqb, eqb-true, leb-false, ltb-true, ltb-false}
 use Rattle.record.specs.Window.{Held, held_width, accept_by, accept_within, accept_of, arrived_at}
 use Rattle.record.specs.Bench.{Swapped, EitherOrder, OneOrder}
 use Rattle.record.specs.declared.window.Window.{Window}
-use Rattle.record.specs.declared.window.Acceptance.TheVariants.{New, TooOld, Repeated}
+use Rattle.record.specs.declared.window.Acceptance.TheVariants.{New}
 use Rattle.record.proofs.Histories.{decide, held_is, held_some}
 use Rattle.record.proofs.Marks.{lowest_set, mark_added}
 use Rattle.record.proofs.Answers.{fresh_when, newer_when, old_when, repeated_when, older_when}

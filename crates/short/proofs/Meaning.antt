@@ -1,19 +1,12 @@
 -- What a message leaves, by its answer (02, P2), each from the definition alone.
-use mathlib.Core.Path.{◌≡◌, refl, sym, ap, ◌∙◌}
-use mathlib.Core.Bool.{true, false}
+use mathlib.Core.Path.{refl}
 use mathlib.Core.List.{List}
 use Prim.Native.Nat.{ℕ}
 use lib.ListN.{length}
-use lib.Dec.{ltb, eqb}
-use Rattle.digest.specs.Pick.{pick}
-use Rattle.gather.specs.Gatherer.{Left, said, step_of, datagram_of}
-use Rattle.gather.specs.declared.refusal.Refusal.TheVariants.{Argument, Room}
+use Rattle.gather.specs.Gatherer.{Left}
 use Rattle.gather.specs.declared.gatherer.Gatherer.{Gatherer}
-use Rattle.gather.specs.declared.gatherer.Answer.{Answer}
-use Rattle.gather.specs.declared.gatherer.Answer.TheVariants as A
-use Rattle.connection.specs.Receive.{received_of, output_of}
 use Rattle.connection.specs.declared.connection.Connection.{Connection}
-use Rattle.short.specs.Message.{is_shown, nothing_of, taken_of, heard_of, Leaves, leaves, gathered_of, received, message_of}
+use Rattle.short.specs.Message.{taken_of, heard_of, gathered_of, message_of}
 use Rattle.short.specs.Meaning.{Alone, Quiet, ByReceive, LentWrong}
 
 module _ (c : Connection) (g : Gatherer) (store message assembly random out : List ℕ) where

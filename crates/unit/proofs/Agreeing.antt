@@ -1,5 +1,5 @@
 -- The unit that a ServerHello leaves, from its parts.
-use mathlib.Core.Path.{◌≡◌, refl, sym, ◌∙◌, ap, ap₂}
+use mathlib.Core.Path.{◌≡◌, ◌∙◌, ap, ap₂}
 use mathlib.Core.List.{List}
 use Prim.Native.Nat.{ℕ}
 use Rattle.message.specs.Finished.{server_verify, client_verify, finished_of}

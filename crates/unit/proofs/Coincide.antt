@@ -1,7 +1,7 @@
 -- Two outcomes that meet the contract of one public call are the same: a theorem for each call, over the very predicate of its
 -- `ensures` (`Determined`, in `digest`, says what is stated). A clause `exact`, or the only one, is an equation for the result, and
 -- `bytes` one for the lent output, which w stands for, in its place among the parameters.
-use mathlib.Core.Path.{◌≡◌, refl, sym, ◌∙◌, ap}
+use mathlib.Core.Path.{refl, sym, ◌∙◌, ap}
 use Rattle.digest.specs.Determined.{OneOutcome}
 use Rattle.unit.proofs.calls.fresh as calls-fresh
 use Rattle.unit.specs.contracts.calls.fresh as calls-fresh-contract

@@ -11,7 +11,6 @@ use lib.Dec.{leb}
 use borrow.Author.Tests.{le-leb}
 use Rattle.digest.specs.Bytes.{laid_over}
 use Rattle.digest.proofs.Codes.{laid_zeros}
-use Rattle.record.specs.Written.{record_of}
 use Rattle.record.specs.declared.header.Content.TheVariants as C
 use Rattle.record.proofs.Fronts.{record_length}
 use Rattle.message.specs.Buffer.{over, fitting}
@@ -22,7 +21,7 @@ use Rattle.message.specs.Offer.{suites_of, pairs_size, offer_given, offer_hello}
 use Rattle.message.specs.declared.offer.Kinds.{Kinds}
 use Rattle.message.specs.declared.offer.Kinds.TheVariants.{Sha80, Sha, Sha80First, ShaFirst}
 use Rattle.message.specs.declared.offer.Offer.{Offer}
-use Rattle.message.proofs.Givens.{Allowed, allowed_of}
+use Rattle.message.proofs.Givens.{allowed_of}
 use Rattle.connection.specs.Reply.{pad_to}
 use Rattle.unit.specs.Hello.{hello_datagram}
 

@@ -1,12 +1,11 @@
 -- The laws of a run over records: one record more at its end.
 use mathlib.Core.Path.{◌≡◌, refl, sym, ◌∙◌, ap, ap₂}
 use mathlib.Core.List.{List, [], ◌∷◌, ◌++◌, map}
-use Prim.Native.Nat.{ℕ, zero, suc, ◌+◌, ◌-◌, ◌<◌, ◌≤◌}
+use Prim.Native.Nat.{ℕ, suc, ◌+◌, ◌-◌, ◌<◌, ◌≤◌}
 use native.Mathlib.Omega.{arith}
 use native.Mathlib.Numerals.{add-one}
 use lib.ListN.{length, take, get_or, set, replicate, length-append, length-map}
-use lib.Seq.{take-suc, set_at, take_all, append_snoc, length-take-le}
-use Rattle.digest.specs.Bytes.{laid_over}
+use lib.Seq.{take-suc, set_at, append_snoc, length-take-le}
 use Rattle.record.specs.Datagram.{blank}
 use Rattle.record.specs.declared.reader.Record.{Record}
 use Rattle.connection.specs.declared.receive.Taken.TheVariants.{Records}

@@ -1,5 +1,5 @@
 -- A ServerHello (02, P7: "read the reply"; 002 10.5.1.3, 10.5.9), and our flight (02: "write change cipher spec and Finished").
-use Rattle.std.specs.Prelude.{List, ◌++◌, ℕ, ◌-◌, length, take, drop, replicate}
+use Rattle.std.specs.Prelude.{List, ◌++◌, ℕ, length, take, drop}
 use Rattle.record.specs.Protection.{record_under}
 use Rattle.record.specs.declared.header.Content.TheVariants as C
 use Rattle.record.specs.declared.keys.Keys.{Keys}

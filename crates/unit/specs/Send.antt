@@ -1,5 +1,5 @@
 -- Send data and send an alert (02, P7; 01, "Refusal numbers": "Send: 16, 7, 8, 15, 6").
-use Rattle.std.specs.Prelude.{Bool, true, false, List, ℕ, ◌+◌, length, eqb, ltb, leb}
+use Rattle.std.specs.Prelude.{Bool, true, false, List, ℕ, length, eqb, ltb, leb}
 use Rattle.digest.specs.Pick.{pick}
 use Rattle.record.specs.Written.{record_of, written_of}
 use Rattle.record.specs.Protection.{next_record, wrote_by, output_by}

@@ -1,15 +1,12 @@
 -- From the call down to a record: answer i is that of record i, which begins where the bytes say.
 use mathlib.Core.Path.{◌≡◌, refl, sym, ap, ap₂, subst, ◌∙◌}
-use mathlib.Core.Logic.{◌↔◌}
-use mathlib.Core.Bool.{Bool, true, false}
-use mathlib.Core.List.{List, [], ◌∷◌, ◌++◌, map}
-use Prim.Native.Nat.{ℕ, zero, suc, ◌+◌, ◌-◌, ◌≤◌, ◌<◌}
+use mathlib.Core.List.{List, [], ◌∷◌, map}
+use Prim.Native.Nat.{ℕ, zero, suc, ◌+◌, ◌-◌, ◌<◌}
 use native.Mathlib.Omega.{arith}
 use lib.ListN.{length, get_or, take, drop, replicate, length-map, get_or-append}
 use lib.Seq.{split_at}
 use borrow.Author.Tests.{eq-eqb, le-ltb}
 use Rattle.record.specs.Datagram.{framed, framing_of, placed_at, blank, CoversFrom}
-use Rattle.record.specs.Reader.{read_of}
 use Rattle.record.proofs.Covering.{covers}
 use Rattle.record.proofs.Standing.{Stands, stands}
 use Rattle.record.specs.declared.reader.Record.{Record}
@@ -20,7 +17,6 @@ use Rattle.connection.proofs.Running.{length_answers}
 use Rattle.connection.specs.declared.answer.Answer.{Answer}
 use Rattle.connection.specs.declared.answer.Answer.TheVariants.{Nothing}
 use Rattle.connection.specs.declared.connection.Connection.{Connection}
-use Rattle.connection.specs.declared.handshake.Handshake.{Handshake}
 use Rattle.demands.specs.Runs.{receive, step_of}
 use Rattle.demands.specs.Genuine.{RecordOf}
 use Rattle.demands.specs.Exactly.Whole.{CallFits, head_at, size_at, start_of}

@@ -1,18 +1,16 @@
 -- The refusals of start again, close and fresh, exactly when: each state by itself.
-use mathlib.Core.Path.{◌≡◌, refl, sym, ap, subst, ◌∙◌}
-use mathlib.Core.Logic.{◌↔◌, ◌⊎◌, ◌≢◌, inl, inr}
-use mathlib.Core.Bool.{Bool, true, false}
+use mathlib.Core.Path.{◌≡◌, refl, ap}
+use mathlib.Core.Logic.{◌↔◌, ◌≢◌, inl, inr}
 use mathlib.Core.List.{List}
 use Prim.Native.Nat.{ℕ}
 use native.Mathlib.Omega.{arith}
 use lib.ListN.{length}
 use Rattle.record.specs.Window.{Held}
-use Rattle.connection.specs.Calls.{leaving, fresh_of, closed_in, started_in}
+use Rattle.connection.specs.Calls.{fresh_of, closed_in, started_in}
 use Rattle.connection.specs.declared.connection.Connection.{Connection}
 use Rattle.connection.specs.declared.calls.Called.{Called}
 use Rattle.connection.specs.declared.calls.Outcome.{Outcome}
 use Rattle.connection.specs.declared.calls.Outcome.TheVariants.{Done, Refused}
-use Rattle.connection.specs.declared.handshake.Handshake.{Handshake}
 use Rattle.connection.specs.declared.refusal.Refusal.{Refusal}
 use Rattle.connection.specs.declared.refusal.Refusal.TheVariants as X
 use Rattle.connection.specs.declared.state.State.{State}
@@ -21,7 +19,7 @@ use Rattle.demands.specs.Runs.{called, step_of}
 use Rattle.demands.specs.Calls.{FreshRow, fresh_16, fresh_done}
 use Rattle.demands.proofs.Calls.{fresh-of, fresh_row}
 use Rattle.demands.specs.Exactly.Calls.{WhyStart, ExactlyStart, WhyClose, ExactlyClose, WhyFresh, ExactlyFresh}
-use Rattle.demands.proofs.Exactly.Reasons.{decide, Holds, refused_when, done-when, through}
+use Rattle.demands.proofs.Exactly.Reasons.{Holds, refused_when, done-when, through}
 
 -- what comes back of a call is its outcome
 called_is : (o p : Outcome) → (called o ≡ called p) ↔ (o ≡ p)

@@ -1,23 +1,21 @@
 -- Contents, byte by byte: change cipher spec, alerts and Finished. The idea: what is read of a content has its reason
 -- in the bytes, and two readings of one content are equal.
-use mathlib.Core.Path.{◌≡◌, refl, sym, ap, subst, ◌∙◌}
-use mathlib.Core.Logic.{◌⊎◌, ◌≢◌, inl, inr}
-use mathlib.Core.Bool.{Bool, true, false}
+use mathlib.Core.Path.{◌≡◌, refl, sym, ap, ◌∙◌}
+use mathlib.Core.Logic.{◌≢◌, inl, inr}
+use mathlib.Core.Bool.{true, false}
 use mathlib.Core.List.{List, [], ◌∷◌}
-use Prim.Native.Nat.{ℕ, ◌+◌, ◌-◌, ◌*◌, ◌≤◌, ◌<◌}
+use Prim.Native.Nat.{ℕ}
 use native.Mathlib.Omega.{arith}
-use lib.ListN.{length, get_or, take, drop, length-drop}
+use lib.ListN.{length, get_or, drop, length-drop}
 use lib.Seq.{take_all}
 use lib.Dec.{eqb}
-use borrow.Author.Tests.{eq-eqb, ne_eqb, eqb-true, eqb-false}
-use Rattle.digest.specs.Pick.{pick}
+use borrow.Author.Tests.{eqb-true, eqb-false}
 use Rattle.digest.specs.Bytes.{word_at}
 use Rattle.digest.specs.Mac.{same_bytes}
-use Rattle.digest.proofs.Same.{same_equal, equal_same, differ_same}
-use Rattle.record.specs.Reader.{pair_at}
+use Rattle.digest.proofs.Same.{same_equal, equal_same}
 use Rattle.message.specs.Alert.{level_of, sorted_of, leveled, alert_of}
 use Rattle.message.specs.Change.{is_change}
-use Rattle.message.specs.Field.{part_of, two_at}
+use Rattle.message.specs.Field.{part_of}
 use Rattle.message.specs.Finished.{judged_of}
 use Rattle.message.specs.Handshake.{fills, finished}
 use Rattle.message.proofs.Written.{Filled, filled, fills_of}

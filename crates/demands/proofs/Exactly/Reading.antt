@@ -1,10 +1,10 @@
 -- One record at a place of a datagram, byte by byte. The idea: what the reader tests of the part where the record
 -- begins are the bytes of the datagram from there on.
-use mathlib.Core.Path.{◌≡◌, refl, sym, ap, ap₂, subst, ◌∙◌}
+use mathlib.Core.Path.{◌≡◌, refl, ap, ap₂, ◌∙◌}
 use mathlib.Core.Logic.{◌⊎◌, inl, inr}
 use mathlib.Core.Bool.{Bool, true, false}
 use mathlib.Core.List.{List}
-use Prim.Native.Nat.{ℕ, ◌+◌, ◌-◌, ◌*◌, ◌%◌, ◌≤◌, ◌<◌}
+use Prim.Native.Nat.{ℕ, ◌+◌, ◌-◌, ◌*◌, ◌≤◌, ◌<◌}
 use native.Mathlib.Omega.{arith}
 use lib.ListN.{length, get_or, drop, length-drop}
 use lib.Seq.{get_or-drop}
@@ -16,7 +16,6 @@ use Rattle.record.specs.Reader.{read_of, read_as, framed_of, head_of, size_of, p
 use Rattle.record.specs.declared.header.Kind.{Kind}
 use Rattle.record.specs.declared.reader.Record.{Record}
 use Rattle.record.specs.declared.reader.Fault.TheVariants as F
-use Rattle.record.specs.declared.reader.Reading.{Reading}
 use Rattle.record.specs.declared.reader.Reading.TheVariants.{Sound, Refused}
 use Rattle.demands.specs.Exactly.Whole.{type_at, long_at, numbered_at, reserved_at, content_at, head_at, size_at, WrongType, RightType, HeaderPasses, WrongFragment, SoundAt}
 use Rattle.demands.proofs.Exactly.Reasons.{decide}

@@ -1,7 +1,7 @@
 -- From a case analysis to an if-and-only-if. The idea: an outcome `holds` if what it says has its reason. That an
 -- outcome holds is shown by going through the tests of its definition; then a refusal has its reason, and the other
 -- way is a computation.
-use mathlib.Core.Path.{◌≡◌, refl, sym, ap, subst, ◌∙◌}
+use mathlib.Core.Path.{◌≡◌, refl, subst}
 use mathlib.Core.Logic.{◌↔◌}
 use mathlib.Core.Bool.{Bool, true, false}
 use Prim.Native.Nat.{ℕ}

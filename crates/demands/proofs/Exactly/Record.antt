@@ -2,14 +2,14 @@
 -- numbers accepted and its reading by the bytes; and each reason is such a row.
 use mathlib.Core.Path.{◌≡◌, refl, sym, ap, ap₂, subst, ◌∙◌}
 use mathlib.Core.List.{List, ◌∷◌, ◌++◌}
-use Prim.Native.Nat.{ℕ, ◌+◌, ◌-◌, ◌%◌}
+use Prim.Native.Nat.{ℕ, ◌+◌, ◌%◌}
 use native.Mathlib.Omega.{arith}
 use lib.ListN.{length, get_or, take, drop, length-append}
 use lib.Seq.{get_or-append_seam}
 use Rattle.record.specs.Datagram.{placed_at, blank}
 use Rattle.record.specs.Header.{bit, kind_of, content_of}
 use Rattle.record.specs.Reader.{pair_at}
-use Rattle.record.specs.History.{accepted, window_of, arrived_of, judged_of as judgedBy}
+use Rattle.record.specs.History.{window_of, arrived_of, judged_of as judgedBy}
 use Rattle.record.specs.Window.{accept_of}
 use Rattle.record.proofs.Covering.{Lies, lies_at, covers}
 use Rattle.record.proofs.Standing.{Stands}
@@ -19,7 +19,6 @@ use Rattle.record.specs.declared.header.Content.TheVariants as C
 use Rattle.record.specs.declared.reader.Record.{Record}
 use Rattle.record.specs.declared.window.Window.{Window}
 use Rattle.message.specs.declared.acceptance.Heard.TheVariants as H
-use Rattle.message.specs.declared.alert.Alert.{Alert}
 use Rattle.message.specs.declared.alert.Reading.TheVariants as R
 use Rattle.message.specs.declared.finished.Verified.TheVariants as F
 use Rattle.connection.specs.Judge.{judged_record, fragment_of}

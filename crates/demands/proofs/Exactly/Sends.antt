@@ -9,7 +9,6 @@ use native.Mathlib.Omega.{arith}
 use lib.ListN.{length}
 use lib.Dec.{eqb, ltb}
 use borrow.Author.Tests.{eq-eqb, ne_eqb, le-ltb, lt-ltb, ltb-true, ltb-false, eqb-true, eqb-false}
-use Rattle.digest.specs.Pick.{pick}
 use Rattle.digest.specs.Mac.{size_of}
 use Rattle.record.specs.declared.header.Content.TheVariants as C
 use Rattle.message.specs.Alert.{level_of, sorted_of, among, descriptions, description_number}

@@ -1,8 +1,7 @@
 -- The refusals of a datagram as a whole, exactly when. The idea: behind n sound records the walk stands where record
 -- n begins; what it finds there is said by the bytes, and a fault there is the fault of the whole.
-use mathlib.Core.Path.{◌≡◌, refl, sym, ap, ap₂, subst, ◌∙◌}
-use mathlib.Core.Logic.{◌↔◌, ◌⊎◌, ◌≢◌, inl, inr}
-use mathlib.Core.Bool.{Bool, true, false}
+use mathlib.Core.Path.{◌≡◌, refl, sym, ap, subst, ◌∙◌}
+use mathlib.Core.Logic.{◌⊎◌, ◌≢◌, inl, inr}
 use mathlib.Core.List.{List, [], ◌∷◌}
 use Prim.Native.Nat.{ℕ, zero, suc, ◌+◌, ◌-◌, ◌≤◌, ◌<◌}
 use native.Mathlib.Omega.{arith}
@@ -10,24 +9,21 @@ use lib.ListN.{length, drop, length-drop}
 use lib.Seq.{drop-drop}
 use lib.Dec.{eqb, ltb}
 use borrow.Author.Tests.{eq-eqb, ne_eqb, le-ltb, lt-ltb, ltb-true, ltb-false, eqb-true, eqb-false}
-use Rattle.digest.specs.Pick.{pick}
 use Rattle.record.specs.Reader.{read_of}
 use Rattle.record.specs.Datagram.{Framing, framed, faulty, after, framing_from, framing_of, placed_at}
 use Rattle.record.specs.declared.reader.Record.{Record}
 use Rattle.record.specs.declared.reader.Fault.{Fault}
 use Rattle.record.specs.declared.reader.Fault.TheVariants as F
-use Rattle.record.specs.declared.reader.Reading.TheVariants.{Sound, Refused}
+use Rattle.record.specs.declared.reader.Reading.TheVariants.{Refused}
 use Rattle.connection.specs.Receive.{received_of, framed_to, run_of, whole_of, slots_of}
 use Rattle.connection.specs.declared.answer.Slot.{Slot}
 use Rattle.connection.specs.declared.connection.Connection.{Connection}
-use Rattle.connection.specs.declared.receive.Taken.{Taken}
 use Rattle.connection.specs.declared.receive.Taken.TheVariants as T
 use Rattle.connection.specs.declared.receive.Received.{Received}
-use Rattle.connection.specs.declared.calls.Outcome.{Outcome}
 use Rattle.connection.specs.declared.refusal.Refusal.{Refusal}
 use Rattle.connection.specs.declared.refusal.Refusal.TheVariants as X
 use Rattle.demands.specs.Runs.{receive, Result, received, sent, called, step_of}
-use Rattle.demands.specs.Exactly.Whole.{head_at, size_at, WrongType, RightType, HeaderPasses, WrongFragment, SoundAt, start_of, SoundBefore, SizeFits, Reached, WhyFaulty, WhyMisframed, WhyWhole, CallFits, SoundlyFramed, ExactlyReceive}
+use Rattle.demands.specs.Exactly.Whole.{head_at, size_at, SoundAt, start_of, SoundBefore, SizeFits, Reached, WhyFaulty, WhyMisframed, WhyWhole, CallFits, SoundlyFramed, ExactlyReceive}
 use Rattle.demands.proofs.Exactly.Reasons.{decide}
 use Rattle.demands.proofs.Exactly.Reading.{made_of, read-type, read_head, read-fragment, read_sound, used-is, by-record}
 

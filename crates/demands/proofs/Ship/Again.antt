@@ -1,15 +1,13 @@
 -- What is said again stays the same: by the rows of the table.
-use mathlib.Core.Path.{◌≡◌, refl, sym, ◌∙◌, ap}
-use mathlib.Core.Logic.{◌⊎◌, inl, inr}
+use mathlib.Core.Path.{◌≡◌, refl}
+use mathlib.Core.Logic.{inl, inr}
 use mathlib.Core.List.{List}
 use Prim.Native.Nat.{ℕ}
 use native.Mathlib.Omega.{arith}
 use Rattle.record.specs.declared.reader.Record.{Record}
 use Rattle.unit.specs.Agree.{agreed_with}
 use Rattle.unit.specs.Hello.{hello_said}
-use Rattle.unit.specs.Judge.{judged_record}
 use Rattle.unit.specs.Unit.{flight_of, opened}
-use Rattle.unit.specs.declared.state.State.{State}
 use Rattle.unit.specs.declared.state.State.TheVariants as S
 use Rattle.unit.specs.declared.state.Rule.TheVariants as T
 use Rattle.unit.specs.declared.agree.Judged.{Judged}

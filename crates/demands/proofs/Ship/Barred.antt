@@ -1,18 +1,16 @@
 -- Barred. The idea: of all rows only that of a protected fatal alert leads there; there every call is refused, so it changes nothing.
 use mathlib.Core.Path.{◌≡◌, refl, sym, ◌∙◌, ap, subst}
-use mathlib.Core.Logic.{◌⊎◌, inl, inr, ◌≢◌}
+use mathlib.Core.Logic.{inr, ◌≢◌}
 use mathlib.Core.Bool.{Bool, true, false}
 use mathlib.Core.List.{List, [], ◌∷◌}
 use Prim.Native.Nat.{ℕ}
 use native.Mathlib.Omega.{arith}
 use lib.ListN.{length, take}
 use lib.Dec.{eqb, ltb, leb}
-use Rattle.digest.specs.Pick.{pick}
 use Rattle.digest.specs.Bytes.{laid_over}
 use Rattle.record.specs.Datagram.{Framing, framed, faulty, framing_of}
 use Rattle.record.specs.declared.header.Content.TheVariants as C
 use Rattle.record.specs.declared.reader.Record.{Record}
-use Rattle.record.specs.declared.window.Window.{Window}
 use Rattle.message.specs.Alert.{level_of, sorted_of}
 use Rattle.message.specs.Offer.{kinds_named}
 use Rattle.message.specs.declared.alert.Graded.{Graded}
@@ -29,19 +27,17 @@ use Rattle.unit.specs.Agree.{agreed_with}
 use Rattle.unit.specs.Answer.{opens_by, opens_to}
 use Rattle.unit.specs.Calls.{closed_in, started_in}
 use Rattle.unit.specs.Hello.{hello_datagram, offer_of, may_hello, greeted_with, hello_as, hello_sent, again_sent}
-use Rattle.unit.specs.Judge.{kind_in, judged_record}
 use Rattle.unit.specs.Receive.{end_of, answers_of, flight_in, run_of, whole_of, framed_to, sent_of, received_of, output_of}
 use Rattle.unit.specs.Send.{may_protect, may_clear, data_sent, alert_sent_by, alert_sent_as, alert_sent}
-use Rattle.unit.specs.Unit.{with_state, with_window, opened}
+use Rattle.unit.specs.Unit.{with_window, opened}
 use Rattle.unit.specs.declared.state.State.{State}
 use Rattle.unit.specs.declared.state.State.TheVariants as S
 use Rattle.unit.specs.declared.state.Kind.TheVariants as K
 use Rattle.unit.specs.declared.answer.Answer.{Answer}
 use Rattle.unit.specs.declared.agree.Judged.{Judged}
-use Rattle.unit.specs.declared.send.Sent.{Sent}
 use Rattle.unit.specs.declared.unit.Unit.{Unit as Ship}
 use Rattle.demands.specs.Refusals.{NotDone}
-use Rattle.demands.specs.Ship.Table.{Marked, Row, New, forgotten}
+use Rattle.demands.specs.Ship.Table.{Marked, Row, forgotten}
 use Rattle.demands.specs.Ship.Table.{no_change, no_alert, no_message, no_data, some_data, protected_warning, repeated_finished, protected_critical, protected_ignored, protected_reported, finished_again, wrong_finished}
 use Rattle.demands.specs.Ship.Table.{row_stays, row_shuts, row_hello, row_change, row_marked, row_opens, row_bars}
 use Rattle.demands.specs.Ship.Runs.{Call, hello, again, receive, send_data, send_alert, close, start, step_of, final_of}

@@ -1,20 +1,17 @@
 -- What a call changes of the unit. The idea: each refusal gives the unit back, and a record that is written counts on.
-use mathlib.Core.Path.{◌≡◌, refl, sym, ◌∙◌, ap}
-use mathlib.Core.Logic.{◌⊎◌, inl, inr}
+use mathlib.Core.Path.{◌≡◌, refl, ap}
+use mathlib.Core.Logic.{inl, inr}
 use mathlib.Core.Bool.{Bool, true, false}
 use mathlib.Core.List.{List}
-use Prim.Native.Nat.{ℕ, ◌+◌}
-use native.Mathlib.Omega.{arith}
+use Prim.Native.Nat.{ℕ}
 use lib.ListN.{length}
 use lib.Dec.{eqb, ltb, leb}
 use Rattle.digest.specs.Pick.{pick}
 use Rattle.record.specs.Protection.{wrote_by, next_record, writing, counted_on}
 use Rattle.record.specs.declared.header.Content.{Content}
 use Rattle.record.specs.declared.header.Content.TheVariants as C
-use Rattle.record.specs.declared.keys.Sense.{Sense}
 use Rattle.record.specs.declared.keys.Sense.TheVariants.{FromUnit}
 use Rattle.record.specs.declared.protection.Protection.{Protection}
-use Rattle.record.specs.declared.protection.Writing.{Writing}
 use Rattle.record.specs.declared.protection.Wrote.{Wrote}
 use Rattle.record.specs.declared.protection.Wrote.TheVariants as W
 use Rattle.message.specs.Alert.{level_of, sorted_of}

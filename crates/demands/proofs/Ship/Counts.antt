@@ -1,17 +1,16 @@
 -- The tally is the count: what is counted is the answers as the shore gives them, where it is proved.
-use mathlib.Core.Path.{◌≡◌, refl, sym, ◌∙◌, ap, ap₂}
-use mathlib.Core.List.{List, [], ◌∷◌, ◌++◌, map}
+use mathlib.Core.Path.{◌≡◌, refl, sym, ◌∙◌, ap₂}
+use mathlib.Core.List.{List, [], ◌∷◌, map}
 use Prim.Native.Nat.{ℕ, zero, suc, ◌+◌, ◌-◌, ◌≤◌}
 use native.Mathlib.Omega.{arith}
 use lib.ListN.{length, get_or, replicate, length-append, length-map, length-replicate}
 use lib.Dec.{ltb}
 use Rattle.record.specs.Datagram.{Framing, framed, faulty, framing_of}
-use Rattle.record.specs.declared.reader.Record.{Record}
 use Rattle.connection.specs.Receive.{slot as slotThere}
 use Rattle.connection.specs.Tally.{counted_answer, counted_first as countedThere}
 use Rattle.connection.specs.declared.answer.Answer.TheVariants.{Nothing as NothingThere}
 use Rattle.connection.specs.declared.tally.Tally.{Tally}
-use Rattle.unit.specs.Answer.{as_ashore, slot}
+use Rattle.unit.specs.Answer.{slot}
 use Rattle.unit.specs.Receive.{answers_of, slots_of, run_of, whole_of, framed_to, received_of}
 use Rattle.unit.specs.Tally.{counted_first}
 use Rattle.unit.specs.declared.answer.Answer.{Answer}
@@ -19,7 +18,6 @@ use Rattle.unit.specs.declared.answer.Answer.TheVariants.{Nothing}
 use Rattle.unit.specs.declared.answer.Slot.{Slot}
 use Rattle.unit.specs.declared.unit.Unit.{Unit as Ship}
 use Rattle.unit.proofs.Running.{length_answers}
-use Rattle.demands.specs.Exactly.Whole.{SoundlyFramed}
 use Rattle.demands.specs.Ship.Counts.{slot_ashore, slots_ashore, tally_up_to, CountsRight}
 use Rattle.demands.proofs.Counts.{eight_counts}
 use Rattle.demands.proofs.Exactly.Reasons.{decide}

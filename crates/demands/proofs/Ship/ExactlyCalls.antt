@@ -9,15 +9,13 @@ use native.Mathlib.Omega.{arith}
 use lib.ListN.{length}
 use lib.Dec.{eqb, ltb, leb}
 use borrow.Author.Tests.{eq-eqb, ne_eqb, lt-ltb, le-ltb, le-leb, lt-leb, eqb-true, eqb-false, ltb-true, ltb-false, leb-true, leb-false}
-use Rattle.digest.specs.Pick.{pick}
 use Rattle.digest.specs.Mac.{size_of, same_bytes}
 use Rattle.digest.proofs.Same.{same_equal, equal_same}
-use Rattle.record.specs.Protection.{next_record, wrote_by, writing, counted_on}
+use Rattle.record.specs.Protection.{next_record, wrote_by}
 use Rattle.record.specs.Window.{Held}
 use Rattle.record.specs.declared.header.Content.{Content}
 use Rattle.record.specs.declared.header.Content.TheVariants as C
 use Rattle.record.specs.declared.keys.Sense.TheVariants.{FromUnit}
-use Rattle.record.specs.declared.protection.Wrote.TheVariants as W
 use Rattle.record.proofs.Fronts.{record_length}
 use Rattle.record.proofs.Protecting.{record_under_length}
 use Rattle.message.specs.Alert.{level_of, sorted_of}
@@ -31,8 +29,7 @@ use Rattle.message.specs.declared.alert.Sorted.TheVariants as D
 use Rattle.message.specs.declared.offer.Kinds.{Kinds as Offers}
 use Rattle.message.specs.declared.offer.Named.{Named}
 use Rattle.message.specs.declared.offer.Named.TheVariants.{Are, Others}
-use Rattle.connection.specs.Send.{alert_body, clear_on}
-use Rattle.connection.specs.Sent.{sum_of}
+use Rattle.connection.specs.Send.{alert_body}
 use Rattle.connection.specs.declared.calls.Outcome.{Outcome}
 use Rattle.connection.specs.declared.calls.Outcome.TheVariants.{Done, Refused}
 use Rattle.connection.specs.declared.refusal.Refusal.{Refusal}
@@ -52,7 +49,7 @@ use Rattle.demands.specs.Ship.Table.{Midway, Up, Over}
 use Rattle.demands.specs.Ship.Runs.{Result, received, sent, called, step_of}
 use Rattle.demands.specs.Ship.ExactlyCalls.{Down, WhyFresh, fresh_16, ExactlyFresh, Kinds, HelloFits, hello_size, WhyHello, hello_16, hello_7, hello_8, hello_6, ExactlyHello}
 use Rattle.demands.specs.Ship.ExactlyCalls.{again_bytes, MayAgain, WhyAgain, again_7, again_8, again_6, ExactlyAgain, WhyData, data_16, data_7, data_8, data_15, data_6, ExactlyData}
-use Rattle.demands.specs.Ship.ExactlyCalls.{AlertMay, AlertMayNot, alert_number_of, alert_code_of, WhyAlert, alert_16, alert_7, alert_8, alert_15, alert_6, ExactlyAlert}
+use Rattle.demands.specs.Ship.ExactlyCalls.{AlertMay, alert_number_of, alert_code_of, WhyAlert, alert_16, alert_7, alert_8, alert_15, alert_6, ExactlyAlert}
 use Rattle.demands.specs.Ship.ExactlyCalls.{WhyClose, close_7, ExactlyClose, WhyStart, start_7, start_8, ExactlyStart}
 use Rattle.demands.proofs.Exactly.Reasons.{clash, decide}
 use Rattle.demands.proofs.Exactly.Sends.{LevelHolds, level_holds, SortedHolds, sorted-holds}
@@ -537,43 +534,43 @@ module _ (u : Ship) (id8 : length u.id ≡ 8) (random macs : List ℕ) (refresh 
 
   -- an outcome that holds is the only one for which there is a reason
   only : (o : Outcome) (written : ℕ) → OutcomeHolds HelloWhy HelloGoes (hello_size macs) written o → (x : Refusal) → HelloWhy x → o ≡ Refused x
-  only Done written ((f , i , l) , e) (X.Framing _) x13 = elim x13 [ ]
-  only Done written ((f , i , l) , e) X.Forged x13 = elim x13 [ ]
-  only Done written ((f , i , l) , e) X.TooOld x14 = elim x14 [ ]
-  only Done written ((f , i , l) , e) X.Repeated x15 = elim x15 [ ]
-  only Done written ((f , i , l) , e) X.Malformed x16 = elim x16 [ ]
-  only Done written ((f , i , l) , e) X.Unacceptable x17 = elim x17 [ ]
-  only Done written ((f , i , l) , e) X.Checksum x18 = elim x18 [ ]
-  only Done written ((f , i , l) , e) X.Spent x19 = elim x19 [ ]
-  only Done written ((f , i , l) , e) X.WrongFinished x20 = elim x20 [ ]
+  only Done written ((f, i, l), e) (X.Framing _) x13 = elim x13 [ ]
+  only Done written ((f, i, l), e) X.Forged x13 = elim x13 [ ]
+  only Done written ((f, i, l), e) X.TooOld x14 = elim x14 [ ]
+  only Done written ((f, i, l), e) X.Repeated x15 = elim x15 [ ]
+  only Done written ((f, i, l), e) X.Malformed x16 = elim x16 [ ]
+  only Done written ((f, i, l), e) X.Unacceptable x17 = elim x17 [ ]
+  only Done written ((f, i, l), e) X.Checksum x18 = elim x18 [ ]
+  only Done written ((f, i, l), e) X.Spent x19 = elim x19 [ ]
+  only Done written ((f, i, l), e) X.WrongFinished x20 = elim x20 [ ]
   only (Refused (X.Framing _)) written (w, e) _ _ = elim w [ ]
-  only (Refused X.Room) written (hello_6 f i l , e) (X.Framing _) x22 = elim x22 [ ]
-  only (Refused X.Room) written (hello_6 f i l , e) X.Forged x22 = elim x22 [ ]
-  only (Refused X.Room) written (hello_6 f i l , e) X.TooOld x23 = elim x23 [ ]
-  only (Refused X.Room) written (hello_6 f i l , e) X.Repeated x24 = elim x24 [ ]
-  only (Refused X.Room) written (hello_6 f i l , e) X.Malformed x25 = elim x25 [ ]
-  only (Refused X.Room) written (hello_6 f i l , e) X.Unacceptable x26 = elim x26 [ ]
-  only (Refused X.Room) written (hello_6 f i l , e) X.Checksum x27 = elim x27 [ ]
-  only (Refused X.Room) written (hello_6 f i l , e) X.Spent x28 = elim x28 [ ]
-  only (Refused X.Room) written (hello_6 f i l , e) X.WrongFinished x29 = elim x29 [ ]
-  only (Refused X.Ended) written (hello_7 f o , e) (X.Framing _) x23 = elim x23 [ ]
-  only (Refused X.Ended) written (hello_7 f o , e) X.Forged x23 = elim x23 [ ]
-  only (Refused X.Ended) written (hello_7 f o , e) X.TooOld x24 = elim x24 [ ]
-  only (Refused X.Ended) written (hello_7 f o , e) X.Repeated x25 = elim x25 [ ]
-  only (Refused X.Ended) written (hello_7 f o , e) X.Malformed x26 = elim x26 [ ]
-  only (Refused X.Ended) written (hello_7 f o , e) X.Unacceptable x27 = elim x27 [ ]
-  only (Refused X.Ended) written (hello_7 f o , e) X.Checksum x28 = elim x28 [ ]
-  only (Refused X.Ended) written (hello_7 f o , e) X.Spent x29 = elim x29 [ ]
-  only (Refused X.Ended) written (hello_7 f o , e) X.WrongFinished x30 = elim x30 [ ]
-  only (Refused X.NotAllowed) written (hello_8 f o , e) (X.Framing _) x24 = elim x24 [ ]
-  only (Refused X.NotAllowed) written (hello_8 f o , e) X.Forged x24 = elim x24 [ ]
-  only (Refused X.NotAllowed) written (hello_8 f o , e) X.TooOld x25 = elim x25 [ ]
-  only (Refused X.NotAllowed) written (hello_8 f o , e) X.Repeated x26 = elim x26 [ ]
-  only (Refused X.NotAllowed) written (hello_8 f o , e) X.Malformed x27 = elim x27 [ ]
-  only (Refused X.NotAllowed) written (hello_8 f o , e) X.Unacceptable x28 = elim x28 [ ]
-  only (Refused X.NotAllowed) written (hello_8 f o , e) X.Checksum x29 = elim x29 [ ]
-  only (Refused X.NotAllowed) written (hello_8 f o , e) X.Spent x30 = elim x30 [ ]
-  only (Refused X.NotAllowed) written (hello_8 f o , e) X.WrongFinished x31 = elim x31 [ ]
+  only (Refused X.Room) written (hello_6 f i l, e) (X.Framing _) x22 = elim x22 [ ]
+  only (Refused X.Room) written (hello_6 f i l, e) X.Forged x22 = elim x22 [ ]
+  only (Refused X.Room) written (hello_6 f i l, e) X.TooOld x23 = elim x23 [ ]
+  only (Refused X.Room) written (hello_6 f i l, e) X.Repeated x24 = elim x24 [ ]
+  only (Refused X.Room) written (hello_6 f i l, e) X.Malformed x25 = elim x25 [ ]
+  only (Refused X.Room) written (hello_6 f i l, e) X.Unacceptable x26 = elim x26 [ ]
+  only (Refused X.Room) written (hello_6 f i l, e) X.Checksum x27 = elim x27 [ ]
+  only (Refused X.Room) written (hello_6 f i l, e) X.Spent x28 = elim x28 [ ]
+  only (Refused X.Room) written (hello_6 f i l, e) X.WrongFinished x29 = elim x29 [ ]
+  only (Refused X.Ended) written (hello_7 f o, e) (X.Framing _) x23 = elim x23 [ ]
+  only (Refused X.Ended) written (hello_7 f o, e) X.Forged x23 = elim x23 [ ]
+  only (Refused X.Ended) written (hello_7 f o, e) X.TooOld x24 = elim x24 [ ]
+  only (Refused X.Ended) written (hello_7 f o, e) X.Repeated x25 = elim x25 [ ]
+  only (Refused X.Ended) written (hello_7 f o, e) X.Malformed x26 = elim x26 [ ]
+  only (Refused X.Ended) written (hello_7 f o, e) X.Unacceptable x27 = elim x27 [ ]
+  only (Refused X.Ended) written (hello_7 f o, e) X.Checksum x28 = elim x28 [ ]
+  only (Refused X.Ended) written (hello_7 f o, e) X.Spent x29 = elim x29 [ ]
+  only (Refused X.Ended) written (hello_7 f o, e) X.WrongFinished x30 = elim x30 [ ]
+  only (Refused X.NotAllowed) written (hello_8 f o, e) (X.Framing _) x24 = elim x24 [ ]
+  only (Refused X.NotAllowed) written (hello_8 f o, e) X.Forged x24 = elim x24 [ ]
+  only (Refused X.NotAllowed) written (hello_8 f o, e) X.TooOld x25 = elim x25 [ ]
+  only (Refused X.NotAllowed) written (hello_8 f o, e) X.Repeated x26 = elim x26 [ ]
+  only (Refused X.NotAllowed) written (hello_8 f o, e) X.Malformed x27 = elim x27 [ ]
+  only (Refused X.NotAllowed) written (hello_8 f o, e) X.Unacceptable x28 = elim x28 [ ]
+  only (Refused X.NotAllowed) written (hello_8 f o, e) X.Checksum x29 = elim x29 [ ]
+  only (Refused X.NotAllowed) written (hello_8 f o, e) X.Spent x30 = elim x30 [ ]
+  only (Refused X.NotAllowed) written (hello_8 f o, e) X.WrongFinished x31 = elim x31 [ ]
   only (Refused X.Forged) written (w, e) _ _ = elim w [ ]
   only (Refused X.TooOld) written (w, e) _ _ = elim w [ ]
   only (Refused X.Repeated) written (w, e) _ _ = elim w [ ]
@@ -581,15 +578,15 @@ module _ (u : Ship) (id8 : length u.id ≡ 8) (random macs : List ℕ) (refresh 
   only (Refused X.Unacceptable) written (w, e) _ _ = elim w [ ]
   only (Refused X.Checksum) written (w, e) _ _ = elim w [ ]
   only (Refused X.Spent) written (w, e) _ _ = elim w [ ]
-  only (Refused X.Argument) written (hello_16 m , e) (X.Framing _) x32 = elim x32 [ ]
-  only (Refused X.Argument) written (hello_16 m , e) X.Forged x32 = elim x32 [ ]
-  only (Refused X.Argument) written (hello_16 m , e) X.TooOld x33 = elim x33 [ ]
-  only (Refused X.Argument) written (hello_16 m , e) X.Repeated x34 = elim x34 [ ]
-  only (Refused X.Argument) written (hello_16 m , e) X.Malformed x35 = elim x35 [ ]
-  only (Refused X.Argument) written (hello_16 m , e) X.Unacceptable x36 = elim x36 [ ]
-  only (Refused X.Argument) written (hello_16 m , e) X.Checksum x37 = elim x37 [ ]
-  only (Refused X.Argument) written (hello_16 m , e) X.Spent x38 = elim x38 [ ]
-  only (Refused X.Argument) written (hello_16 m , e) X.WrongFinished x39 = elim x39 [ ]
+  only (Refused X.Argument) written (hello_16 m, e) (X.Framing _) x32 = elim x32 [ ]
+  only (Refused X.Argument) written (hello_16 m, e) X.Forged x32 = elim x32 [ ]
+  only (Refused X.Argument) written (hello_16 m, e) X.TooOld x33 = elim x33 [ ]
+  only (Refused X.Argument) written (hello_16 m, e) X.Repeated x34 = elim x34 [ ]
+  only (Refused X.Argument) written (hello_16 m, e) X.Malformed x35 = elim x35 [ ]
+  only (Refused X.Argument) written (hello_16 m, e) X.Unacceptable x36 = elim x36 [ ]
+  only (Refused X.Argument) written (hello_16 m, e) X.Checksum x37 = elim x37 [ ]
+  only (Refused X.Argument) written (hello_16 m, e) X.Spent x38 = elim x38 [ ]
+  only (Refused X.Argument) written (hello_16 m, e) X.WrongFinished x39 = elim x39 [ ]
   only (Refused X.WrongFinished) written (w, e) _ _ = elim w [ ]
   only Done written ((f, i, l), e) X.Argument (hello_16 n) = absurd (n f)
   only Done written ((f, i, l), e) X.Ended (hello_7 g o) = clash-state i (inl o)

@@ -1,36 +1,27 @@
 -- The refusals of a record, exactly when. The idea: the table (`Table`) says by rows what is answered; the premises of a row and the
 -- reason in the bytes say the same of a record of a soundly framed datagram.
-use mathlib.Core.Path.{◌≡◌, refl, sym, ◌∙◌, ap, ap₂, subst}
+use mathlib.Core.Path.{◌≡◌, refl, sym, ◌∙◌, ap, subst}
 use mathlib.Core.Logic.{◌↔◌, ◌⊎◌, inl, inr, ◌≢◌}
 use mathlib.Core.Bool.{Bool, true, false}
 use mathlib.Core.List.{List, [], ◌∷◌}
-use Prim.Native.Nat.{ℕ, ◌+◌, ◌*◌, ◌≤◌, ◌<◌}
+use Prim.Native.Nat.{ℕ, ◌+◌}
 use native.Mathlib.Omega.{arith}
 use lib.ListN.{length, get_or, drop}
 use lib.Dec.{eqb}
-use borrow.Author.Tests.{eq-eqb, ne_eqb, eqb-true, eqb-false}
-use Rattle.digest.specs.Pick.{pick}
-use Rattle.digest.specs.Bytes.{word_at}
+use borrow.Author.Tests.{eqb-true, eqb-false}
 use Rattle.record.specs.Window.{accept_of}
-use Rattle.record.specs.History.{accepted, highest_of, window_of, arrived_of, judged_of as judgedBy}
+use Rattle.record.specs.History.{window_of, arrived_of, judged_of as judgedBy}
 use Rattle.record.specs.declared.header.Content.{Content}
 use Rattle.record.specs.declared.header.Content.TheVariants as C
 use Rattle.record.specs.declared.reader.Record.{Record}
 use Rattle.record.specs.declared.window.Window.{Window}
-use Rattle.record.specs.declared.window.Acceptance.TheVariants as A
 use Rattle.record.proofs.Histories.{meaning, old_when, repeated_when, new_when, old_means, repeated_means, new_means}
-use Rattle.message.specs.Agreement.{agreement_of}
 use Rattle.message.specs.Alert.{alert_of}
-use Rattle.message.specs.Change.{is_change}
-use Rattle.message.specs.Field.{two_at}
-use Rattle.message.specs.Finished.{judged_of}
 use Rattle.message.specs.Handshake.{fills}
 use Rattle.message.specs.Request.{is_request, hello_request}
-use Rattle.message.specs.declared.agreement.Agreement.TheVariants as G
-use Rattle.message.specs.declared.alert.Alert.{Alert}
 use Rattle.message.specs.declared.alert.Reading.TheVariants as R
 use Rattle.message.specs.declared.finished.Verified.TheVariants as F
-use Rattle.message.proofs.Written.{Filled, filled, fills_of}
+use Rattle.message.proofs.Written.{Filled, filled}
 use Rattle.connection.specs.Judge.{fragment_of}
 use Rattle.connection.specs.Sent.{matches_of}
 use Rattle.connection.specs.declared.refusal.Refusal.{Refusal}
@@ -47,9 +38,8 @@ use Rattle.unit.specs.declared.answer.Answer.{Answer}
 use Rattle.unit.specs.declared.answer.Answer.TheVariants as W
 use Rattle.unit.specs.declared.agree.Judged.{Judged}
 use Rattle.unit.specs.declared.unit.Unit.{Unit as Ship}
-use Rattle.demands.specs.Genuine.{RecordOf}
 use Rattle.demands.specs.Seen.{Seen, seen_in}
-use Rattle.demands.specs.Exactly.Record.{SeenInPlace, seen_at, IsAlert, IsFinished, Bytes}
+use Rattle.demands.specs.Exactly.Record.{SeenInPlace, IsAlert, IsFinished, Bytes}
 use Rattle.demands.specs.Ship.Genuine.{Protected}
 use Rattle.demands.specs.Ship.Table.{Midway, Up, Over, Ruled, New, Stays, Shuts, Marked, Row}
 use Rattle.demands.specs.Ship.Table as Z
@@ -61,12 +51,12 @@ use Rattle.demands.specs.Ship.ExactlyRecord.{Begins, IsHello, IsRequest, request
 use Rattle.demands.specs.Ship.ExactlyRecord as Y
 use Rattle.demands.proofs.Genuine.{true_false}
 use Rattle.demands.proofs.Exactly.Reasons.{clash, decide}
-use Rattle.demands.proofs.Exactly.Content.{change-is, change-not, not-change, AlertHolds, alert-holds, not-alert, is_alert, FinishedHolds, finished-holds, not_finished, wrong_finished as wrong-when}
+use Rattle.demands.proofs.Exactly.Content.{change-not, not-change, AlertHolds, alert-holds, not-alert, is_alert, FinishedHolds, finished-holds, not_finished, wrong_finished as wrong-when}
 use Rattle.demands.proofs.Exactly.Hello.{bytes_take, bytes_drop}
 use Rattle.demands.proofs.Exactly.Record.{seen-in-place}
 use Rattle.demands.proofs.Ship.ServerHello.{AgreementHolds, agreement-holds, not-hello, not-acceptable}
-use Rattle.demands.proofs.Ship.Table.{Live, Guards, spec-alert, spec-handshake, up-change, up-alert, up-handshake, up-data, Says, ruled-says, ruled-protected, row_of, row_is}
-use Rattle.demands.proofs.Ship.HandedOut.{up_rule, up-opens}
+use Rattle.demands.proofs.Ship.Table.{Guards, spec-alert, spec-handshake, up-change, up-alert, up-handshake, up-data, ruled-says, ruled-protected, row_of, row_is}
+use Rattle.demands.proofs.Ship.HandedOut.{up-opens}
 
 -- ---- a HelloRequest, byte by byte
 

@@ -2,15 +2,14 @@
 -- that answers it, a Finished that is right for both. Each row, and each call, carries this on.
 use mathlib.Core.Path.{◌≡◌, refl, sym, ◌∙◌, ap, ap₂, subst}
 use mathlib.Core.Logic.{◌⊎◌, inl, inr, ◌≢◌}
-use mathlib.Core.Bool.{Bool, true, false}
-use mathlib.Core.List.{List, [], ◌∷◌, ◌++◌}
+use mathlib.Core.Bool.{true, false}
+use mathlib.Core.List.{List, [], ◌∷◌}
 use Prim.Native.Nat.{ℕ, ◌+◌}
 use native.Mathlib.Omega.{arith}
 use lib.ListN.{length}
 use lib.Dec.{eqb, ltb, leb}
 use Rattle.digest.specs.Pick.{pick}
 use Rattle.record.specs.Window.{emptied}
-use Rattle.record.specs.declared.keys.Keys.{Keys}
 use Rattle.record.specs.declared.reader.Record.{Record}
 use Rattle.record.specs.declared.window.Window.{Window}
 use Rattle.message.specs.Agreement.{agreement_of}
@@ -29,11 +28,11 @@ use Rattle.connection.specs.declared.refusal.Refusal.TheVariants as X
 use Rattle.unit.specs.Agree.{agreed_with, shore_verify}
 use Rattle.unit.specs.Answer.{as_ashore}
 use Rattle.unit.specs.Calls.{closed_in, started_in}
-use Rattle.unit.specs.Hello.{hello_datagram, offer_of, may_hello, greeted_with, hello_as, hello_sent, hello_output, again_sent, again_output}
-use Rattle.unit.specs.Judge.{kind_in, judged_record}
+use Rattle.unit.specs.Hello.{hello_datagram, offer_of, greeted_with, hello_as, hello_sent, hello_output, again_sent, again_output}
+use Rattle.unit.specs.Judge.{kind_in}
 use Rattle.unit.specs.Protected.{flight_size}
 use Rattle.unit.specs.Send.{data_sent, data_output, alert_sent, alert_output}
-use Rattle.unit.specs.Unit.{with_state, with_window, opened, reopened}
+use Rattle.unit.specs.Unit.{with_state, with_window, opened}
 use Rattle.unit.specs.declared.state.State.{State}
 use Rattle.unit.specs.declared.state.State.TheVariants as S
 use Rattle.unit.specs.declared.state.Kind.{Kind}
@@ -42,24 +41,22 @@ use Rattle.unit.specs.declared.state.Rule.TheVariants as T
 use Rattle.unit.specs.declared.answer.Answer.{Answer}
 use Rattle.unit.specs.declared.answer.Answer.TheVariants as W
 use Rattle.unit.specs.declared.agree.Judged.{Judged}
-use Rattle.unit.specs.declared.send.Sent.{Sent}
 use Rattle.unit.specs.declared.unit.Unit.{Unit as Ship}
 use Rattle.demands.specs.Past.{shuts}
 use Rattle.demands.specs.Ship.Genuine.{Protected}
-use Rattle.demands.specs.Ship.Table.{Midway, Up, Over, New, Stays, Shuts, Marked, Row, forgotten}
+use Rattle.demands.specs.Ship.Table.{Midway, Up, New, Stays, Shuts, Marked, Row, forgotten}
 use Rattle.demands.specs.Ship.Table.{at_end, not_allowed, not_first, forged, too_old_lem, repeated, bad_hello, bad_request, bad_change, bad_alert, unacceptable, checksum, ignored_request, reported_request, warning}
 use Rattle.demands.specs.Ship.Table.{critical, fatal, no_change, no_alert, no_message, no_data, some_data, protected_warning, repeated_finished, protected_critical, protected_ignored, protected_reported, finished_again, wrong_finished}
 use Rattle.demands.specs.Ship.Table.{row_stays, row_shuts, row_hello, row_change, row_marked, row_opens, row_bars}
 use Rattle.demands.specs.Ship.Changes.{Alike}
 use Rattle.demands.specs.Ship.Events.{Event, took, greeting, repeating, sending, alerting, closing, starting, next, after, Happened, answered, greeted, said_again_lem, wrote, closed, started, refused, if_done, written_by, happening, history}
 use Rattle.demands.specs.Ship.Runs.{fresh_ship}
-use Rattle.demands.specs.Ship.HandedOut.{HandsOut}
-use Rattle.demands.specs.Ship.Past.{is_hello, offer_named, Said, said, last_hello, Read, read, read_as, last_read, keys_for}
+use Rattle.demands.specs.Ship.Past.{is_hello, offer_named, said, last_hello, read, read_as, last_read, keys_for}
 use Rattle.demands.specs.Ship.Finished.{Quiet, Verified, OnlyAfterFinished}
 use Rattle.demands.proofs.Exactly.Reasons.{decide}
-use Rattle.demands.proofs.Ship.Table.{Guards, spec-alert, spec-handshake, up-change, up-alert, up-handshake, up-data, data-up, ruled-says, row_of}
+use Rattle.demands.proofs.Ship.Table.{Guards, data-up, ruled-says, row_of}
 use Rattle.demands.proofs.Ship.Changes.{alike, data-alike, alert-alike, again_same}
-use Rattle.demands.proofs.Ship.HandedOut.{up-not-midway, up-not-over, guards-not-over, kind-content, DataFacts, data_facts}
+use Rattle.demands.proofs.Ship.HandedOut.{up-not-midway, up-not-over, guards-not-over, kind-content, data_facts}
 
 -- ---- how far the handshake has come
 

@@ -1,21 +1,21 @@
 -- Demand 3 at the shipboard end, the second half. The idea, as ashore: from Opening or Open on the unit goes along with the course of the
 -- bytes. Each row of the table is one way in which both go on; at the end the row of data says what is due.
 use mathlib.Core.Path.{◌≡◌, refl, sym, ◌∙◌, ap, ap₂, subst}
-use mathlib.Core.Logic.{◌↔◌, ◌⊎◌, inl, inr, ◌≢◌}
+use mathlib.Core.Logic.{◌↔◌, ◌⊎◌, inl, inr}
 use mathlib.Core.Bool.{Bool, true, false}
 use mathlib.Core.List.{List, [], ◌∷◌, ◌++◌}
-use Prim.Native.Nat.{ℕ, ◌+◌, ◌-◌, ◌<◌}
+use Prim.Native.Nat.{ℕ, ◌+◌, ◌<◌}
 use native.Mathlib.Omega.{arith}
-use lib.ListN.{length, take, get_or}
+use lib.ListN.{length, get_or}
 use lib.Dec.{eqb}
-use borrow.Author.Tests.{eqb-true, ne_eqb}
+use borrow.Author.Tests.{eqb-true}
 use Rattle.digest.specs.Pick.{pick}
 use Rattle.digest.specs.Hmac.{hmac}
 use Rattle.digest.specs.Mac.{size_of}
 use Rattle.record.specs.Code.{fragment_by, code_by}
 use Rattle.record.specs.Protection.{genuine_under}
 use Rattle.record.specs.Window.{accept_of, Held}
-use Rattle.record.specs.History.{window_of, arrived_of, accepted, highest_of}
+use Rattle.record.specs.History.{window_of, arrived_of, accepted}
 use Rattle.record.specs.declared.header.Content.{Content}
 use Rattle.record.specs.declared.header.Content.TheVariants as C
 use Rattle.record.specs.declared.keys.Keys.{Keys}
@@ -25,20 +25,18 @@ use Rattle.record.specs.declared.window.Window.{Window}
 use Rattle.record.specs.declared.window.Acceptance.{Acceptance}
 use Rattle.record.specs.declared.window.Acceptance.TheVariants as A
 use Rattle.record.proofs.Histories.{all_below, accepted_here, accepted_still}
-use Rattle.message.specs.Alert.{alert_of}
 use Rattle.message.specs.Finished.{judged_of}
-use Rattle.message.specs.Handshake.{fills}
-use Rattle.message.specs.Request.{is_request, hello_request}
+use Rattle.message.specs.Request.{is_request}
 use Rattle.message.specs.declared.finished.Verified.{Verified}
 use Rattle.message.specs.declared.finished.Verified.TheVariants as F
-use Rattle.connection.specs.Answer.{handed_of, part_at}
+use Rattle.connection.specs.Answer.{part_at}
 use Rattle.connection.specs.Judge.{fragment_of}
 use Rattle.connection.specs.declared.refusal.Refusal.TheVariants as X
 use Rattle.unit.specs.State.{kind_of, opened_rule, rule_of}
 use Rattle.unit.specs.Answer.{as_ashore}
 use Rattle.unit.specs.Agree.{judged}
 use Rattle.unit.specs.Calls.{closed_of, closed_in, started_of, started_in}
-use Rattle.unit.specs.Hello.{hello_sent, again_sent, may_hello}
+use Rattle.unit.specs.Hello.{hello_sent, may_hello}
 use Rattle.unit.specs.Judge.{kind_in, judged_record}
 use Rattle.unit.specs.Send.{data_sent, alert_sent}
 use Rattle.unit.specs.Unit.{with_state, with_window}
@@ -46,7 +44,6 @@ use Rattle.unit.specs.declared.state.State.{State}
 use Rattle.unit.specs.declared.state.State.TheVariants as S
 use Rattle.unit.specs.declared.state.Kind.{Kind}
 use Rattle.unit.specs.declared.state.Kind.TheVariants as K
-use Rattle.unit.specs.declared.state.Rule.{Rule}
 use Rattle.unit.specs.declared.state.Rule.TheVariants as T
 use Rattle.unit.specs.declared.answer.Answer.{Answer}
 use Rattle.unit.specs.declared.answer.Answer.TheVariants as W
@@ -55,8 +52,8 @@ use Rattle.unit.specs.declared.unit.Unit.{Unit as Ship}
 use Rattle.demands.specs.Genuine.{RecordOf}
 use Rattle.demands.specs.Past.{is_data}
 use Rattle.demands.specs.Course.{Course, is_new, level_shuts, alert_shuts, finished_shuts, content_shuts}
-use Rattle.demands.specs.Ship.Genuine.{Protected, Genuine, shore_key, genuine_bytes, content_bytes}
-use Rattle.demands.specs.Ship.Table.{Midway, Up, Over, Ruled, New, Stays, Shuts, Marked, Row, forgotten}
+use Rattle.demands.specs.Ship.Genuine.{Protected, shore_key, genuine_bytes}
+use Rattle.demands.specs.Ship.Table.{Midway, Up, Over, New, Stays, Shuts, Marked, Row, forgotten}
 use Rattle.demands.specs.Ship.Table.{at_end, not_allowed, not_first, forged, too_old_lem, repeated, bad_hello, bad_request, bad_change, bad_alert, unacceptable, checksum, ignored_request, reported_request, warning}
 use Rattle.demands.specs.Ship.Table.{critical, fatal, no_change, no_alert, no_message, no_data, some_data, protected_warning, repeated_finished, protected_critical, protected_ignored, protected_reported, finished_again, wrong_finished}
 use Rattle.demands.specs.Ship.Table.{row_stays, row_shuts, row_hello, row_change, row_marked, row_opens, row_bars}
@@ -68,9 +65,9 @@ use Rattle.demands.proofs.Genuine.{true_false}
 use Rattle.demands.proofs.Kept.{window_more}
 use Rattle.demands.proofs.Exactly.Reasons.{clash, decide}
 use Rattle.demands.proofs.Exactly.Content.{not_finished}
-use Rattle.demands.proofs.HandedOut.{new_facts, is_new_lem, new_is, old_is, repeated_is, due_below, due_new, part_is, grows_by, width_by}
-use Rattle.demands.proofs.Ship.Genuine.{protected_right, protected_content, bytes-right, bytes-wrong}
-use Rattle.demands.proofs.Ship.Table.{protected_kind, Guards, spec-alert, spec-handshake, up-change, up-alert, up-handshake, up-data, ruled-says, ruled-protected, is-protected-kind, row_of, row_is}
+use Rattle.demands.proofs.HandedOut.{new_facts, is_new_lem, new_is, old_is, repeated_is, due_below, due_new, part_is, grows_by}
+use Rattle.demands.proofs.Ship.Genuine.{protected_content, bytes-right, bytes-wrong}
+use Rattle.demands.proofs.Ship.Table.{protected_kind, Guards, spec-alert, spec-handshake, up-change, up-alert, up-handshake, up-data, ruled-says, is-protected-kind, row_of, row_is}
 use Rattle.demands.proofs.Ship.Changes.{data-alike, alert-alike, again_same, hello-refused, hello-up}
 
 -- ---- states

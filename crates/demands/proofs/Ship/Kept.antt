@@ -1,6 +1,5 @@
 -- The window follows the history: each row changes both alike, by the law of layer 2 (`Histories.meaning`).
-use mathlib.Core.Path.{◌≡◌, refl, sym, ◌∙◌, ap, ap₂, subst}
-use mathlib.Core.Logic.{◌⊎◌, inl, inr}
+use mathlib.Core.Path.{◌≡◌, refl, sym, ◌∙◌, ap, ap₂}
 use mathlib.Core.Bool.{Bool, true, false}
 use mathlib.Core.List.{List, [], ◌∷◌}
 use Prim.Native.Nat.{ℕ, ◌+◌}
@@ -22,7 +21,7 @@ use Rattle.unit.specs.Agree.{agreed_with}
 use Rattle.unit.specs.Answer.{as_ashore}
 use Rattle.unit.specs.Calls.{closed_in, started_in}
 use Rattle.unit.specs.Hello.{hello_datagram, offer_of, may_hello, greeted_with, hello_as, hello_sent, hello_output, again_sent, again_output}
-use Rattle.unit.specs.Judge.{kind_in, judged_record}
+use Rattle.unit.specs.Judge.{kind_in}
 use Rattle.unit.specs.Send.{data_sent, data_output, alert_sent, alert_output}
 use Rattle.unit.specs.Unit.{with_state, with_window, opened}
 use Rattle.unit.specs.Protected.{flight_size}
@@ -41,14 +40,14 @@ use Rattle.demands.specs.Ship.Table.{New, Stays, Shuts, Marked, Row, forgotten}
 use Rattle.demands.specs.Ship.Table.{at_end, not_allowed, not_first, forged, too_old_lem, repeated, bad_hello, bad_request, bad_change, bad_alert, unacceptable, checksum, ignored_request, reported_request, warning}
 use Rattle.demands.specs.Ship.Table.{critical, fatal, no_change, no_alert, no_message, no_data, some_data, protected_warning, repeated_finished, protected_critical, protected_ignored, protected_reported, finished_again, wrong_finished}
 use Rattle.demands.specs.Ship.Table.{row_stays, row_shuts, row_hello, row_change, row_marked, row_opens, row_bars}
-use Rattle.demands.specs.Ship.Events.{Event, took, greeting, repeating, sending, alerting, closing, starting, next, after, Happened, answered, greeted, said_again_lem, wrote, closed, started, refused, if_done, written_by, happening, history}
+use Rattle.demands.specs.Ship.Events.{Event, took, greeting, repeating, sending, alerting, closing, starting, next, after, Happened, answered, greeted, said_again_lem, wrote, closed, started, if_done, written_by, happening, history}
 use Rattle.demands.specs.Ship.Runs.{fresh_ship}
 use Rattle.demands.specs.Ship.Past.{marks, accepted_in}
 use Rattle.demands.specs.Ship.Kept.{WindowIsWhatHappened}
 use Rattle.demands.proofs.Exactly.Reasons.{decide}
 use Rattle.demands.proofs.Kept.{window_more}
 use Rattle.demands.proofs.Ship.Table.{protected_kind, ruled-says, is-protected-kind, row_of}
-use Rattle.demands.proofs.Ship.Changes.{data-alike, alert-alike, again_same, hello-refused}
+use Rattle.demands.proofs.Ship.Changes.{data-alike, alert-alike, again_same}
 
 both_no : (b : Bool) → pick b false false ≡ false
 both_no true = refl

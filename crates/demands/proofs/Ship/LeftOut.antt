@@ -1,24 +1,22 @@
 -- Demand 3, the first half. The idea: in Opening and Open, under the same keys, a record that is not genuine leaves the unit as it was and
 -- hands out nothing; once something closed, every record does.
-use mathlib.Core.Path.{◌≡◌, refl, sym, ◌∙◌, ap, ap₂, subst}
+use mathlib.Core.Path.{◌≡◌, refl, sym, ◌∙◌, ap, subst}
 use mathlib.Core.Logic.{◌⊎◌, inl, inr}
-use mathlib.Core.Bool.{Bool, true, false}
+use mathlib.Core.Bool.{false}
 use mathlib.Core.List.{List, [], ◌∷◌, ◌++◌}
 use Prim.Native.Nat.{ℕ}
 use lib.ListN.{length}
 use Rattle.digest.specs.Pick.{pick}
 use Rattle.record.specs.declared.keys.Keys.{Keys}
 use Rattle.record.specs.declared.reader.Record.{Record}
-use Rattle.record.specs.declared.window.Window.{Window}
 use Rattle.connection.specs.declared.refusal.Refusal.TheVariants as X
 use Rattle.unit.specs.Agree.{judged}
 use Rattle.unit.specs.Answer.{as_ashore}
-use Rattle.unit.specs.Calls.{closed_of, closed_in, started_of, started_in}
+use Rattle.unit.specs.Calls.{closed_in, started_of, started_in}
 use Rattle.unit.specs.Hello.{hello_sent, may_hello}
 use Rattle.unit.specs.Judge.{kind_in, judged_record}
 use Rattle.unit.specs.Send.{data_sent, alert_sent}
 use Rattle.unit.specs.State.{rule_of}
-use Rattle.unit.specs.Unit.{with_state, with_window, barred}
 use Rattle.unit.specs.declared.state.State.{State}
 use Rattle.unit.specs.declared.state.State.TheVariants as S
 use Rattle.unit.specs.declared.state.Rule.TheVariants as T
@@ -29,7 +27,7 @@ use Rattle.unit.specs.declared.unit.Unit.{Unit as Ship}
 use Rattle.demands.specs.Genuine.{RecordOf}
 use Rattle.demands.specs.Past.{is_data}
 use Rattle.demands.specs.Ship.Genuine.{Protected, Genuine}
-use Rattle.demands.specs.Ship.Table.{Midway, Up, Over, Ruled, New, Stays, Shuts, Marked, Row}
+use Rattle.demands.specs.Ship.Table.{Up, Over, Shuts, Marked, Row}
 use Rattle.demands.specs.Ship.Table.{at_end, critical, fatal, no_change, no_alert, no_message, no_data, some_data, protected_warning, repeated_finished, protected_critical, protected_ignored, protected_reported, finished_again, wrong_finished}
 use Rattle.demands.specs.Ship.Table.{row_stays, row_shuts, row_hello, row_change, row_marked, row_opens, row_bars}
 use Rattle.demands.specs.Ship.Changes.{Alike}
@@ -38,7 +36,7 @@ use Rattle.demands.specs.Ship.HandedOut.{handed_by}
 use Rattle.demands.specs.Ship.LeftOut.{GoesOn, Without, ends, both, but, handed_at, handed_over, LeavesOutRecords}
 use Rattle.demands.proofs.Ship.Table.{ruled-says, row_of, row_is}
 use Rattle.demands.proofs.Ship.Changes.{data-alike, alert-alike, again_same, hello-refused, hello-up}
-use Rattle.demands.proofs.Ship.HandedOut.{up-not-midway, up-not-over, stays-silent}
+use Rattle.demands.proofs.Ship.HandedOut.{up-not-midway, stays-silent}
 
 -- up under the keys k, or over
 pub Settled : Keys → Ship → Type 0

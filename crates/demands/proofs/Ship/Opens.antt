@@ -11,7 +11,6 @@ use Rattle.digest.specs.Bytes.{laid_over}
 use Rattle.record.specs.Datagram.{framed, framing_of}
 use Rattle.record.specs.declared.keys.Keys.{Keys}
 use Rattle.record.specs.declared.reader.Record.{Record}
-use Rattle.unit.specs.Agree.{judged}
 use Rattle.unit.specs.Answer.{opens_by, opens_to}
 use Rattle.unit.specs.Judge.{judged_record}
 use Rattle.unit.specs.Protected.{flight_size}
@@ -30,7 +29,7 @@ use Rattle.demands.specs.Ship.Table.{critical, fatal, no_change, no_alert, no_me
 use Rattle.demands.specs.Ship.Table.{row_stays, row_shuts, row_hello, row_change, row_marked, row_opens, row_bars}
 use Rattle.demands.specs.Ship.Runs.{receive, step_of}
 use Rattle.demands.specs.Ship.Refusals.{written_by}
-use Rattle.demands.specs.Ship.Opens.{FlightWritten, OpenWrites}
+use Rattle.demands.specs.Ship.Opens.{OpenWrites}
 use Rattle.demands.proofs.Ship.Table.{ruled-says, row_of}
 use Rattle.demands.proofs.Ship.HandedOut.{up-not-midway, up-not-over}
 use Rattle.demands.proofs.Ship.LeftOut.{over-seven}

@@ -1,18 +1,15 @@
 -- A refusal changes nothing but what the list names: by the rows of the table for a record, by the tests for a call.
-use mathlib.Core.Path.{◌≡◌, refl, sym, ◌∙◌, ap, ap₂, subst}
-use mathlib.Core.Logic.{◌⊎◌, inl, inr}
+use mathlib.Core.Path.{◌≡◌, refl, sym, ◌∙◌, ap, subst}
 use mathlib.Core.Bool.{Bool, true, false}
-use mathlib.Core.List.{List, [], ◌∷◌, ◌++◌}
-use Prim.Native.Nat.{ℕ, ◌+◌, ◌≤◌, ◌<◌}
-use native.Mathlib.Omega.{arith}
+use mathlib.Core.List.{List, []}
+use Prim.Native.Nat.{ℕ, ◌<◌}
 use lib.ListN.{length}
 use lib.Dec.{eqb, ltb, leb}
 use borrow.Author.Tests.{ltb-true, lt-leb}
 use Rattle.digest.specs.Pick.{pick}
 use Rattle.digest.specs.Bytes.{laid_over}
 use Rattle.record.specs.Datagram.{Framing, framed, faulty, framing_of}
-use Rattle.record.specs.Protection.{next_record, wrote_by, output_by, writing, counted_on}
-use Rattle.record.specs.Window.{accept_of}
+use Rattle.record.specs.Protection.{next_record, wrote_by, output_by}
 use Rattle.record.specs.Written.{written_of}
 use Rattle.record.specs.declared.header.Content.{Content}
 use Rattle.record.specs.declared.header.Content.TheVariants as C
@@ -31,10 +28,8 @@ use Rattle.message.specs.declared.offer.Named.TheVariants.{Are, Others}
 use Rattle.connection.specs.Send.{alert_body}
 use Rattle.connection.specs.declared.calls.Outcome.{Outcome}
 use Rattle.connection.specs.declared.calls.Outcome.TheVariants.{Done, Refused}
-use Rattle.connection.specs.declared.receive.Taken.TheVariants as T
-use Rattle.connection.specs.declared.refusal.Refusal.{Refusal}
 use Rattle.connection.specs.declared.refusal.Refusal.TheVariants as X
-use Rattle.unit.specs.Calls.{closed_of, closed_in, started_of, started_in}
+use Rattle.unit.specs.Calls.{closed_in, started_in}
 use Rattle.unit.specs.Hello.{hello_datagram, offer_of, may_hello, greeted_with, hello_as, hello_sent, hello_output_as, hello_output, said_again, hello_said, again_in, again_output_in}
 use Rattle.unit.specs.Judge.{kind_in, judged_record}
 use Rattle.unit.specs.Receive.{run_of, whole_of, framed_to, received_of, sent_of, output_of}
@@ -52,14 +47,14 @@ use Rattle.unit.specs.declared.state.Rule.TheVariants as R
 use Rattle.unit.specs.declared.unit.Unit.{Unit as Ship}
 use Rattle.unit.proofs.Sending.{unwritten}
 use Rattle.demands.specs.Refusals.{NotTaken, NotDone}
-use Rattle.demands.specs.Ship.Table.{Over, Ruled, New, Stays, Shuts, Marked, Row}
+use Rattle.demands.specs.Ship.Table.{New, Stays, Shuts, Marked, Row}
 use Rattle.demands.specs.Ship.Table.{at_end, not_allowed, not_first, forged, too_old_lem, repeated, bad_hello, bad_request, bad_change, bad_alert, unacceptable, checksum, ignored_request, reported_request, warning}
 use Rattle.demands.specs.Ship.Table.{critical, fatal, no_change, no_alert, no_message, no_data, some_data, protected_warning, repeated_finished, protected_critical, protected_ignored, protected_reported, finished_again, wrong_finished}
 use Rattle.demands.specs.Ship.Table.{row_stays, row_shuts, row_hello, row_change, row_marked, row_opens, row_bars}
-use Rattle.demands.specs.Ship.Runs.{Call, hello, again, receive, send_data, send_alert, close, start, Step, step_of}
-use Rattle.demands.specs.Ship.Refusals.{lent_by, IsRefused, written_by, RefusedCallChangesNothing, marked, marked_as, refused_leaves, RefusedRecordChangesNothing}
+use Rattle.demands.specs.Ship.Runs.{hello, again, receive, send_data, send_alert, close, start, step_of}
+use Rattle.demands.specs.Ship.Refusals.{IsRefused, written_by, RefusedCallChangesNothing, marked, marked_as, refused_leaves, RefusedRecordChangesNothing}
 use Rattle.demands.proofs.Exactly.Reasons.{decide}
-use Rattle.demands.proofs.Ship.Table.{protected_kind, ruled-says, ruled-protected, is-protected-kind, row_of}
+use Rattle.demands.proofs.Ship.Table.{protected_kind, ruled-says, is-protected-kind, row_of}
 
 -- ---- a record
 

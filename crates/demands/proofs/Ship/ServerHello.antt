@@ -1,18 +1,16 @@
 -- A ServerHello, by what is written of its values. The idea: the well-formed ones are exactly those that the writer writes (layer 3),
 -- and the terms are the tests on those values.
 use mathlib.Core.Path.{◌≡◌, refl, sym, ap, subst, ◌∙◌}
-use mathlib.Core.Logic.{◌⊎◌, ◌≢◌, inl, inr}
-use mathlib.Core.Bool.{Bool, true, false}
+use mathlib.Core.Logic.{inl, inr}
+use mathlib.Core.Bool.{true, false}
 use mathlib.Core.List.{List}
-use Prim.Native.Nat.{ℕ, ◌+◌, ◌≤◌, ◌<◌}
+use Prim.Native.Nat.{ℕ, ◌+◌}
 use native.Mathlib.Omega.{arith}
 use lib.ListN.{length}
 use lib.Dec.{eqb, ltb}
 use borrow.Author.Tests.{eqb-true, eqb-false, ltb-true, ltb-false}
-use Rattle.digest.specs.Pick.{pick}
 use Rattle.digest.specs.Mac.{listed_as, same_bytes}
 use Rattle.digest.proofs.Same.{same_equal, equal_same}
-use Rattle.digest.specs.declared.mac.Mac.{Mac}
 use Rattle.digest.specs.declared.mac.Mac.TheVariants as M
 use Rattle.digest.specs.declared.mac.Listed.{Listed}
 use Rattle.digest.specs.declared.mac.Listed.TheVariants as L

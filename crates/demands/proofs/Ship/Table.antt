@@ -1,10 +1,10 @@
 -- The unit's table holds. The idea: the rule of a record decides what is tested next; each way out of the tests is a row, and each row
 -- leads the tests to its end.
 use mathlib.Core.Path.{◌≡◌, refl, sym, ◌∙◌, ap, ap₂, subst}
-use mathlib.Core.Logic.{◌↔◌, ◌⊎◌, inl, inr, ◌≢◌}
+use mathlib.Core.Logic.{◌⊎◌, inl, inr}
 use mathlib.Core.Bool.{Bool, true, false}
 use mathlib.Core.List.{List}
-use Prim.Native.Nat.{ℕ, ◌+◌, ◌<◌}
+use Prim.Native.Nat.{ℕ, ◌+◌}
 use native.Mathlib.Omega.{arith}
 use lib.ListN.{length, get_or, take}
 use lib.Seq.{take_at}
@@ -14,7 +14,7 @@ use Rattle.digest.specs.Pick.{pick}
 use Rattle.digest.specs.Hmac.{hmac}
 use Rattle.digest.specs.Mac.{size_of}
 use Rattle.record.specs.Code.{fragment_by, code_by}
-use Rattle.record.specs.Protection.{opened_by, opened_to, opening}
+use Rattle.record.specs.Protection.{opened_to}
 use Rattle.record.specs.Window.{accept_of, emptied}
 use Rattle.record.specs.declared.header.Content.{Content}
 use Rattle.record.specs.declared.header.Content.TheVariants as C
@@ -24,7 +24,6 @@ use Rattle.record.specs.declared.window.Acceptance.{Acceptance}
 use Rattle.record.specs.declared.window.Acceptance.TheVariants as A
 use Rattle.record.specs.declared.protection.Opening.{Opening}
 use Rattle.record.specs.declared.reader.Record.{Record}
-use Rattle.record.specs.declared.protection.Opened.TheVariants as O
 use Rattle.record.proofs.Protected.{coded_opens, uncoded_forged}
 use Rattle.message.specs.Agreement.{agreement_of}
 use Rattle.message.specs.Alert.{alert_of, description_number}
@@ -46,10 +45,10 @@ use Rattle.connection.specs.declared.refusal.Refusal.TheVariants as X
 use Rattle.unit.specs.State.{kind_of, rule_of, settled}
 use Rattle.unit.specs.Step.{step, refusing}
 use Rattle.unit.specs.Clear.{request_in, changed_by, by_level, heard_by, heard_alert, requested_by}
-use Rattle.unit.specs.Protected.{flight_size, finished_in, verified_to, verified_by, handshake_by, warned, protected_level, alerted_to, alerted_by, content_by, unprotected_to, unprotected_by}
-use Rattle.unit.specs.Unit.{with_state, with_window, opened, barred, moved, left_by}
-use Rattle.unit.specs.Agree.{agreed_to, agreed_by, agreed_with, judged}
-use Rattle.unit.specs.Judge.{kind_in, agrees, step_by, stepped_by, ruled_by, judged_record}
+use Rattle.unit.specs.Protected.{finished_in, verified_to, verified_by, handshake_by, warned, protected_level, alerted_to, alerted_by, content_by, unprotected_to, unprotected_by}
+use Rattle.unit.specs.Unit.{with_state, with_window, left_by}
+use Rattle.unit.specs.Agree.{agreed_to, agreed_by, judged}
+use Rattle.unit.specs.Judge.{kind_in, step_by, stepped_by, ruled_by, judged_record}
 use Rattle.unit.specs.declared.state.State.{State}
 use Rattle.unit.specs.declared.state.State.TheVariants as S
 use Rattle.unit.specs.declared.state.Kind.{Kind}

@@ -8,11 +8,8 @@ use native.Mathlib.Omega.{arith}
 use lib.ListN.{length, take, get_or, replicate}
 use lib.Dec.{eqb, ltb, leb}
 use borrow.Author.Tests.{le-leb, ltb-false}
-use Rattle.digest.specs.Pick.{pick}
 use Rattle.digest.specs.Bytes.{laid_over}
-use Rattle.digest.specs.Hmac.{hmac}
 use Rattle.digest.specs.Mac.{size_of}
-use Rattle.record.specs.Code.{protected_by}
 use Rattle.record.specs.Datagram.{Framing, framed, faulty, framing_of}
 use Rattle.record.specs.Keys.{secret_for}
 use Rattle.record.specs.Protection.{record_under, next_record, wrote_by, output_by}

@@ -1,5 +1,5 @@
 -- What a call changes of the unit, and nothing else of it.
-use Rattle.std.specs.Prelude.{◌≡◌, Bool, List, ℕ, length}
+use Rattle.std.specs.Prelude.{◌≡◌, Bool, List, ℕ}
 use Rattle.unit.specs.Hello.{again_sent}
 use Rattle.unit.specs.Send.{data_sent, alert_sent}
 use Rattle.unit.specs.declared.unit.Unit.{Unit as Ship}

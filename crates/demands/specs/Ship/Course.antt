@@ -1,6 +1,6 @@
 -- Demand 3 at the shipboard end by the bytes and the calls: which numbers the shore's records have used up, and whether one of them, or
 -- we, closed. What closes is said ashore.
-use Rattle.std.specs.Prelude.{◌≡◌, Bool, true, false, List, [], ◌∷◌, ℕ, ◌+◌, ◌<◌, length}
+use Rattle.std.specs.Prelude.{◌≡◌, true, false, List, [], ◌∷◌, ℕ, ◌+◌, ◌<◌, length}
 use Rattle.digest.specs.Pick.{pick}
 use Rattle.record.specs.Window.{Held}
 use Rattle.record.specs.History.{accepted, window_of}

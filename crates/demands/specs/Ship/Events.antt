@@ -1,6 +1,6 @@
 -- A run of a unit, record by record. A call to receive that is not refused as a whole is its records, one after the other, as
 -- ashore. So a place in a run is a place between two events, also inside a datagram.
-use Rattle.std.specs.Prelude.{◌≡◌, Bool, true, false, List, [], ◌∷◌, ◌++◌, map, ℕ, length, take, ltb}
+use Rattle.std.specs.Prelude.{Bool, true, List, [], ◌∷◌, ◌++◌, map, ℕ, length, take, ltb}
 use Rattle.digest.specs.Pick.{pick}
 use Rattle.record.specs.Datagram.{Framing, framed, faulty, framing_of}
 use Rattle.record.specs.declared.reader.Record.{Record}

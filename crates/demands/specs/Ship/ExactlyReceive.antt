@@ -2,7 +2,7 @@
 -- framing from the front .., then one answer per record"). Here 16 has no place, 6 is for room under 128, and each record is answered in
 -- the state that the earlier ones left. Framing is said ashore, over the bytes.
 use Rattle.std.specs.Prelude.{◌≡◌, ◌↔◌, List, [], ℕ, ◌≤◌, ◌<◌, length, get_or, take}
-use Rattle.record.specs.Datagram.{framed, framing_of, blank}
+use Rattle.record.specs.Datagram.{framed, framing_of}
 use Rattle.record.specs.declared.reader.Record.{Record}
 use Rattle.connection.specs.declared.receive.Taken.TheVariants as T
 use Rattle.connection.specs.declared.refusal.Refusal.{Refusal}

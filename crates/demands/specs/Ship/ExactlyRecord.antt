@@ -1,7 +1,7 @@
 -- The refusals of a record at the shipboard end, each exactly when (02, P7: "document 01's numbers; .. each in document 01's order"):
 -- "Per record: 7; then place and state (18, 8); then code and window; then content 12, then 13, 14 or 17." 18 has no place here. Said over
 -- the bytes of the datagram, the state, the numbers accepted before and the records sent. What the bytes of a record say is said ashore.
-use Rattle.std.specs.Prelude.{◌≡◌, ◌↔◌, ◌⊎◌, ◌≢◌, Bool, true, false, List, [], ◌∷◌, ℕ, ◌+◌, ◌≤◌, ◌<◌, length, get_or, drop}
+use Rattle.std.specs.Prelude.{◌≡◌, ◌↔◌, ◌⊎◌, ◌≢◌, true, false, List, [], ◌∷◌, ℕ, ◌+◌, ◌≤◌, ◌<◌, length, get_or, drop}
 use Rattle.digest.specs.Bytes.{word_at}
 use Rattle.digest.specs.Hmac.{hmac}
 use Rattle.digest.specs.Mac.{size_of}

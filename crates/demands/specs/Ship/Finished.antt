@@ -1,6 +1,6 @@
 -- Demand 2 at the shipboard end: data is handed out only after the shore's Finished was verified in that handshake (02, P7: "verify our
 -- Finished").
-use Rattle.std.specs.Prelude.{◌≡◌, Bool, true, false, List, [], ◌∷◌, ◌++◌, ℕ}
+use Rattle.std.specs.Prelude.{◌≡◌, false, List, [], ◌∷◌, ◌++◌, ℕ}
 use Rattle.record.specs.declared.header.Content.TheVariants as C
 use Rattle.record.specs.declared.reader.Record.{Record}
 use Rattle.message.specs.Agreement.{agreement_of}
@@ -18,7 +18,7 @@ use Rattle.demands.specs.Ship.Genuine.{Protected}
 use Rattle.demands.specs.Ship.Events.{Event, after, Happened, answered, greeted, said_again_lem, wrote, closed, started, refused, history}
 use Rattle.demands.specs.Ship.Runs.{fresh_ship}
 use Rattle.demands.specs.Ship.HandedOut.{HandsOut}
-use Rattle.demands.specs.Ship.Past.{is_hello, Read, read, last_read, keys_for}
+use Rattle.demands.specs.Ship.Past.{is_hello, read, last_read, keys_for}
 
 -- no hello, no ServerHello, no closing and no start
 abbrev pub Quiet : List Happened → Type 0

@@ -1,6 +1,6 @@
 -- Demand 3 at the shipboard end: "Each genuine data record of at least one byte, whose number was not accepted before and is above the
 -- highest accepted less" the width, "is handed out by that very call, once, as sent." From any unit in Opening or Open.
-use Rattle.std.specs.Prelude.{◌≡◌, ◌↔◌, ◌≢◌, true, false, List, [], ◌∷◌, ◌++◌, ℕ}
+use Rattle.std.specs.Prelude.{◌≡◌, ◌↔◌, ◌≢◌, true, false, List, ◌∷◌, ◌++◌, ℕ}
 use Rattle.record.specs.Window.{Held}
 use Rattle.record.specs.History.{window_of}
 use Rattle.record.specs.declared.keys.Keys.{Keys}

@@ -1,6 +1,6 @@
 -- A run of calls is a run of events: a receive is its records, one after the other, and the answer of each stands in its place. So what
 -- is said over events holds of runs of calls.
-use Rattle.std.specs.Prelude.{◌≡◌, List, [], ◌∷◌, ◌++◌, map, ℕ, ◌≤◌, length}
+use Rattle.std.specs.Prelude.{◌≡◌, List, ◌∷◌, ◌++◌, map, ℕ, ◌≤◌, length}
 use Rattle.record.specs.Datagram.{framed, framing_of}
 use Rattle.record.specs.declared.reader.Record.{Record}
 use Rattle.unit.specs.Judge.{judged_record}

@@ -1,7 +1,7 @@
 -- The unit's state table (02, P7) as rules from the state and the bytes of a record to its answer and to what it leaves: "the reply's
 -- records are checked from the front, each in document 01's order"; 01: "Per record: 7; then place and state (18, 8); then code and
 -- window; then content 12, then 13, 14 or 17." 18 has no place here. Each outcome is written out, not left to the unit.
-use Rattle.std.specs.Prelude.{◌≡◌, ◌↔◌, ◌⊎◌, ◌≢◌, Bool, true, false, List, ℕ, ◌+◌, ◌<◌, length, replicate, eqb}
+use Rattle.std.specs.Prelude.{◌≡◌, ◌↔◌, ◌⊎◌, ◌≢◌, true, false, List, ℕ, ◌+◌, ◌<◌, length, replicate, eqb}
 use Rattle.record.specs.Window.{accept_of, emptied}
 use Rattle.record.specs.declared.window.Window.{Window}
 use Rattle.record.specs.declared.window.Acceptance.TheVariants as A

@@ -11,8 +11,10 @@ open_window-window-requires c = saved_size c.args.state.now (sym c.is_saved.ensu
 
 pub returns-then-is_saved : goal.returns-then-is_saved
 unfolding width_result
-returns-then-is_saved c = record { exact = test_yes _ c.is_saved.ensures.exact c.if-is_saved.true
-    (c.result_of.ensures.exact ∙ ap (λ (n : ℕ). result_of 0 0 n) (ap (λ (w : Window). w.width) c.open_window-window.ensures)) }
+returns-then-is_saved c = record {
+  exact = test_yes _ c.is_saved.ensures.exact c.if-is_saved.true
+      (c.result_of.ensures.exact ∙ ap (λ (n : ℕ). result_of 0 0 n) (ap (λ (w : Window). w.width) c.open_window-window.ensures));
+}
 
 pub returns : goal.returns
 unfolding width_result

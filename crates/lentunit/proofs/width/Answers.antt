@@ -14,8 +14,10 @@ window_in-window-requires c = saved_size c.args.state.now (sym c.is_saved.ensure
 
 pub returns-then-is_saved : goal.returns-then-is_saved
 unfolding width_result unit_in protection_in
-returns-then-is_saved c = record { exact = test_yes _ c.is_saved.ensures c.if-is_saved.true
-    (c.result_of.ensures.exact ∙ ap (λ (n : ℕ). result_of 0 0 n) (ap (λ (w : Window). w.width) c.window_in-window.ensures)) }
+returns-then-is_saved c = record {
+  exact = test_yes _ c.is_saved.ensures c.if-is_saved.true
+      (c.result_of.ensures.exact ∙ ap (λ (n : ℕ). result_of 0 0 n) (ap (λ (w : Window). w.width) c.window_in-window.ensures));
+}
 
 pub returns : goal.returns
 unfolding width_result unit_in protection_in

@@ -1,5 +1,4 @@
 -- `speed_codes`: each code that is made is the code of the message.
-use Prim.Native.Nat.{◌-◌}
 use mathlib.Core.Path.{◌∙◌, ap}
 use borrow.Author.Rules.{rules}
 use Rattle.digest.specs.Bytes.{laid_within}

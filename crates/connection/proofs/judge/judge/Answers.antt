@@ -3,7 +3,6 @@ use Prim.Native.Nat.{◌+◌, ◌-◌}
 use mathlib.Core.Path.{◌≡◌, ap}
 use lib.ListN.{take, drop}
 use Rattle.connection.specs.Judge.{judged_record}
-use Rattle.connection.specs.State.{rule_of}
 use Rattle.connection.proofs.Filling.{ruled_as}
 use native.Mathlib.Omega.{arith}
 use Rattle.connection.proofs.judge.judge.Goals as goal

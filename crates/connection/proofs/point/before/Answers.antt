@@ -1,5 +1,4 @@
 -- `point::before`: after i turns, the connection that the first i records leave.
-use Prim.Native.Nat.{◌-◌}
 use mathlib.Core.Path.{◌≡◌, ◌∙◌, ap}
 use lib.ListN.{take}
 use Rattle.record.proofs.Covering.{walkable}

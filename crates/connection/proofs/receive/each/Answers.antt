@@ -1,7 +1,5 @@
 -- `receive::each`: before record i the records in front of it are answered, each in the state that those before it left.
-use Prim.Native.Nat.{◌-◌}
 use mathlib.Core.Path.{◌≡◌, sym, ◌∙◌, ap}
-use mathlib.Core.Logic.{⊎_elim}
 use native.Mathlib.Omega.{arith}
 use Rattle.digest.specs.Bytes.{laid_over}
 use Rattle.connection.specs.Handshake.{with_window}
@@ -54,12 +52,12 @@ loop-i-preserved c = let s = c.step_by-step.result in
     let r = c.record_at-r.result in
     let left_is : c.if-stays.left ≡ left_with old (led_by h s.window s.next) old.sent who
     = elim c.if-stays.branch [
-        then-stays w ↦
+      | then-stays w ↦
           w.left-is
           ∙ (λ i. connection_of (with_window old.handshake (w.open_window-first.ensures i)) (with_window old.started (w.started_window-second.ensures i)) old.sent)
           ∙ stayed old _ r who h s c.whom_of-who.ensures c.asked-h.ensures (is_stay_lem s.next (sym c.stays.ensures ∙ w.if-stays.true))
       | else-stays w ↦ w.left-is ∙ w.moved-left.ensures ∙ ap (λ k. left_with old k old.sent who) w.led.ensures
-      ] in
+    ] in
     (c.loop-i.invariant.0, goes_on c.loop-i.invariant.1 r who h s c.if-stays.left c.loop-i-test.true c.record_at-r.ensures c.whom_of-who.ensures c.asked-h.ensures c.step_by-step.ensures left_is)
 
 pub shape_of-out : goal.shape_of-out

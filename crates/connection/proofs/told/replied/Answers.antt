@@ -1,6 +1,5 @@
 -- `told::replied`: its three records.
 use mathlib.Core.Path.{sym, ◌∙◌}
-use Prim.Native.Nat.{◌-◌}
 use lib.Seq.{length-take-le}
 use native.Mathlib.Omega.{arith}
 use Rattle.connection.specs.Told.{replied_with}

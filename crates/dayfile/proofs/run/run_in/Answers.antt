@@ -1,6 +1,5 @@
 -- `run_in`: the loop keeps `Ran`; each report moves it one on.
 use mathlib.Core.Path.{sym, ◌∙◌}
-use Prim.Native.Nat.{◌-◌}
 use lib.ListN.{length-drop}
 use Rattle.dayfile.proofs.Fronts.{front_is, short_nothing}
 use Rattle.dayfile.proofs.Running.{begun, go_on, ended}

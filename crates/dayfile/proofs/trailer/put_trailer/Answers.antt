@@ -1,6 +1,6 @@
 -- `put_trailer`: the loop keeps `Putting`; the sizes that it reads stand before what it writes.
 use mathlib.Core.Path.{refl, sym, ◌∙◌, ap, subst}
-use Prim.Native.Nat.{ℕ, ◌+◌, ◌-◌}
+use Prim.Native.Nat.{ℕ, ◌+◌}
 use lib.ListN.{length, set, length-set}
 use Rattle.digest.specs.Bytes.{bytes2}
 use Rattle.digest.proofs.Lay.{length_laid}

@@ -1,6 +1,6 @@
 -- `trailer_stands`: the loop keeps `Matching`; a number that differs, or a length, tells that the files do.
 use mathlib.Core.Path.{sym, ◌∙◌, ap, subst}
-use Prim.Native.Nat.{ℕ, ◌+◌, ◌-◌}
+use Prim.Native.Nat.{ℕ, ◌+◌}
 use lib.Dec.{eqb}
 use Rattle.dayfile.proofs.Trailing.{Matching, match_begun, match_next, match_differs, match_done, other_length, other_opening, pair_there, last_there, step, count_in_lem}
 use native.Mathlib.Omega.{arith}

@@ -1,6 +1,5 @@
 -- `are_sized`: the loop keeps `Sizing`, the definition opened one size at a time.
 use mathlib.Core.Path.{refl}
-use Prim.Native.Nat.{◌-◌}
 use Rattle.dayfile.proofs.Lending.{too_small, too_large, too_many, sized_on, sized_end}
 use native.Mathlib.Omega.{arith}
 use Rattle.dayfile.proofs.write.are_sized.Goals as goal

@@ -1,6 +1,6 @@
 -- `put_report`: four pieces laid one behind the other are the report.
 use mathlib.Core.Path.{◌≡◌, refl, ◌∙◌, ap}
-use Prim.Native.Nat.{◌+◌, ◌-◌}
+use Prim.Native.Nat.{◌+◌}
 use lib.ListN.{length, set, length-set}
 use Rattle.digest.specs.Bytes.{bytes2}
 use Rattle.digest.proofs.Lay.{length_laid}

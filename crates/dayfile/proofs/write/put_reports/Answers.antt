@@ -1,6 +1,5 @@
 -- `put_reports`: the loop keeps `Laid`; one report more is laid behind the others.
 use mathlib.Core.Path.{◌∙◌}
-use Prim.Native.Nat.{◌-◌}
 use lib.ListN.{get_or}
 use Rattle.dayfile.proofs.Lending.{laid_begun, laid_on, laid_done, laid_next, fits_next, room_next, part_length, report_again}
 use native.Mathlib.Omega.{arith}

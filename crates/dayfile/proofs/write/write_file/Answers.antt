@@ -1,6 +1,6 @@
 -- `write_file`: the tests of the definition, in its order; then the reports, and the trailer behind them.
 use mathlib.Core.Path.{sym, ◌∙◌, ap}
-use Prim.Native.Nat.{◌+◌, ◌-◌, ◌*◌}
+use Prim.Native.Nat.{◌+◌, ◌*◌}
 use lib.ListN.{length}
 use Rattle.digest.proofs.Lay.{length_laid}
 use Rattle.dayfile.specs.File.{body_of}
@@ -36,6 +36,9 @@ put_trailer-requires c = let l = list_of c.args.numbers.now c.args.sizes.now c.a
 pub returns : goal.returns
 returns c = let l = list_of c.args.numbers.now c.args.sizes.now c.args.bytes.now in
     let long = (long_listed c.args.numbers.now c.args.sizes.now c.args.bytes.now c.if-numbers-count.false (sym c.are_sized.ensures ∙ c.if-not-are_sized.false)) in
-    let o = outcome c.args.out.now _ _ (lent_written c.args.numbers.now c.args.sizes.now c.args.bytes.now (length c.args.out.now) c.if-numbers-count.false (sym c.are_sized.ensures ∙ c.if-not-are_sized.false) c.if-count-gt4096.false (omega (arith, c.if-count-bytes.false, c.if-count-gt4096.false)) c.if-out-size.false) in record { exact = ap Written (sym (lent_size c.args.numbers.now c.args.sizes.now c.args.bytes.now (length c.args.out.now) c.if-numbers-count.false (sym c.are_sized.ensures ∙ c.if-not-are_sized.false))) ∙ o.told; bytes = c.put_trailer.ensures
+    let o = outcome c.args.out.now _ _ (lent_written c.args.numbers.now c.args.sizes.now c.args.bytes.now (length c.args.out.now) c.if-numbers-count.false (sym c.are_sized.ensures ∙ c.if-not-are_sized.false) c.if-count-gt4096.false (omega (arith, c.if-count-bytes.false, c.if-count-gt4096.false)) c.if-out-size.false) in record {
+      exact = ap Written (sym (lent_size c.args.numbers.now c.args.sizes.now c.args.bytes.now (length c.args.out.now) c.if-numbers-count.false (sym c.are_sized.ensures ∙ c.if-not-are_sized.false))) ∙ o.told;
+      bytes = c.put_trailer.ensures
           ∙ laid_file c.args.out.now _ l (length c.args.sizes.now) (length c.args.bytes.now + 5 * length c.args.sizes.now) (sound_listed c.args.numbers.now c.args.sizes.now c.args.bytes.now c.if-numbers-count.false (sym c.are_sized.ensures ∙ c.if-not-are_sized.false) (λ k. omega (arith, c.shared_slice_known-1.given k))) c.put_reports.ensures (many_listed c.args.numbers.now c.args.sizes.now c.args.bytes.now c.if-numbers-count.false) long (omega (arith, c.if-out-size.false))
-          ∙ o.held }
+          ∙ o.held;
+    }

@@ -1,5 +1,4 @@
 -- `shift`: the loop keeps `Shifted`.
-use Prim.Native.Nat.{◌-◌}
 use native.Mathlib.Omega.{arith}
 use Rattle.gather.proofs.Laying.{nothing_moved, one_moved, all_moved}
 use Rattle.gather.proofs.gatherer.shift.Goals as goal

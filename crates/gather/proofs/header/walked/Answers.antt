@@ -1,7 +1,6 @@
 -- `walked`: the loop keeps `Walking`, and each way out of it answers for the whole header.
 use Prim.Native.Nat.{◌+◌}
 use mathlib.Core.Path.{sym, refl, ◌∙◌}
-use Prim.Native.Nat.{◌-◌}
 use native.Mathlib.Omega.{arith}
 use Rattle.gather.proofs.Walking.{begun, fault_lone, fault_past, fault_element, go_on, done}
 use Rattle.gather.proofs.header.walked.Goals as goal

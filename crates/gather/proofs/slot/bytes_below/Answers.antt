@@ -3,7 +3,6 @@ use Rattle.gather.specs.Slot.{sum_of}
 use lib.ListN.{take}
 use mathlib.Core.Path.{ap, ◌∙◌}
 use borrow.Author.Rules.{rules}
-use Prim.Native.Nat.{◌-◌}
 use mathlib.Core.Path.{◌≡◌}
 use native.Mathlib.Omega.{arith}
 use Rattle.gather.proofs.Sums.{none_yet, one_more, cut_down, all_there}

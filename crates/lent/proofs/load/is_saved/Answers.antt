@@ -18,10 +18,12 @@ returns-then-four_in-ne-MARK c = record { exact = let same : ◌≡◌ {A = Bool
 
 pub returns-then-is_handshake : goal.returns-then-is_handshake
 unfolding is_saved
-returns-then-is_handshake c = record { exact = let b = c.args.b.now in
-    if_eq _ (length b) 940 (omega arith)
-    (if_eq _ (word_at b 0) 0x57544704 (omega (arith, c.four_in.ensures))
-    (pick_yes _ _ _ _ _ (sym c.is_handshake.ensures ∙ c.if-is_handshake.true) c.is_handshake-then-is_handshake.ensures)) }
+returns-then-is_handshake c = record {
+  exact = let b = c.args.b.now in
+      if_eq _ (length b) 940 (omega arith)
+      (if_eq _ (word_at b 0) 0x57544704 (omega (arith, c.four_in.ensures))
+      (pick_yes _ _ _ _ _ (sym c.is_handshake.ensures ∙ c.if-is_handshake.true) c.is_handshake-then-is_handshake.ensures));
+}
 
 pub returns : goal.returns
 unfolding is_saved

@@ -1,7 +1,6 @@
 -- `report::put_answers`: after i turns the first i answers are laid.
 use mathlib.Core.Path.{◌≡◌, ap}
 use native.Mathlib.Omega.{arith}
-use Prim.Native.Nat.{◌-◌}
 use Rattle.lent.specs.Report.{entry_bytes, report_first, report_of}
 use Rattle.lent.proofs.Laying.{laid_none, laid_whole}
 use Rattle.lent.proofs.Reading.{report_more, length_entry}

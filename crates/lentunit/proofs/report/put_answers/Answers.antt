@@ -1,7 +1,7 @@
 -- `report::put_answers`: after i turns the first i answers are laid.
 use mathlib.Core.Path.{◌≡◌, ◌∙◌, ap}
 use native.Mathlib.Omega.{arith}
-use Prim.Native.Nat.{◌-◌, ◌*◌}
+use Prim.Native.Nat.{◌*◌}
 use Rattle.lent.specs.Report.{entry_bytes}
 use Rattle.lentunit.specs.Report.{report_first, report_of}
 use Rattle.lent.proofs.Laying.{laid_none, laid_whole}

@@ -1,7 +1,6 @@
 -- `facts::put_eight`: after i turns the first i numbers are laid.
 use mathlib.Core.Path.{◌≡◌}
 use native.Mathlib.Omega.{arith}
-use Prim.Native.Nat.{◌-◌}
 use Rattle.lentwhy.specs.Facts.{spelled_first}
 use Rattle.lent.proofs.Laying.{laid_none}
 use Rattle.lentwhy.proofs.Spelling.{spelled_more, spelled_all}

@@ -21,38 +21,38 @@ returns-in_default c = rw (sym c.same_code.ensures.exact, c.if-not-same_code.fal
 pub returns-then-not-has_null : goal.returns-then-not-has_null
 unfolding accepted_of
 returns-then-not-has_null c = rw (
-      sym c.same_code.ensures.exact,
-      c.if-not-same_code.false,
-      sym c.first_fit.ensures,
-      sym c.listed.ensures.exact,
-      c.in-Is.is,
-      sym c.has_null.ensures,
-      c.if-not-has_null.true,
-    )
+  sym c.same_code.ensures.exact,
+  c.if-not-same_code.false,
+  sym c.first_fit.ensures,
+  sym c.listed.ensures.exact,
+  c.in-Is.is,
+  sym c.has_null.ensures,
+  c.if-not-has_null.true,
+)
     (if_eq _ c.args.version 1 (omega arith) refl)
 
 pub returns-then-numbering-ne2 : goal.returns-then-numbering-ne2
 unfolding accepted_of
 returns-then-numbering-ne2 c = rw (
-      sym c.same_code.ensures.exact,
-      c.if-not-same_code.false,
-      sym c.first_fit.ensures,
-      sym c.listed.ensures.exact,
-      c.in-Is.is,
-      sym c.has_null.ensures,
-      c.if-not-has_null.false,
-    )
+  sym c.same_code.ensures.exact,
+  c.if-not-same_code.false,
+  sym c.first_fit.ensures,
+  sym c.listed.ensures.exact,
+  c.in-Is.is,
+  sym c.has_null.ensures,
+  c.if-not-has_null.false,
+)
     (if_eq _ c.args.version 1 (omega arith) (if_ne _ c.args.numbering 2 (λ z. omega arith) refl))
 
 pub returns : goal.returns
 unfolding accepted_of
 returns c = rw (
-      sym c.same_code.ensures.exact,
-      c.if-not-same_code.false,
-      sym c.first_fit.ensures,
-      sym c.listed.ensures.exact,
-      c.in-Is.is,
-      sym c.has_null.ensures,
-      c.if-not-has_null.false,
-    )
+  sym c.same_code.ensures.exact,
+  c.if-not-same_code.false,
+  sym c.first_fit.ensures,
+  sym c.listed.ensures.exact,
+  c.in-Is.is,
+  sym c.has_null.ensures,
+  c.if-not-has_null.false,
+)
     (if_eq _ c.args.version 1 (omega arith) (if_eq _ c.args.numbering 2 (omega arith) refl))

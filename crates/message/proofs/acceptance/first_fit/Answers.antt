@@ -2,7 +2,6 @@
 -- The measure is what is left. Assumes nothing.
 use native.Mathlib.Omega.{arith}
 use mathlib.Core.Path.{refl, sym, ◌∙◌}
-use Prim.Native.Nat.{◌-◌}
 use Rattle.message.proofs.Accepting.{fit_here, fit_later, fit_none, fit_odd}
 use Rattle.message.proofs.acceptance.first_fit.Goals as goal
 

@@ -2,7 +2,6 @@
 -- it. The measure is what is left. Assumes nothing.
 use native.Mathlib.Omega.{arith}
 use mathlib.Core.Path.{refl, sym, ◌∙◌}
-use Prim.Native.Nat.{◌-◌}
 use Rattle.message.proofs.Accepting.{null_here, null_later, null_none}
 use Rattle.message.proofs.acceptance.has_null.Goals as goal
 

@@ -16,6 +16,9 @@ returns-then-m-at-2 c = let a = c.args in
     record { value = long_cut a.m.now a.at (omega arith); upper_bound = omega arith }
 
 pub returns : goal.returns
-returns c = let a = c.args in record { value = c.field_end.ensures.value
-          ∙ ap (field_end a.m.now (a.at + 2)) c.two_at.ensures.0
-          ∙ long_fits a.m.now a.at (omega arith); upper_bound = c.field_end.ensures.upper_bound }
+returns c = let a = c.args in record {
+  value = c.field_end.ensures.value
+      ∙ ap (field_end a.m.now (a.at + 2)) c.two_at.ensures.0
+      ∙ long_fits a.m.now a.at (omega arith);
+  upper_bound = c.field_end.ensures.upper_bound;
+}

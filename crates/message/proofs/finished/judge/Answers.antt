@@ -17,21 +17,21 @@ returns-then-not-fills_with c = rw (sym c.fills_with.ensures, c.if-not-fills_wit
 pub returns-then-same_code : goal.returns-then-same_code
 unfolding judged_of
 returns-then-same_code c = rw (
-      sym c.fills_with.ensures,
-      c.if-not-fills_with.false,
-      sym c.part.ensures,
-      sym c.same_code.ensures.exact,
-      c.if-same_code.true,
-    )
+  sym c.fills_with.ensures,
+  c.if-not-fills_with.false,
+  sym c.part.ensures,
+  sym c.same_code.ensures.exact,
+  c.if-same_code.true,
+)
     (if_eq _ (length c.args.m.now) 15 (omega arith) refl)
 
 pub returns : goal.returns
 unfolding judged_of
 returns c = rw (
-      sym c.fills_with.ensures,
-      c.if-not-fills_with.false,
-      sym c.part.ensures,
-      sym c.same_code.ensures.exact,
-      c.if-same_code.false,
-    )
+  sym c.fills_with.ensures,
+  c.if-not-fills_with.false,
+  sym c.part.ensures,
+  sym c.same_code.ensures.exact,
+  c.if-same_code.false,
+)
     (if_eq _ (length c.args.m.now) 15 (omega arith) refl)

@@ -34,6 +34,9 @@ pub returns-in_default : goal.returns-in_default
 unfolding identifier_end
 returns-in_default c = let s = c.args.s.now in
     let at = c.args.at in
-    let kind = get_or s at 0 in record { value = if_lt _ at (length s) (omega arith)
+    let kind = get_or s at 0 in record {
+      value = if_lt _ at (length s) (omega arith)
           (if_ne _ kind 0 (omega arith)
-          (if_ne _ kind 1 (omega arith) (if_ne _ kind 2 (omega arith) (if_ne _ kind 254 (omega arith) (if_ne _ kind 255 (omega arith) refl))))); upper_bound = omega arith }
+          (if_ne _ kind 1 (omega arith) (if_ne _ kind 2 (omega arith) (if_ne _ kind 254 (omega arith) (if_ne _ kind 255 (omega arith) refl)))));
+      upper_bound = omega arith;
+    }

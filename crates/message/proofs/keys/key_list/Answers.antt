@@ -2,7 +2,6 @@
 -- reached succeeds. The measure is what is left. Assumes nothing.
 use native.Mathlib.Omega.{arith}
 use mathlib.Core.Path.{refl, sym, ◌∙◌, ap}
-use Prim.Native.Nat.{◌-◌}
 use lib.ListN.{length}
 use Rattle.message.specs.Keys.{entries_from, key_list}
 use Rattle.message.proofs.Entries.{past_entry, entries_step, entries_fault, entries_done}
@@ -27,11 +26,11 @@ loop-at-smaller c = let s = c.args.s.now in
 
 pub loop-at-preserved : goal.loop-at-preserved
 loop-at-preserved c = let s = c.args.s.now in (
-      c.entry_end-end.ensures.upper_bound,
-      c.loop-at.invariant.1
-          ∙ entries_step s _ c.loop-at-test.true (λ e. c.if-end-eq0.false (c.entry_end-end.ensures.value ∙ e))
-          ∙ ap (entries_from (length s) s) (sym c.entry_end-end.ensures.value),
-    )
+  c.entry_end-end.ensures.upper_bound,
+  c.loop-at.invariant.1
+      ∙ entries_step s _ c.loop-at-test.true (λ e. c.if-end-eq0.false (c.entry_end-end.ensures.value ∙ e))
+      ∙ ap (entries_from (length s) s) (sym c.entry_end-end.ensures.value),
+)
 
 pub returns : goal.returns
 returns c = let s = c.args.s.now in

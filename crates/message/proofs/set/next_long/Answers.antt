@@ -13,5 +13,8 @@ returns-then-two_from-eq0 c = let a = c.args in record { value = long_empty a.s.
 
 pub returns : goal.returns
 returns c = let a = c.args in
-    let t = c.two_from in record { value = c.long_end.ensures.value
-          ∙ sym (long_some a.s.now a.at c.if-at-eq0.false (λ z. c.if-two_from-eq0.false (t.ensures ∙ z))); upper_bound = c.long_end.ensures.upper_bound }
+    let t = c.two_from in record {
+      value = c.long_end.ensures.value
+          ∙ sym (long_some a.s.now a.at c.if-at-eq0.false (λ z. c.if-two_from-eq0.false (t.ensures ∙ z)));
+      upper_bound = c.long_end.ensures.upper_bound;
+    }

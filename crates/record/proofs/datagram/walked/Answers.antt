@@ -1,6 +1,6 @@
 -- `walked`: the loop keeps `Walked`, and each way out of it gives the framing of the whole datagram.
 use mathlib.Core.Path.{◌≡◌, sym, ap, ◌∙◌}
-use Prim.Native.Nat.{ℕ, ◌-◌}
+use Prim.Native.Nat.{ℕ}
 use mathlib.Core.List.{List}
 use lib.ListN.{drop, length-drop}
 use native.Mathlib.Omega.{arith}

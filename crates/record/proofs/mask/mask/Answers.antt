@@ -1,7 +1,7 @@
 -- `mask`: before a turn the bytes up to an even place are masked, and those from there on are as they were.
 use mathlib.Core.Path.{refl, ◌∙◌}
 use mathlib.Core.List.{List}
-use Prim.Native.Nat.{ℕ, ◌+◌, ◌-◌, ◌/◌, ◌%◌}
+use Prim.Native.Nat.{ℕ, ◌+◌, ◌/◌, ◌%◌}
 use native.Mathlib.Omega.{arith}
 use lib.Bits.{bit_xor}
 use lib.ListN.{get_or, set, length-set}

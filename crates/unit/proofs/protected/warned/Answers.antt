@@ -3,7 +3,6 @@ use mathlib.Core.Path.{refl, sym}
 use Rattle.digest.proofs.Picks.{if_eq, if_ne}
 use native.Mathlib.Omega.{arith}
 use Rattle.unit.specs.Protected.{warned}
-use Rattle.message.specs.Alert.{description_number}
 use Rattle.unit.proofs.protected.warned.Goals as goal
 
 pub returns-then-description_number-eq57 : goal.returns-then-description_number-eq57

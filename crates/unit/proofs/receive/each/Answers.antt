@@ -1,5 +1,4 @@
 -- `receive::each`: after i turns the first i records are answered, each in the state that those before it left.
-use Prim.Native.Nat.{◌-◌}
 use mathlib.Core.Path.{◌≡◌, refl, ◌∙◌, ap}
 use Rattle.digest.specs.Bytes.{laid_over}
 use Rattle.record.proofs.Covering.{walkable}

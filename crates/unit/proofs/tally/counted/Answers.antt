@@ -1,5 +1,4 @@
 -- `tally::counted`: after i turns the first i answers are counted.
-use Prim.Native.Nat.{◌-◌}
 use mathlib.Core.Path.{◌≡◌, refl, ◌∙◌, ap, ap₂, sym}
 use native.Mathlib.Numerals.{add-one}
 use Rattle.connection.specs.Tally.{counted_answer}

@@ -1,6 +1,5 @@
 -- `SentRecords::matches`: what is left to search decides.
 use mathlib.Core.Path.{refl, sym, ◌∙◌}
-use Prim.Native.Nat.{◌-◌}
 use lib.ListN.{take}
 use lib.Seq.{get_or-take}
 use Rattle.connection.proofs.Recorded.{past_end, match_here, no_match_here, front_most, in_front}

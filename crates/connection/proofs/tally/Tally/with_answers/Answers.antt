@@ -1,5 +1,4 @@
 -- `Tally::with_answers`: after i turns the first i answers are counted.
-use Prim.Native.Nat.{◌-◌}
 use mathlib.Core.Path.{◌≡◌, refl, ◌∙◌, ap, sym}
 use native.Mathlib.Numerals.{add-one}
 use lib.ListN.{get_or}

@@ -3,7 +3,6 @@ use mathlib.Core.Path.{◌∙◌, ap, ap₂}
 use Rattle.unit.specs.Unit.{left_by, with_state, opened, barred}
 use Rattle.unit.specs.declared.unit.Unit.{Unit}
 use Rattle.unit.specs.declared.state.State.TheVariants as S
-use Rattle.unit.specs.State.{settled}
 use Rattle.unit.proofs.unit.Unit.left_by.Goals as goal
 
 pub returns-in-Stay : goal.returns-in-Stay

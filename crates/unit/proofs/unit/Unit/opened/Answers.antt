@@ -1,7 +1,6 @@
 -- `Unit::opened`: the checksums of the flight's two records, then field by field.
 use mathlib.Core.Path.{◌≡◌, sym, ◌∙◌, ap, ap₂}
 use native.Mathlib.Omega.{arith}
-use Prim.Native.Nat.{◌-◌}
 use lib.ListN.{length}
 use lib.Seq.{length-take-le}
 use Rattle.digest.specs.Mac.{size_of}
