@@ -55,7 +55,7 @@ pub record FatalRow (h : Handshake) (d : List ℕ) (r : Record) : Type 0 where
   pub a : Alert
   pub new : New h d r c w
   pub alert : r.content ≡ C.Alert
-  pub well_formed_lem : alert_of c ≡ R.WellFormed a
+  pub well_formed : alert_of c ≡ R.WellFormed a
   pub fatal : a.level ≡ L.Fatal
 
 module _ (h : Handshake) (sent : SentRecords) (random d : List ℕ) (r : Record) (nb : h.state ≢ S.Barred) where
@@ -85,7 +85,7 @@ module _ (h : Handshake) (sent : SentRecords) (random d : List ℕ) (r : Record)
   by_fatal (row_data c w n e m) z = absurd (nb z)
   by_fatal (row_warning c w b n e m l) z = absurd (nb z)
   by_fatal (row_critical c w b n e m l) z = let v : ◌≡◌ {A = ℕ} 0 1 = cc in absurd (omega arith)
-  by_fatal (row_barred c w b n e m l) z = record { c = c; w = w; a = b; new = n; alert = e; well_formed_lem = m; fatal = l }
+  by_fatal (row_barred c w b n e m l) z = record { c = c; w = w; a = b; new = n; alert = e; well_formed = m; fatal = l }
   by_fatal (row_open c w n s e m) z = let v : ◌≡◌ {A = ℕ} 0 1 = cc in absurd (omega arith)
   by_fatal (row_again c w n s e m) z = absurd (nb z)
   by_fatal (row_wrong_finished c w n e m) z = let v : ◌≡◌ {A = ℕ} 0 1 = cc in absurd (omega arith)
@@ -138,7 +138,7 @@ under_code h sent random d r at f =
       arrived = f.new.arrived;
       new = f.new.accepted;
       alert = f.alert;
-      well_formed_lem = f.well_formed_lem;
+      well_formed = f.well_formed;
       fatal = f.fatal;
     }
 

@@ -230,8 +230,8 @@ eighty = lit≤ tt
 
 -- ---- too old, repeated, late
 
-too_old_lem : Answered (W.Refused X.TooOld)
-too_old_lem =
+too_old : Answered (W.Refused X.TooOld)
+too_old =
     at_open (run_with 80 eighty) (with_window h w₈₀) (with_sound 80 eighty) (with_leaves 80 eighty w₈₀ 1 takes_80) w.open_is refl (data_with 7 seven) (data_record 7 seven) _
     (data_framed 7 seven) (data_protected 7 seven) (data_whole 7 seven) (old_row 7 seven w₈₀ old_7)
 
@@ -367,7 +367,7 @@ cases =
       sha_80 = open_with example_walk Sha80 example_mac;
       sha = open_with sha_walk Sha sha_mac;
       forged = forged;
-      too_old_lem = too_old_lem;
+      too_old = too_old;
       repeated = repeated;
       crossed = crossed;
       sent_clear = sent_clear;

@@ -67,7 +67,7 @@ module _ (session : Session) {width : ℕ} (past : List Happened) (h : Handshake
       let coded : Protected (keys_of h) d r c = subst (λ k. Protected k d r c) (sym (keys_are session past h p (past_live g))) f.genuine.protected_as in
       let n : New h d r c (window_of width (r.number ∷ accepted_in past))
       = record { guarded = g; coded = coded; arrived = arrived_of width (r.number ∷ accepted_in past); accepted = new_by_past c a f } in
-      let is = row_is h sent random d r (row_barred c (window_of width (r.number ∷ accepted_in past)) a n f.alert f.well_formed_lem f.fatal) in
+      let is = row_is h sent random d r (row_barred c (window_of width (r.number ∷ accepted_in past)) a n f.alert f.well_formed f.fatal) in
       (ap (λ j. j.answer) is, ap (λ j. j.handshake.state) is)
 
   only_so : h.state ≢ S.Barred → (next h (took sent random d r)).state ≡ S.Barred
@@ -84,7 +84,7 @@ module _ (session : Session) {width : ℕ} (past : List Happened) (h : Handshake
           record {
             genuine = record { in_place = at; protected_as = subst (λ k. Protected k d r f.c) (keys_are session past h p (past_live g)) f.new.coded };
             alert = f.alert;
-            well_formed_lem = f.well_formed_lem;
+            well_formed = f.well_formed;
             fatal = f.fatal;
             not_before = q.1;
             recent = all_below width (accepted_in past) r.number q.0;

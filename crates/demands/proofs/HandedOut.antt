@@ -23,7 +23,7 @@ use Rattle.record.specs.declared.window.Window.{Window}
 use Rattle.record.specs.declared.window.Acceptance.{Acceptance}
 use Rattle.record.specs.declared.window.Acceptance.TheVariants as A
 use Rattle.record.proofs.Histories.{meaning, new_means, old_means, repeated_means, new_when, all_below, below_all, accepted_here, accepted_still, held_some}
-use Rattle.message.specs.Finished.{judged_of as verdictOf}
+use Rattle.message.specs.Finished.{judged_of as verdict_of}
 use Rattle.message.specs.declared.finished.Verified.{Verified as Verdict}
 use Rattle.message.specs.declared.finished.Verified.TheVariants as F
 use Rattle.connection.specs.Answer.{handed_of, part_at}
@@ -182,8 +182,8 @@ module _ (k : Keys) (expected : List ℕ) (course : Course) (h : Handshake) (a :
       closes_by c w n t ec f x ew g =
           used c w n x ew (λ y. true_false (content_shuts r.content c expected) (ap (λ v. content_shuts v c expected) ec ∙ f) y) (λ _. g)
 
-      verdict_at : (c : List ℕ) (x : Verdict) → verdictOf c h.expected ≡ x → verdictOf c expected ≡ x
-      verdict_at c x e = sym (ap (verdictOf c) (a.expected_same z)) ∙ e
+      verdict_at : (c : List ℕ) (x : Verdict) → verdict_of c h.expected ≡ x → verdict_of c expected ≡ x
+      verdict_at c x e = sym (ap (verdict_of c) (a.expected_same z)) ∙ e
 
       malformed_shuts : (c : List ℕ) (t : Content) → MalformedAs t c h.expected → content_shuts t c expected ≡ false
       malformed_shuts c C.ChangeCipherSpec m = refl

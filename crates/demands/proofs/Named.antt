@@ -130,8 +130,8 @@ old_reason =
     (for_open (with_window h w₈₀) (data_with 7 seven) (data_record 7 seven) open_is (data_protected 7 seven)) X.TooOld
     (ap (λ j. j.answer) (row_is (with_window h w₈₀) no_records example_random (data_with 7 seven) (data_record 7 seven) (old_row 7 seven w₈₀ old_7)))
 
-too_old_lem : Named (R.TooOld U.Open 7 80 16)
-too_old_lem =
+too_old : Named (R.TooOld U.Open 7 80 16)
+too_old =
     record {
       es = run_with 80 eighty;
       sound = with_sound 80 eighty;
@@ -161,4 +161,4 @@ repeated =
     }
 
 pub named_cases : NamedCases
-named_cases = record { empty = empty; version = version; too_old_lem = too_old_lem; repeated = repeated }
+named_cases = record { empty = empty; version = version; too_old = too_old; repeated = repeated }

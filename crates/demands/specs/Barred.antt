@@ -47,7 +47,7 @@ pub record FatalUnderCode (h : Handshake) (e : Event) : Type 0 where
   pub arrived : ℕ
   pub new : accept_of h.protection.window r.number ≡ A.New w arrived
   pub alert : r.content ≡ C.Alert
-  pub well_formed_lem : alert_of c ≡ R.WellFormed a
+  pub well_formed : alert_of c ≡ R.WellFormed a
   pub fatal : a.level ≡ L.Fatal
 
 -- Barred is reached by a genuine, new fatal alert only

@@ -65,7 +65,7 @@ pub record Cases : Type 0 where
   pub sha_80 : OpenWith Sha80
   pub sha : OpenWith Sha
   pub forged : Answered (Refused X.Forged)
-  pub too_old_lem : Answered (Refused X.TooOld)
+  pub too_old : Answered (Refused X.TooOld)
   pub repeated : Answered (Refused X.Repeated)
   pub crossed : Crossed
   pub sent_clear : SentClear

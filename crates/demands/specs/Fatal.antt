@@ -32,7 +32,7 @@ pub record FatalAt (width : ℕ) (session : Session) (past : List Happened) (d :
     (a : Alert) : Type 0 where
   pub genuine : Genuine (keys_in session past) d r c
   pub alert : r.content ≡ C.Alert
-  pub well_formed_lem : alert_of c ≡ R.WellFormed a
+  pub well_formed : alert_of c ≡ R.WellFormed a
   pub fatal : a.level ≡ L.Fatal
   -- "whose number was not accepted before and is above the highest accepted less 32": less the width
   pub not_before : accepted (accepted_in past) r.number ≡ false

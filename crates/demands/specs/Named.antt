@@ -24,5 +24,5 @@ pub record NamedCases : Type 0 where
   -- a hello of version 2, which is the byte behind three of the record's header and three of the message's
   pub version : Named (R.Unacceptable N.Version 6 1)
   -- number 7 where 80 was accepted, at a width of 64; and number 7 again, whose mark is the lowest
-  pub too_old_lem : Named (R.TooOld U.Open 7 80 16)
+  pub too_old : Named (R.TooOld U.Open 7 80 16)
   pub repeated : Named (R.Repeated U.Open 7 7 0)

@@ -14,7 +14,7 @@ use Rattle.record.specs.declared.reader.Reading.TheVariants as Q
 use Rattle.message.specs.Alert.{alert_of, alert_bytes}
 use Rattle.message.specs.Change.{is_change, change_bytes}
 use Rattle.message.specs.Finished.{finished_of, judged_of}
-use Rattle.message.specs.Hello.{read_of as helloRead}
+use Rattle.message.specs.Hello.{read_of as hello_read}
 use Rattle.message.specs.Values.{Values, allowed, hello_of}
 use Rattle.message.specs.declared.alert.Level.{Level}
 use Rattle.message.specs.declared.alert.Description.{Description}
@@ -63,4 +63,4 @@ pub record ReadAsWritten : Type 0 where
   pub finisheds : (m v : List ℕ) → length v ≡ 12 → (judged_of m v ≡ F.Right) ↔ (m ≡ finished_of v)
   -- hellos, of bytes
   pub hellos : (m : List ℕ) → ((i : ℕ) → get_or m i 0 < 256)
-      → ((h : Hello) × (helloRead m ≡ W.WellFormed h)) ↔ ((v : Values) × (allowed v ≡ true) × (hello_of v ≡ m))
+      → ((h : Hello) × (hello_read m ≡ W.WellFormed h)) ↔ ((v : Values) × (allowed v ≡ true) × (hello_of v ≡ m))

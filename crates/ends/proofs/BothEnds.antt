@@ -555,10 +555,10 @@ module _ (k : Keys) (e : Ends) (by_unit by_shore : List (List ℕ)) (doings : Li
   unit_width = e.unit.protection.window.width
 
   to_shore : Holds k FromUnit ashore_expected unit_first j.width by_unit [] unit_first [] shore_course
-  to_shore = begun_holds k FromUnit ashore_expected by_unit unit_first j.width (accepted_in (past_of j.id j.secret j.width j.acts)) j.held j.from_unit_lem
+  to_shore = begun_holds k FromUnit ashore_expected by_unit unit_first j.width (accepted_in (past_of j.id j.secret j.width j.acts)) j.held j.from_unit
 
   to_ship : Holds k FromShore e.unit.expected shore_first unit_width by_shore [] shore_first [] unit_course
-  to_ship = begun_holds k FromShore e.unit.expected by_shore shore_first unit_width j.numbers j.holds.held j.from_shore_lem
+  to_ship = begun_holds k FromShore e.unit.expected by_shore shore_first unit_width j.numbers j.holds.held j.from_shore
 
   ran : Ran k ashore_expected e.unit.expected unit_first shore_first j.width unit_width e by_unit by_shore [] [] unit_first shore_first shore_course unit_course doings
   ran =

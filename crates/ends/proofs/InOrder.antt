@@ -159,7 +159,7 @@ module _ (s : Setting) (ls : ListedSetting s) where
   planted_aboard =
       rw (
         eq-eqb (length s.id) 8 ls.id_size,
-        eq-eqb (length s.secret) 20 ls.secret_size_lem,
+        eq-eqb (length s.secret) 20 ls.secret_size,
         le-ltb s.unit_width 32 ls.unit_held.0,
         le-ltb 64 s.unit_width ls.unit_held.1,
       ) refl
@@ -530,7 +530,7 @@ module _ (s : Setting) (ls : ListedSetting s) where
         reply = reply;
         flight = flight;
         planted_aboard = planted_aboard;
-        planted_ashore = fresh_row s.id s.secret s.shore_width (fresh_done ls.id_size ls.secret_size_lem ls.shore_held);
+        planted_ashore = fresh_row s.id s.secret s.shore_width (fresh_done ls.id_size ls.secret_size ls.shore_held);
         greets = greets r.for_hello lr.hello_room;
         hello_written = hello_written r.for_hello lr.hello_room;
         replies = replies r.for_reply lr.reply_room;

@@ -16,7 +16,7 @@ pub in_order_instances : InOrderInstances
 in_order_instances =
     let setting : ListedSetting example_setting = record {
       id_size = refl;
-      secret_size_lem = refl;
+      secret_size = refl;
       unit_held = (lit≤ tt, lit≤ tt);
       shore_held = (lit≤ tt, lit≤ tt);
       client_size = refl;

@@ -291,8 +291,8 @@ module _ (s : Setting) (ls : ListedSetting s) where
         numbers = 0 ∷ [];
         holds = holds;
         keys_aboard = P.unit_keys s ls;
-        from_unit_lem = subst (λ n. Begun kk FromUnit by_unit n numbers) (sym (P.next_aboard s ls))
+        from_unit = subst (λ n. Begun kk FromUnit by_unit n numbers) (sym (P.next_aboard s ls))
             (record { quiet = unit_quiet; opened = has_0 s.shore_width ls.shore_held numbers same_window; below = only_0 s.shore_width ls.shore_held numbers same_window });
-        from_shore_lem = subst (λ n. Begun kk FromShore by_shore n (0 ∷ [])) (sym (P.next_ashore s ls))
+        from_shore = subst (λ n. Begun kk FromShore by_shore n (0 ∷ [])) (sym (P.next_ashore s ls))
             (record { quiet = shore_quiet; opened = accepted_here 0 []; below = first_below });
       }

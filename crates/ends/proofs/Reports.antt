@@ -52,7 +52,7 @@ use Rattle.demands.specs.Calls.{Chain, chain_end, chain_more}
 use Rattle.demands.specs.Genuine.{keys_of}
 use Rattle.demands.specs.Table.{New, row_data}
 use Rattle.demands.proofs.Wire.{protected_framed, protected_fragment}
-use Rattle.ends.specs.Sides.{Ends, ends_of, handed_ashore, handed_aboard, Turn, from_unit_lem, from_shore_lem, sent_aboard, sent_ashore, turned, send_of, handed_in, report_in, ListedTurns, unit_turns, shore_turns, AllHanded}
+use Rattle.ends.specs.Sides.{Ends, ends_of, handed_ashore, handed_aboard, Turn, from_unit, from_shore, sent_aboard, sent_ashore, turned, send_of, handed_in, report_in, ListedTurns, unit_turns, shore_turns, AllHanded}
 use Rattle.ends.proofs.Aboard as Ship
 use Rattle.ends.proofs.Aboard.{Talks, data_taken, chained_end, chained_more}
 use Rattle.ends.proofs.Ashore as Shore
@@ -186,7 +186,7 @@ module _ (uw sw : ℕ) (held-unit : Held uw) (held-shore : Held sw) (e : Ends) (
     came : Shore.Took c d random space (r ∷ []) (W.Data n 3 (length bytes) ∷ []) left lr ls (reported_framed (keys_of h) FromUnit n few bytes some most) chain
     came = Shore.took c d random space (r ∷ []) (W.Data n 3 (length bytes) ∷ []) left lr ls (reported_framed (keys_of h) FromUnit n few bytes some most) chain
 
-    pub unit_turn : Handed uw sw e (from_unit_lem bytes out random space)
+    pub unit_turn : Handed uw sw e (from_unit bytes out random space)
     unfolding left unit_turns shore_turns
     unit_turn =
         let gives = ap (λ x. Ashore.received_of c x random (length space)) datagram ∙ came.gives in
@@ -251,7 +251,7 @@ module _ (uw sw : ℕ) (held-unit : Held uw) (held-shore : Held sw) (e : Ends) (
     came₂ : Ship.Took u d₂ space (r₂ ∷ []) (Y.Data n₂ 3 (length bytes) ∷ []) left₂ ls (reported_framed u.protection.keys FromShore n₂ few bytes some most) chain₂
     came₂ = Ship.took u d₂ space (r₂ ∷ []) (Y.Data n₂ 3 (length bytes) ∷ []) left₂ ls (reported_framed u.protection.keys FromShore n₂ few bytes some most) chain₂
 
-    pub shore_turn : Handed uw sw e (from_shore_lem bytes out space)
+    pub shore_turn : Handed uw sw e (from_shore bytes out space)
     unfolding left₂ unit_turns shore_turns
     shore_turn =
         let gives = ap (λ x. Aboard.received_of u x (length space)) datagram₂ ∙ came₂.gives in
@@ -287,18 +287,18 @@ module _ (uw sw : ℕ) (held-unit : Held uw) (held-shore : Held sw) where
       → AllHanded e turns
   unfolding unit_turns shore_turns
   all_handed [] e t l a b = tt
-  all_handed (from_unit_lem bytes out random space ∷ turns) e t (l, ls) a b =
+  all_handed (from_unit bytes out random space ∷ turns) e t (l, ls) a b =
       let q = unit_turn uw sw held-unit held-shore e t bytes out random space l.0 l.1 l.2 l.3 l.4 (omega arith) in (
         q.sent,
         q.handed,
-        all_handed turns (turned e (from_unit_lem bytes out random space)) q.together
+        all_handed turns (turned e (from_unit bytes out random space)) q.together
             (subst (λ (k : Keys). ListedTurns k.mac turns) (sym q.keys_kept) ls) (omega (arith, q.unit_next)) (omega (arith, q.shore_next)),
       )
-  all_handed (from_shore_lem bytes out space ∷ turns) e t (l, ls) a b =
+  all_handed (from_shore bytes out space ∷ turns) e t (l, ls) a b =
       let q = shore_turn uw sw held-unit held-shore e t bytes out space l.0 l.1
       (subst (λ (k : Keys). 3 + length bytes + size_of k.mac ≤ length out) t.same_keys l.2) l.3 (omega arith) in (
         q.sent,
         q.handed,
-        all_handed turns (turned e (from_shore_lem bytes out space)) q.together
+        all_handed turns (turned e (from_shore bytes out space)) q.together
             (subst (λ (k : Keys). ListedTurns k.mac turns) (sym q.keys_kept) ls) (omega (arith, q.unit_next)) (omega (arith, q.shore_next)),
       )

@@ -63,8 +63,8 @@ pub record JustOpen (k : Keys) (e : Ends) (by_unit by_shore : List (List ℕ)) :
   pub numbers : List ℕ
   pub holds : HoldsNumbers e.unit numbers
   pub keys_aboard : e.unit.protection.keys ≡ k
-  pub from_unit_lem : Begun k FromUnit by_unit e.unit.protection.protected (accepted_in (past_of id secret width acts))
-  pub from_shore_lem : Begun k FromShore by_shore e.shore.handshake.protection.protected numbers
+  pub from_unit : Begun k FromUnit by_unit e.unit.protection.protected (accepted_in (past_of id secret width acts))
+  pub from_shore : Begun k FromShore by_shore e.shore.handshake.protection.protected numbers
 
 -- ---- on the way
 

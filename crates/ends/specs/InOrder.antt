@@ -37,7 +37,7 @@ pub record Setting : Type 0 where
 -- arguments as listed
 pub record ListedSetting (s : Setting) : Type 0 where
   pub id_size : length s.id ≡ 8
-  pub secret_size_lem : length s.secret ≡ 20
+  pub secret_size : length s.secret ≡ 20
   pub unit_held : Held s.unit_width
   pub shore_held : Held s.shore_width
   pub client_size : length s.client ≡ 16

@@ -2,7 +2,7 @@
 use Rattle.std.specs.Prelude.{List, [], ◌∷◌, replicate}
 use Rattle.digest.specs.declared.mac.Mac.{Mac}
 use Rattle.demands.specs.Example.{example_id, example_secret, example_random, example_out, example_data}
-use Rattle.ends.specs.Sides.{Turn, from_unit_lem, from_shore_lem, ListedTurns}
+use Rattle.ends.specs.Sides.{Turn, from_unit, from_shore, ListedTurns}
 use Rattle.ends.specs.InOrder.{Setting, ListedSetting, Rooms, ListedRooms, Met}
 
 -- both kinds offered, refresh 3; the widths of the two windows differ
@@ -24,7 +24,7 @@ example_rooms =
     record { for_hello = example_out; for_reply = example_out; for_flight = example_out; random = example_random; for_none = example_out }
 
 abbrev pub example_turns : List Turn
-example_turns = from_unit_lem example_data example_out example_random example_out ∷ from_shore_lem example_data example_out example_out ∷ []
+example_turns = from_unit example_data example_out example_random example_out ∷ from_shore example_data example_out example_out ∷ []
 
 pub record InOrderInstances : Type 0 where
   pub setting : ListedSetting example_setting

@@ -83,7 +83,7 @@ calls_in state tally (receive d random out answers) =
     pick (lent_for state (length tally) (length answers)) (R.receive d random out ∷ []) []
 calls_in state tally (send_data bytes out) = pick (is_saved state) (R.send_data bytes out ∷ []) []
 calls_in state tally (send_alert protected level description answered out) =
-    pick (is_saved state) (sense protected (λ isProtected. R.send_alert isProtected level description answered out ∷ []) []) []
+    pick (is_saved state) (sense protected (λ is_protected. R.send_alert is_protected level description answered out ∷ []) []) []
 calls_in state tally close = pick (is_saved state) (R.close ∷ []) []
 calls_in state tally start = pick (is_saved state) (R.start ∷ []) []
 

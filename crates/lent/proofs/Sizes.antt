@@ -390,13 +390,13 @@ unfolding data_result
 data_written state bytes room saved =
     rw saved (written_part_lem (refusal_in (data_sent (connection_in state) bytes room).outcome) (data_sent (connection_in state) bytes room).written 0 (omega (arith, data_most (connection_in state) bytes room)))
 
-pub alert_written : (state : List ℕ) (isProtected : Bool) (protected level description : ℕ) (answered : List ℕ) (room : ℕ) → is_saved state ≡ true
-    → protected ≤ 1 → isProtected ≡ eqb protected 1
-    → written_part (alert_result state protected level description answered room) ≡ (alert_sent (connection_in state) isProtected level description answered room).written
+pub alert_written : (state : List ℕ) (is_protected : Bool) (protected level description : ℕ) (answered : List ℕ) (room : ℕ) → is_saved state ≡ true
+    → protected ≤ 1 → is_protected ≡ eqb protected 1
+    → written_part (alert_result state protected level description answered room) ≡ (alert_sent (connection_in state) is_protected level description answered room).written
 unfolding alert_result alert_sent
-alert_written state isProtected protected level description answered room saved h e =
+alert_written state is_protected protected level description answered room saved h e =
     let sent : Bool → Sent = λ b. alert_sent (connection_in state) b level description answered room in
     rw saved
     (sym (ap written_part (sense_in protected (λ b. sent_result (sent b)) not_taken h))
     ∙ ap (λ b. written_part (sent_result (sent b))) (sym e)
-    ∙ written_part_lem (refusal_in (sent isProtected).outcome) (sent isProtected).written 0 (omega (arith, alert_most (connection_in state) isProtected answered room (level_of level) (sorted_of description))))
+    ∙ written_part_lem (refusal_in (sent is_protected).outcome) (sent is_protected).written 0 (omega (arith, alert_most (connection_in state) is_protected answered room (level_of level) (sorted_of description))))

@@ -151,7 +151,7 @@ unfoldable pub alert_result : List ℕ → ℕ → ℕ → ℕ → List ℕ → 
 alert_result state protected level description answered room =
     pick (is_saved state)
     (sense protected
-    (λ isProtected. sent_result (alert_sent (connection_in state) isProtected level description answered room))
+    (λ is_protected. sent_result (alert_sent (connection_in state) is_protected level description answered room))
     not_taken)
     not_taken
 
@@ -159,7 +159,7 @@ unfoldable pub alert_state : List ℕ → ℕ → ℕ → ℕ → List ℕ → �
 alert_state state protected level description answered room =
     pick (is_saved state)
     (sense protected
-    (λ isProtected. sent_state state (alert_sent (connection_in state) isProtected level description answered room))
+    (λ is_protected. sent_state state (alert_sent (connection_in state) is_protected level description answered room))
     state)
     state
 
@@ -167,14 +167,14 @@ unfoldable pub alert_loads : List ℕ → ℕ → ℕ → ℕ → List ℕ → �
 alert_loads state protected level description answered room =
     pick (is_saved state)
     (sense protected
-    (λ isProtected. sent_loads state (alert_sent (connection_in state) isProtected level description answered room))
+    (λ is_protected. sent_loads state (alert_sent (connection_in state) is_protected level description answered room))
     (loaded state))
     (loaded state)
 
 unfoldable pub alert_out : List ℕ → ℕ → ℕ → ℕ → List ℕ → List ℕ → List ℕ
 alert_out state protected level description answered out =
     pick (is_saved state)
-    (sense protected (λ isProtected. alert_output (connection_in state) isProtected level description answered out) out)
+    (sense protected (λ is_protected. alert_output (connection_in state) is_protected level description answered out) out)
     out
 
 -- receive: a saved connection, a tally of 16 bytes, answers of 192

@@ -138,7 +138,7 @@ unfoldable pub alert_result : List ℕ → ℕ → ℕ → ℕ → List ℕ → 
 alert_result state protected level description answered room =
     pick (is_saved state)
     (sense protected
-    (λ isProtected. sent_result (alert_sent (unit_in state) isProtected level description answered room))
+    (λ is_protected. sent_result (alert_sent (unit_in state) is_protected level description answered room))
     not_taken)
     not_taken
 
@@ -146,7 +146,7 @@ unfoldable pub alert_state : List ℕ → ℕ → ℕ → ℕ → List ℕ → �
 alert_state state protected level description answered room =
     pick (is_saved state)
     (sense protected
-    (λ isProtected. sent_state state (alert_sent (unit_in state) isProtected level description answered room))
+    (λ is_protected. sent_state state (alert_sent (unit_in state) is_protected level description answered room))
     state)
     state
 
@@ -154,14 +154,14 @@ unfoldable pub alert_loads : List ℕ → ℕ → ℕ → ℕ → List ℕ → �
 alert_loads state protected level description answered room =
     pick (is_saved state)
     (sense protected
-    (λ isProtected. sent_loads state (alert_sent (unit_in state) isProtected level description answered room))
+    (λ is_protected. sent_loads state (alert_sent (unit_in state) is_protected level description answered room))
     (loaded state))
     (loaded state)
 
 unfoldable pub alert_out : List ℕ → ℕ → ℕ → ℕ → List ℕ → List ℕ → List ℕ
 alert_out state protected level description answered out =
     pick (is_saved state)
-    (sense protected (λ isProtected. alert_output (unit_in state) isProtected level description answered out) out)
+    (sense protected (λ is_protected. alert_output (unit_in state) is_protected level description answered out) out)
     out
 
 -- receive: a saved unit, a tally of 16 bytes, answers of 192

@@ -11,7 +11,7 @@ use lib.Pow.{recompose}
 use lib.Dec.{eqb, ltb}
 use borrow.Author.Tests.{ne_eqb, le-ltb}
 use Rattle.digest.specs.Hmac.{hmac}
-use Rattle.digest.specs.Mac.{size_of as codeSize}
+use Rattle.digest.specs.Mac.{size_of as code_size}
 use Rattle.digest.specs.declared.mac.Mac.{Mac}
 use Rattle.record.specs.Header.{kind_of, sound_kind, content_of, number_of}
 use Rattle.record.specs.Reader.{read_of, read_as, framed_of, size_of, pair_at}
@@ -110,10 +110,10 @@ fragment_back true protected content number fragment tail = take-append_seam fra
 fragment_back false protected content number fragment tail = take-append_seam fragment tail
 
 -- a protected record of ours, without a length, is read back; its fragment is the content and the code
-pub read_protected : (k : List ℕ) (mac : Mac) (content : Content) (number : ℕ) (body : List ℕ) → number < 65536 → read_of (protected_by (hmac k) (codeSize mac) false content number body) ≡ Sound (read_back false true content number (length body + codeSize mac))
+pub read_protected : (k : List ℕ) (mac : Mac) (content : Content) (number : ℕ) (body : List ℕ) → number < 65536 → read_of (protected_by (hmac k) (code_size mac) false content number body) ≡ Sound (read_back false true content number (length body + code_size mac))
 unfolding protected_by
 read_protected k mac content number body h =
     let byte : ℕ = byte_for false true content in
     let size = protected_length k mac number byte body in
-    read_short true content number (fragment_by (hmac k) (codeSize mac) number byte body) h (omega (arith, size, size_some mac))
+    read_short true content number (fragment_by (hmac k) (code_size mac) number byte body) h (omega (arith, size, size_some mac))
     ∙ ap (λ (n : ℕ). Sound (read_back false true content number n)) size

@@ -9,7 +9,7 @@ use lib.Seq.{get_or-append_seam}
 use Rattle.record.specs.Datagram.{placed_at, blank}
 use Rattle.record.specs.Header.{bit, kind_of, content_of}
 use Rattle.record.specs.Reader.{pair_at}
-use Rattle.record.specs.History.{window_of, arrived_of, judged_of as judgedBy}
+use Rattle.record.specs.History.{window_of, arrived_of, judged_of as judged_by}
 use Rattle.record.specs.Window.{accept_of}
 use Rattle.record.proofs.Covering.{Lies, lies_at, covers}
 use Rattle.record.proofs.Standing.{Stands}
@@ -68,7 +68,7 @@ module _ (h : Handshake) (sent : SentRecords) (numbers random : List ℕ) (windo
   width = h.protection.window.width
 
   -- the window answers as the history does
-  by_history : accept_of h.protection.window r.number ≡ judgedBy width numbers r.number
+  by_history : accept_of h.protection.window r.number ≡ judged_by width numbers r.number
   by_history = ap (λ w. accept_of w r.number) window.means ∙ meaning width window.held numbers r.number
 
   -- new to the window, and new by the history

@@ -203,15 +203,15 @@ sorted-holds n = among-holds descriptions n
 -- ---- send an alert
 
 -- what comes back, by level and description
-abbrev alertOutcomeIn : Bool → Handshake → ℕ → ℕ → Graded → Sorted → Outcome
-alertOutcomeIn protected h lent room (G.Is level) (D.Assigned description) = alert_outcome protected h lent room
-alertOutcomeIn protected h lent room (G.Is level) D.Unassigned = Refused X.Argument
-alertOutcomeIn protected h lent room G.Unassigned (D.Assigned description) = Refused X.Argument
-alertOutcomeIn protected h lent room G.Unassigned D.Unassigned = Refused X.Argument
+abbrev alert_outcome_in : Bool → Handshake → ℕ → ℕ → Graded → Sorted → Outcome
+alert_outcome_in protected h lent room (G.Is level) (D.Assigned description) = alert_outcome protected h lent room
+alert_outcome_in protected h lent room (G.Is level) D.Unassigned = Refused X.Argument
+alert_outcome_in protected h lent room G.Unassigned (D.Assigned description) = Refused X.Argument
+alert_outcome_in protected h lent room G.Unassigned D.Unassigned = Refused X.Argument
 
 alert_refused_lem : (c : Connection) (protected : Bool) (answered out : List ℕ) (g : Graded) (s : Sorted) (x : Refusal)
     → ((sent_as (alert_sent_as c protected answered (length out) g s) out).result ≡ sent (Refused x) 0)
-    ↔ (alertOutcomeIn protected (sender_of protected c) (length answered) (length out) g s ≡ Refused x)
+    ↔ (alert_outcome_in protected (sender_of protected c) (length answered) (length out) g s ≡ Refused x)
 alert_refused_lem c protected answered out (G.Is level) (D.Assigned description) x =
     let next : List ℕ = next_alert protected (sender_of protected c) (alert_body level description answered) in
     sent-refused c (after_send protected c next) next out
@@ -228,7 +228,7 @@ alert-size false h level description answered = clear_size h (alert_body level d
 alert_done : (c : Connection) (protected : Bool) (answered out : List ℕ) (g : Graded) (s : Sorted)
     → ((sent_as (alert_sent_as c protected answered (length out) g s) out).result ≡ sent Done
     (9 + alert_code_of protected (sender_of protected c)))
-    ↔ (alertOutcomeIn protected (sender_of protected c) (length answered) (length out) g s ≡ Done)
+    ↔ (alert_outcome_in protected (sender_of protected c) (length answered) (length out) g s ≡ Done)
 alert_done c protected answered out (G.Is level) (D.Assigned description) =
     let next : List ℕ = next_alert protected (sender_of protected c) (alert_body level description answered) in
     sent-done c (after_send protected c next) next out
@@ -397,7 +397,7 @@ module _ (protected : Bool) (h : Handshake) (level description lent room : ℕ) 
   by_level (inr l) = inr (inl l)
 
   in-holds : (g : Graded) (s : Sorted) → LevelHolds level g → SortedHolds (is_assigned description) s
-      → Holds WhyIn GoesIn (alertOutcomeIn protected h lent room g s)
+      → Holds WhyIn GoesIn (alert_outcome_in protected h lent room g s)
   in-holds (G.Is l) (D.Assigned d) (a, b) k =
       subst (Holds WhyIn GoesIn) (sym (outcome-is protected h lent room))
       (alert-holds protected h.state level description lent (alert_number_of protected h) (alert_code_of protected h) room a b k)
@@ -406,7 +406,7 @@ module _ (protected : Bool) (h : Handshake) (level description lent room : ℕ) 
   in-holds G.Unassigned D.Unassigned u k = by_level u
 
   in-because : (g : Graded) (s : Sorted) → LevelHolds level g → SortedHolds (is_assigned description) s
-      → (x : Refusal) → WhyIn x → alertOutcomeIn protected h lent room g s ≡ Refused x
+      → (x : Refusal) → WhyIn x → alert_outcome_in protected h lent room g s ≡ Refused x
   in-because (G.Is l) (D.Assigned d) (a, b) k x w =
       outcome-is protected h lent room
       ∙ alert-because protected h.state level description lent (alert_number_of protected h)
@@ -422,7 +422,7 @@ module _ (protected : Bool) (h : Handshake) (level description lent room : ℕ) 
       (unlevelled u) w
 
   in-goes : (g : Graded) (s : Sorted) → LevelHolds level g → SortedHolds (is_assigned description) s
-      → GoesIn → alertOutcomeIn protected h lent room g s ≡ Done
+      → GoesIn → alert_outcome_in protected h lent room g s ≡ Done
   in-goes (G.Is l) (D.Assigned d) ab k w =
       outcome-is protected h lent room
       ∙ alert_goes protected h.state level description lent (alert_number_of protected h) (alert_code_of protected h) room w
@@ -440,7 +440,7 @@ exactly-alert =
           let room : ℕ = length out in
           through (alert_refused_lem c protected answered out (level_of level) (sorted_of description) x)
           (refused_when (WhyIn protected h level description n room) (GoesIn protected h level description n room)
-          (alertOutcomeIn protected h n room (level_of level) (sorted_of description))
+          (alert_outcome_in protected h n room (level_of level) (sorted_of description))
           (in-holds protected h level description n room (level_of level) (sorted_of description) (level_holds level)
           (sorted-holds description))
           (in-because protected h level description n room (level_of level) (sorted_of description) (level_holds level)
@@ -451,7 +451,7 @@ exactly-alert =
           let room : ℕ = length out in
           through (alert_done c protected answered out (level_of level) (sorted_of description))
           (done-when (WhyIn protected h level description n room) (GoesIn protected h level description n room)
-          (alertOutcomeIn protected h n room (level_of level) (sorted_of description))
+          (alert_outcome_in protected h n room (level_of level) (sorted_of description))
           (in-holds protected h level description n room (level_of level) (sorted_of description) (level_holds level)
           (sorted-holds description))
           (in-goes protected h level description n room (level_of level) (sorted_of description) (level_holds level)

@@ -167,7 +167,7 @@ pub fatal_bars : FatalBars
 unfolding FatalBars
 fatal_bars u e f =
     let kind = content-kind-in f.d f.r C.Alert f.new.coded.is_protected f.alert in
-    let row = row_bars f.c f.w f.a f.new kind f.well_formed_lem f.fatal in
+    let row = row_bars f.c f.w f.a f.new kind f.well_formed f.fatal in
     subst (λ x. Forgot (next u x)) (sym f.event)
     (subst (λ j. Forgot j.unit) (sym (row_is u f.d f.r row)) (forgot (with_window u f.w)))
 
@@ -212,7 +212,7 @@ module _ (u : Ship) (not : u.state ≢ S.Barred) where
         new = n;
         alert = kind-content d r K.ProtectedAlert n.coded.is_protected k;
         a = a;
-        well_formed_lem = q;
+        well_formed = q;
         fatal = l;
       }
 

@@ -6,8 +6,8 @@ use native.Mathlib.Omega.{arith}
 use lib.ListN.{length, get_or, replicate, length-append, length-map, length-replicate}
 use lib.Dec.{ltb}
 use Rattle.record.specs.Datagram.{Framing, framed, faulty, framing_of}
-use Rattle.connection.specs.Receive.{slot as slotThere}
-use Rattle.connection.specs.Tally.{counted_answer, counted_first as countedThere}
+use Rattle.connection.specs.Receive.{slot as slot_there_of}
+use Rattle.connection.specs.Tally.{counted_answer, counted_first as counted_there}
 use Rattle.connection.specs.declared.answer.Answer.TheVariants.{Nothing as NothingThere}
 use Rattle.connection.specs.declared.tally.Tally.{Tally}
 use Rattle.unit.specs.Answer.{slot}
@@ -23,13 +23,13 @@ use Rattle.demands.proofs.Counts.{eight_counts}
 use Rattle.demands.proofs.Exactly.Reasons.{decide}
 use Rattle.demands.proofs.Exactly.Whole.{Says, framing-says}
 
-slot_there : (l : List Slot) (n : ℕ) → get_or (slots_ashore l) n (slotThere NothingThere) ≡ slot_ashore (get_or l n (slot Nothing))
+slot_there : (l : List Slot) (n : ℕ) → get_or (slots_ashore l) n (slot_there_of NothingThere) ≡ slot_ashore (get_or l n (slot Nothing))
 slot_there [] n = refl
 slot_there (s ∷ l) zero = refl
 slot_there (s ∷ l) (suc n) = slot_there l n
 
-first-there : (t : Tally) (l : List Slot) (n : ℕ) → counted_first t l n ≡ countedThere t (slots_ashore l) n
-unfolding counted_first countedThere
+first-there : (t : Tally) (l : List Slot) (n : ℕ) → counted_first t l n ≡ counted_there t (slots_ashore l) n
+unfolding counted_first counted_there
 first-there t l zero = refl
 first-there t l (suc n) = ap₂ (λ x s. counted_answer x s.answer) (first-there t l n) (sym (slot_there l n))
 

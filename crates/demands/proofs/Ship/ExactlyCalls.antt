@@ -180,29 +180,29 @@ module _ (u : Ship) (May MayNot Ends : Type 0) (Why : Refusal → Type 0) (Goes 
 -- ---- a protected record: 15, then 6
 
 module _ (u : Ship) (content : Content) (body : List ℕ) (room : ℕ) where
-  abbrev pub recordSize : ℕ
-  recordSize = 3 + length body + size_of u.protection.keys.mac
+  abbrev pub record_size : ℕ
+  record_size = 3 + length body + size_of u.protection.keys.mac
 
-  size_is : length (next_record u.protection FromUnit content body) ≡ recordSize
+  size_is : length (next_record u.protection FromUnit content body) ≡ record_size
   size_is = record_under_length u.protection.keys FromUnit content u.protection.protected body ∙ omega arith
 
   protected-spent : 65535 < u.protection.protected → (protected_sent u content body room).outcome ≡ Refused X.Spent
   unfolding protected_sent wrote_by
   protected-spent l = rw (lt-ltb 65535 u.protection.protected l) refl
 
-  protected-room : u.protection.protected ≤ 65535 → room < recordSize → (protected_sent u content body room).outcome ≡ Refused X.Room
+  protected-room : u.protection.protected ≤ 65535 → room < record_size → (protected_sent u content body room).outcome ≡ Refused X.Room
   unfolding protected_sent wrote_by
   protected-room l m =
       rw (le-ltb 65535 u.protection.protected l, lt-ltb room (length (next_record u.protection FromUnit content body)) (omega (arith, size_is))) refl
 
-  protected_done : u.protection.protected ≤ 65535 → recordSize ≤ room → (protected_sent u content body room).outcome ≡ Done
+  protected_done : u.protection.protected ≤ 65535 → record_size ≤ room → (protected_sent u content body room).outcome ≡ Done
   unfolding protected_sent wrote_by
   protected_done l m =
       rw (le-ltb 65535 u.protection.protected l, le-ltb room (length (next_record u.protection FromUnit content body)) (omega (arith, size_is))) refl
 
   protected-holds : (Why : Refusal → Type 0) (Goes : Type 0) → (65535 < u.protection.protected → Why X.Spent)
-      → (u.protection.protected ≤ 65535 → room < recordSize → Why X.Room) → (u.protection.protected ≤ 65535 → recordSize ≤ room → Goes)
-      → SentHolds Why Goes recordSize (protected_sent u content body room)
+      → (u.protection.protected ≤ 65535 → room < record_size → Why X.Room) → (u.protection.protected ≤ 65535 → record_size ≤ room → Goes)
+      → SentHolds Why Goes record_size (protected_sent u content body room)
   unfolding protected_sent wrote_by
   protected-holds Why Goes a b c =
       let n : ℕ = length (next_record u.protection FromUnit content body) in

@@ -10,7 +10,7 @@ use lib.ListN.{length, get_or, drop}
 use lib.Dec.{eqb}
 use borrow.Author.Tests.{eqb-true, eqb-false}
 use Rattle.record.specs.Window.{accept_of}
-use Rattle.record.specs.History.{window_of, arrived_of, judged_of as judgedBy}
+use Rattle.record.specs.History.{window_of, arrived_of, judged_of as judged_by}
 use Rattle.record.specs.declared.header.Content.{Content}
 use Rattle.record.specs.declared.header.Content.TheVariants as C
 use Rattle.record.specs.declared.reader.Record.{Record}
@@ -43,7 +43,7 @@ use Rattle.demands.specs.Exactly.Record.{SeenInPlace, IsAlert, IsFinished, Bytes
 use Rattle.demands.specs.Ship.Genuine.{Protected}
 use Rattle.demands.specs.Ship.Table.{Midway, Up, Over, Ruled, New, Stays, Shuts, Marked, Row}
 use Rattle.demands.specs.Ship.Table as Z
-use Rattle.demands.specs.Ship.Table.{at_end, not_allowed, not_first, forged, too_old_lem, repeated, unacceptable, checksum, ignored_request, reported_request, warning}
+use Rattle.demands.specs.Ship.Table.{at_end, not_allowed, not_first, forged, too_old, repeated, unacceptable, checksum, ignored_request, reported_request, warning}
 use Rattle.demands.specs.Ship.Table.{critical, fatal, no_change, no_alert, no_message, no_data, some_data, protected_warning, repeated_finished, protected_critical, protected_ignored, protected_reported, finished_again, wrong_finished}
 use Rattle.demands.specs.Ship.Table.{row_stays, row_shuts, row_hello, row_change, row_marked, row_opens, row_bars}
 use Rattle.demands.specs.Ship.Course.{HoldsNumbers}
@@ -211,7 +211,7 @@ module _ (u : Ship) (numbers d : List ℕ) (r : Record) (bytes : Bytes (fragment
   as-coded : (c : List ℕ) → r.protected ≡ true → CodedAs u.protection.keys q c → Protected u.protection.keys d r c
   as-coded c p e = record { is_protected = p; is_coded = e }
 
-  by_history : accept_of u.protection.window r.number ≡ judgedBy width numbers r.number
+  by_history : accept_of u.protection.window r.number ≡ judged_by width numbers r.number
   by_history = ap (λ w. accept_of w r.number) holds.means ∙ meaning width holds.held numbers r.number
 
   new-as : (c : List ℕ) (w : Window) → New u d r c w → NewAs u numbers q c
@@ -276,7 +276,7 @@ module _ (u : Ship) (numbers d : List ℕ) (r : Record) (bytes : Bytes (fragment
   stays-holds (not_first e z) =
       let n = not-over T.Agree (λ y. let x : ◌≡◌ {A = ℕ} 0 1 = cc in omega arith) e in (n, later-not e z n)
   stays-holds (forged e never) = (guarded-as e, λ c k. never c (as-coded c (ruled-protected u d r e) k))
-  stays-holds (too_old_lem c e s y) = (guarded-as e, (c, s.is_coded), old_means width numbers r.number (sym by_history ∙ y))
+  stays-holds (too_old c e s y) = (guarded-as e, (c, s.is_coded), old_means width numbers r.number (sym by_history ∙ y))
   stays-holds (repeated c e s y) =
       let t = repeated_means width numbers r.number (sym by_history ∙ y) in (guarded-as e, (c, s.is_coded), t.0, t.1)
   stays-holds (Z.bad_hello e z y) =
@@ -384,7 +384,7 @@ module _ (u : Ship) (numbers d : List ℕ) (r : Record) (bytes : Bytes (fragment
   because X.NotAllowed (n, a) = not-allowed-by n a (rule_of u.state (kind_in d r)) refl
   because X.Forged (g, n) = answer-stays (forged (guarded_rule g) (λ c s. n c s.is_coded))
   because X.TooOld (g, (c, k), l) =
-      answer-stays (too_old_lem c (guarded_rule g) (as-coded c g.protection k) (by_history ∙ old_when width numbers r.number l))
+      answer-stays (too_old c (guarded_rule g) (as-coded c g.protection k) (by_history ∙ old_when width numbers r.number l))
   because X.Repeated (g, (c, k), l, a) =
       answer-stays (repeated c (guarded_rule g) (as-coded c g.protection k) (by_history ∙ repeated_when width numbers r.number l a))
   because X.Malformed w = malformed-by w

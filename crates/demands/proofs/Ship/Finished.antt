@@ -45,11 +45,11 @@ use Rattle.unit.specs.declared.unit.Unit.{Unit as Ship}
 use Rattle.demands.specs.Past.{shuts}
 use Rattle.demands.specs.Ship.Genuine.{Protected}
 use Rattle.demands.specs.Ship.Table.{Midway, Up, New, Stays, Shuts, Marked, Row, forgotten}
-use Rattle.demands.specs.Ship.Table.{at_end, not_allowed, not_first, forged, too_old_lem, repeated, bad_hello, bad_request, bad_change, bad_alert, unacceptable, checksum, ignored_request, reported_request, warning}
+use Rattle.demands.specs.Ship.Table.{at_end, not_allowed, not_first, forged, too_old, repeated, bad_hello, bad_request, bad_change, bad_alert, unacceptable, checksum, ignored_request, reported_request, warning}
 use Rattle.demands.specs.Ship.Table.{critical, fatal, no_change, no_alert, no_message, no_data, some_data, protected_warning, repeated_finished, protected_critical, protected_ignored, protected_reported, finished_again, wrong_finished}
 use Rattle.demands.specs.Ship.Table.{row_stays, row_shuts, row_hello, row_change, row_marked, row_opens, row_bars}
 use Rattle.demands.specs.Ship.Changes.{Alike}
-use Rattle.demands.specs.Ship.Events.{Event, took, greeting, repeating, sending, alerting, closing, starting, next, after, Happened, answered, greeted, said_again_lem, wrote, closed, started, refused, if_done, written_by, happening, history}
+use Rattle.demands.specs.Ship.Events.{Event, took, greeting, repeating, sending, alerting, closing, starting, next, after, Happened, answered, greeted, said_again, wrote, closed, started, refused, if_done, written_by, happening, history}
 use Rattle.demands.specs.Ship.Runs.{fresh_ship}
 use Rattle.demands.specs.Ship.Past.{is_hello, offer_named, said, last_hello, read, read_as, last_read, keys_for}
 use Rattle.demands.specs.Ship.Finished.{Quiet, Verified, OnlyAfterFinished}
@@ -165,7 +165,7 @@ module _ (id secret : List ℕ) (past : List Happened) (u : Ship) (p : Progress 
       quiet-more : (what : Happened) → Quiet (what ∷ []) → (l : List Happened) → Quiet l → Quiet (what ∷ l)
       quiet-more (answered d r a) (a1, a2, a3) l b = (a1, a2, b)
       quiet-more (greeted random macs refresh bytes) a l b = a
-      quiet-more (said_again_lem bytes) a l b = b
+      quiet-more (said_again bytes) a l b = b
       quiet-more (wrote protected bytes) a l b = b
       quiet-more closed a l b = a
       quiet-more started a l b = a
@@ -247,7 +247,7 @@ module _ (id secret : List ℕ) (past : List Happened) (u : Ship) (p : Progress 
   stays-quiet (not_allowed e) = (refl, refl)
   stays-quiet (not_first e z) = (refl, refl)
   stays-quiet (forged e never) = (refl, refl)
-  stays-quiet (too_old_lem c e s q) = (refl, refl)
+  stays-quiet (too_old c e s q) = (refl, refl)
   stays-quiet (repeated c e s q) = (refl, refl)
   stays-quiet (bad_hello e z q) = (refl, refl)
   stays-quiet (bad_request e q) = (refl, refl)
@@ -543,7 +543,7 @@ module _ (id secret : List ℕ) (past : List Happened) (u : Ship) (p : Progress 
   event-progress (repeating out) =
       let s = again_sent u (length out) in
       subst (λ x. Progress id secret (happening u (repeating out) ∷ past) x) (sym (again_same u (length out)))
-      (done-progress s.outcome (said_again_lem (written_by s (again_output u out))) u refl refl tt (alike u))
+      (done-progress s.outcome (said_again (written_by s (again_output u out))) u refl refl tt (alike u))
   event-progress (sending bytes out) =
       let s = data_sent u bytes (length out) in
       done-progress s.outcome (wrote true (written_by s (data_output u bytes out))) s.unit refl refl tt (data-alike u bytes (length out))

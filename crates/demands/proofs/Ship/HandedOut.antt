@@ -54,7 +54,7 @@ use Rattle.demands.specs.Past.{is_data}
 use Rattle.demands.specs.Course.{Course, is_new, level_shuts, alert_shuts, finished_shuts, content_shuts}
 use Rattle.demands.specs.Ship.Genuine.{Protected, shore_key, genuine_bytes}
 use Rattle.demands.specs.Ship.Table.{Midway, Up, Over, New, Stays, Shuts, Marked, Row, forgotten}
-use Rattle.demands.specs.Ship.Table.{at_end, not_allowed, not_first, forged, too_old_lem, repeated, bad_hello, bad_request, bad_change, bad_alert, unacceptable, checksum, ignored_request, reported_request, warning}
+use Rattle.demands.specs.Ship.Table.{at_end, not_allowed, not_first, forged, too_old, repeated, bad_hello, bad_request, bad_change, bad_alert, unacceptable, checksum, ignored_request, reported_request, warning}
 use Rattle.demands.specs.Ship.Table.{critical, fatal, no_change, no_alert, no_message, no_data, some_data, protected_warning, repeated_finished, protected_critical, protected_ignored, protected_reported, finished_again, wrong_finished}
 use Rattle.demands.specs.Ship.Table.{row_stays, row_shuts, row_hello, row_change, row_marked, row_opens, row_bars}
 use Rattle.demands.specs.Ship.Changes.{Alike}
@@ -120,28 +120,28 @@ opened-clear K.ProtectedData e = let z : ◌≡◌ {A = ℕ} 0 1 = cc in absurd 
 
 -- ---- the content of a protected kind
 
-abbrev contentKind : Kind → Content
-contentKind K.ClearHello = C.Handshake
-contentKind K.ClearRequest = C.Handshake
-contentKind K.ClearChange = C.ChangeCipherSpec
-contentKind K.ClearAlert = C.Alert
-contentKind K.OtherClear = C.Data
-contentKind K.ProtectedChange = C.ChangeCipherSpec
-contentKind K.ProtectedAlert = C.Alert
-contentKind K.ProtectedHandshake = C.Handshake
-contentKind K.ProtectedData = C.Data
+abbrev content_kind : Kind → Content
+content_kind K.ClearHello = C.Handshake
+content_kind K.ClearRequest = C.Handshake
+content_kind K.ClearChange = C.ChangeCipherSpec
+content_kind K.ClearAlert = C.Alert
+content_kind K.OtherClear = C.Data
+content_kind K.ProtectedChange = C.ChangeCipherSpec
+content_kind K.ProtectedAlert = C.Alert
+content_kind K.ProtectedHandshake = C.Handshake
+content_kind K.ProtectedData = C.Data
 
-content-kind : (c : Content) (first : ℕ) → contentKind (kind_of c true first) ≡ c
+content-kind : (c : Content) (first : ℕ) → content_kind (kind_of c true first) ≡ c
 content-kind C.ChangeCipherSpec first = refl
 content-kind C.Alert first = refl
 content-kind C.Handshake first = refl
 content-kind C.Data first = refl
 
-pub kind-content : (d : List ℕ) (r : Record) (k : Kind) → r.protected ≡ true → kind_in d r ≡ k → r.content ≡ contentKind k
+pub kind-content : (d : List ℕ) (r : Record) (k : Kind) → r.protected ≡ true → kind_in d r ≡ k → r.content ≡ content_kind k
 kind-content d r k p e =
     sym (content-kind r.content (get_or (fragment_of d r) 0 0))
-    ∙ ap (λ b. contentKind (kind_of r.content b (get_or (fragment_of d r) 0 0))) (sym p)
-    ∙ ap contentKind e
+    ∙ ap (λ b. content_kind (kind_of r.content b (get_or (fragment_of d r) 0 0))) (sym p)
+    ∙ ap content_kind e
 
 pub content-kind-in : (d : List ℕ) (r : Record) (c : Content) → r.protected ≡ true → r.content ≡ c → kind_in d r ≡ kind_of c true (get_or (fragment_of d r) 0 0)
 content-kind-in d r c p e = λ i. kind_of (e i) (p i) (get_or (fragment_of d r) 0 0)
@@ -165,14 +165,14 @@ module _ (k : Keys) (expected : List ℕ) (course : Course) (u : Ship) (a : Alon
     abbrev more : Course
     more = used_by k expected course d r
 
-    abbrev newBy : Bool
-    newBy = is_new course.width course.numbers r.number
+    abbrev new_by : Bool
+    new_by = is_new course.width course.numbers r.number
 
     -- a course that is shut stays as it is, and a unit that is over too
     shut_more : course.shut ≡ true → Along k expected (with_record k expected course d r) (judged_record u d r).unit
     shut_more z =
         let same : with_record k expected course d r ≡ course
-        = ap (λ b. pick b course (pick (genuine_bytes k d r) (pick newBy more course) course)) z in
+        = ap (λ b. pick b course (pick (genuine_bytes k d r) (pick new_by more course) course)) z in
         let left : (judged_record u d r).unit ≡ u = ap (λ j. j.unit) (over-seven d r (a.is_over z)) in
         subst (λ c. Along k expected c (judged_record u d r).unit) (sym same) (subst (Along k expected course) (sym left) a)
 
@@ -184,12 +184,12 @@ module _ (k : Keys) (expected : List ℕ) (course : Course) (u : Ship) (a : Alon
       right_code c s = subst (λ x. Protected x d r c) (a.keys_same z) s
 
       not_genuine : genuine_bytes k d r ≡ false → with_record k expected course d r ≡ course
-      not_genuine g = ap₂ (λ b c. pick b course (pick c (pick newBy more course) course)) z g
+      not_genuine g = ap₂ (λ b c. pick b course (pick c (pick new_by more course) course)) z g
 
       clear_same : r.protected ≡ false → with_record k expected course d r ≡ course
       clear_same p = not_genuine (ap (λ b. pick b (genuine_under k FromShore r.number r.byte (fragment_of d r)) false) p)
 
-      not_new : (c : List ℕ) → Protected u.protection.keys d r c → newBy ≡ false → with_record k expected course d r ≡ course
+      not_new : (c : List ℕ) → Protected u.protection.keys d r c → new_by ≡ false → with_record k expected course d r ≡ course
       not_new c s n = λ i. pick (z i) course (pick (bytes-right k d r c (right_code c s) i) (pick (n i) more course) course)
 
       window_at_lem : (x : Acceptance) → accept_of u.protection.window r.number ≡ x
@@ -207,7 +207,7 @@ module _ (k : Keys) (expected : List ℕ) (course : Course) (u : Ship) (a : Alon
       stays_same (not_first e y) = up-not-midway u.state up (ruled-says u d r T.Agree e).0
       stays_same (forged e never) =
           not_genuine (bytes-wrong k d r (λ c s. never c (subst (λ x. Protected x d r c) (sym (a.keys_same z)) s)))
-      stays_same (too_old_lem c e s q) = not_new c s (old_is course.width a.held course.numbers r.number (window_at_lem A.TooOld q))
+      stays_same (too_old c e s q) = not_new c s (old_is course.width a.held course.numbers r.number (window_at_lem A.TooOld q))
       stays_same (repeated c e s q) =
           not_new c s (repeated_is course.width a.held course.numbers r.number (window_at_lem A.Repeated q))
       stays_same (bad_hello e y q) = up-not-midway u.state up (ruled-says u d r T.Agree e).0
@@ -266,7 +266,7 @@ module _ (k : Keys) (expected : List ℕ) (course : Course) (u : Ship) (a : Alon
         used x ew ee ek (inr (t, o)) = shut_by_lem x t o
 
         -- what the content is
-        content-as : (x : Kind) → kind_in d r ≡ x → (b : Bool) → content_shuts (contentKind x) c expected ≡ b → shuts ≡ b
+        content-as : (x : Kind) → kind_in d r ≡ x → (b : Bool) → content_shuts (content_kind x) c expected ≡ b → shuts ≡ b
         content-as x e b f =
             ap (λ t. content_shuts t c expected) (kind-content d r x n.coded.is_protected e) ∙ f
 
@@ -406,7 +406,7 @@ module _ (u : Ship) (d : List ℕ) (r : Record) where
   stays-silent (not_allowed e) = refl
   stays-silent (not_first e y) = refl
   stays-silent (forged e never) = refl
-  stays-silent (too_old_lem c e s q) = refl
+  stays-silent (too_old c e s q) = refl
   stays-silent (repeated c e s q) = refl
   stays-silent (bad_hello e y q) = refl
   stays-silent (bad_request e q) = refl

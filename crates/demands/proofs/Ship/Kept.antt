@@ -37,10 +37,10 @@ use Rattle.unit.specs.declared.agree.Judged.{Judged}
 use Rattle.unit.specs.declared.unit.Unit.{Unit as Ship}
 use Rattle.demands.specs.Past.{is_spec}
 use Rattle.demands.specs.Ship.Table.{New, Stays, Shuts, Marked, Row, forgotten}
-use Rattle.demands.specs.Ship.Table.{at_end, not_allowed, not_first, forged, too_old_lem, repeated, bad_hello, bad_request, bad_change, bad_alert, unacceptable, checksum, ignored_request, reported_request, warning}
+use Rattle.demands.specs.Ship.Table.{at_end, not_allowed, not_first, forged, too_old, repeated, bad_hello, bad_request, bad_change, bad_alert, unacceptable, checksum, ignored_request, reported_request, warning}
 use Rattle.demands.specs.Ship.Table.{critical, fatal, no_change, no_alert, no_message, no_data, some_data, protected_warning, repeated_finished, protected_critical, protected_ignored, protected_reported, finished_again, wrong_finished}
 use Rattle.demands.specs.Ship.Table.{row_stays, row_shuts, row_hello, row_change, row_marked, row_opens, row_bars}
-use Rattle.demands.specs.Ship.Events.{Event, took, greeting, repeating, sending, alerting, closing, starting, next, after, Happened, answered, greeted, said_again_lem, wrote, closed, started, if_done, written_by, happening, history}
+use Rattle.demands.specs.Ship.Events.{Event, took, greeting, repeating, sending, alerting, closing, starting, next, after, Happened, answered, greeted, said_again, wrote, closed, started, if_done, written_by, happening, history}
 use Rattle.demands.specs.Ship.Runs.{fresh_ship}
 use Rattle.demands.specs.Ship.Past.{marks, accepted_in}
 use Rattle.demands.specs.Ship.Kept.{WindowIsWhatHappened}
@@ -86,7 +86,7 @@ module _ (width : ℕ) (held : Held width) (past : List Happened) (u : Ship) (is
     stays-follows (not_allowed e) = silent-by (W.Refused X.NotAllowed) u refl refl refl
     stays-follows (not_first e z) = silent-by (W.Refused X.NotAllowed) u refl refl refl
     stays-follows (forged e never) = silent-by (W.Refused X.Forged) u refl refl refl
-    stays-follows (too_old_lem c e s q) = silent-by (W.Refused X.TooOld) u refl refl refl
+    stays-follows (too_old c e s q) = silent-by (W.Refused X.TooOld) u refl refl refl
     stays-follows (repeated c e s q) = silent-by (W.Refused X.Repeated) u refl refl refl
     stays-follows (bad_hello e z q) = clear_by (W.Refused X.Malformed) u refl refl (kind-clear K.ClearHello (ruled-says u d r T.Agree e).1 refl)
     stays-follows (bad_request e q) = clear_by (W.Refused X.Malformed) u refl refl (kind-clear K.ClearRequest (ruled-says u d r T.Request e).1 refl)
@@ -197,7 +197,7 @@ module _ (width : ℕ) (held : Held width) (past : List Happened) (u : Ship) (is
       (hello-window random macs refresh (length out))
   event-follows (repeating out) =
       let s = again_sent u (length out) in
-      plain (happening u (repeating out)) s.unit (done-or-not s.outcome (said_again_lem (written_by s (again_output u out))) refl)
+      plain (happening u (repeating out)) s.unit (done-or-not s.outcome (said_again (written_by s (again_output u out))) refl)
       (ap (λ x. x.protection.window) (again_same u (length out)))
   event-follows (sending bytes out) =
       let s = data_sent u bytes (length out) in

@@ -24,7 +24,7 @@ use Rattle.unit.specs.declared.state.State.TheVariants as S
 use Rattle.unit.specs.declared.state.Rule.TheVariants as T
 use Rattle.unit.specs.declared.unit.Unit.{Unit as Ship}
 use Rattle.demands.specs.Ship.Table.{Up, Over, Stays, Shuts, Marked, Row}
-use Rattle.demands.specs.Ship.Table.{at_end, not_allowed, not_first, forged, too_old_lem, repeated, bad_hello, bad_request, bad_change, bad_alert, unacceptable, checksum, ignored_request, reported_request, warning}
+use Rattle.demands.specs.Ship.Table.{at_end, not_allowed, not_first, forged, too_old, repeated, bad_hello, bad_request, bad_change, bad_alert, unacceptable, checksum, ignored_request, reported_request, warning}
 use Rattle.demands.specs.Ship.Table.{critical, fatal, no_change, no_alert, no_message, no_data, some_data, protected_warning, repeated_finished, protected_critical, protected_ignored, protected_reported, finished_again, wrong_finished}
 use Rattle.demands.specs.Ship.Table.{row_stays, row_shuts, row_hello, row_change, row_marked, row_opens, row_bars}
 use Rattle.demands.specs.Ship.Runs.{receive, step_of}
@@ -79,7 +79,7 @@ module _ (u : Ship) (d : List ℕ) (r : Record) where
   stays-silent (not_allowed e) n = refl
   stays-silent (not_first e z) n = refl
   stays-silent (forged e never) n = refl
-  stays-silent (too_old_lem c e s q) n = refl
+  stays-silent (too_old c e s q) n = refl
   stays-silent (repeated c e s q) n = refl
   stays-silent (bad_hello e z q) n = refl
   stays-silent (bad_request e q) n = refl

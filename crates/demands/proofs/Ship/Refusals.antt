@@ -48,7 +48,7 @@ use Rattle.unit.specs.declared.unit.Unit.{Unit as Ship}
 use Rattle.unit.proofs.Sending.{unwritten}
 use Rattle.demands.specs.Refusals.{NotTaken, NotDone}
 use Rattle.demands.specs.Ship.Table.{New, Stays, Shuts, Marked, Row}
-use Rattle.demands.specs.Ship.Table.{at_end, not_allowed, not_first, forged, too_old_lem, repeated, bad_hello, bad_request, bad_change, bad_alert, unacceptable, checksum, ignored_request, reported_request, warning}
+use Rattle.demands.specs.Ship.Table.{at_end, not_allowed, not_first, forged, too_old, repeated, bad_hello, bad_request, bad_change, bad_alert, unacceptable, checksum, ignored_request, reported_request, warning}
 use Rattle.demands.specs.Ship.Table.{critical, fatal, no_change, no_alert, no_message, no_data, some_data, protected_warning, repeated_finished, protected_critical, protected_ignored, protected_reported, finished_again, wrong_finished}
 use Rattle.demands.specs.Ship.Table.{row_stays, row_shuts, row_hello, row_change, row_marked, row_opens, row_bars}
 use Rattle.demands.specs.Ship.Runs.{hello, again, receive, send_data, send_alert, close, start, step_of}
@@ -85,7 +85,7 @@ module _ (u : Ship) (d : List ℕ) (r : Record) where
   stays-leaves (not_allowed e) = refl
   stays-leaves (not_first e z) = refl
   stays-leaves (forged e never) = refl
-  stays-leaves (too_old_lem c e s q) = refl
+  stays-leaves (too_old c e s q) = refl
   stays-leaves (repeated c e s q) = refl
   stays-leaves (bad_hello e z q) = clear-leaves (kind-clear K.ClearHello (ruled-says u d r R.Agree e).1 refl)
   stays-leaves (bad_request e q) = clear-leaves (kind-clear K.ClearRequest (ruled-says u d r R.Request e).1 refl)

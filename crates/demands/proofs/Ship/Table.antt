@@ -63,7 +63,7 @@ use Rattle.unit.specs.declared.agree.Judged.{Judged}
 use Rattle.unit.specs.declared.unit.Unit.{Unit as Ship}
 use Rattle.demands.specs.Ship.Genuine.{Protected, shore_key}
 use Rattle.demands.specs.Ship.Table.{Midway, Up, Outside, Over, Ruled, New, Stays, Shuts, Marked, Row, TableHolds}
-use Rattle.demands.specs.Ship.Table.{at_end, not_allowed, not_first, forged, too_old_lem, repeated, bad_hello, bad_request, bad_change, bad_alert, unacceptable, checksum, ignored_request, reported_request, warning}
+use Rattle.demands.specs.Ship.Table.{at_end, not_allowed, not_first, forged, too_old, repeated, bad_hello, bad_request, bad_change, bad_alert, unacceptable, checksum, ignored_request, reported_request, warning}
 use Rattle.demands.specs.Ship.Table.{critical, fatal, no_change, no_alert, no_message, no_data, some_data, protected_warning, repeated_finished, protected_critical, protected_ignored, protected_reported, finished_again, wrong_finished}
 use Rattle.demands.specs.Ship.Table.{row_stays, row_shuts, row_hello, row_change, row_marked, row_opens, row_bars}
 use Rattle.demands.proofs.Genuine.{true_false}
@@ -285,30 +285,30 @@ module _ (u : Ship) (d : List ℕ) (r : Record) where
   ruled-protected e = sym is-protected-kind ∙ guards-protected u.state (kind_in d r) (ruled-says u d r T.Unprotect e)
 
   -- a rule that is known
-  abbrev ruledAs : Rule → Judged
-  ruledAs rule = ruled_by u rule (kind_in d r) r.byte r.number r.start (r.start + r.head) (fragment_of d r)
+  abbrev ruled_as : Rule → Judged
+  ruled_as rule = ruled_by u rule (kind_in d r) r.byte r.number r.start (r.start + r.head) (fragment_of d r)
 
-  ruled_is : (rule : Rule) → Ruled u d r rule → judged_record u d r ≡ ruledAs rule
+  ruled_is : (rule : Rule) → Ruled u d r rule → judged_record u d r ≡ ruled_as rule
   unfolding judged_record
-  ruled_is rule e = ap ruledAs e
+  ruled_is rule e = ap ruled_as e
 
   -- ---- what the tests give, each rule
 
-  ended_is : ruledAs T.Ended ≡ judged (W.Refused X.Ended) u
+  ended_is : ruled_as T.Ended ≡ judged (W.Refused X.Ended) u
   unfolding ruled_by step_by left_by
   ended_is = refl
 
-  not_allowed_is : ruledAs T.NotAllowed ≡ judged (W.Refused X.NotAllowed) u
+  not_allowed_is : ruled_as T.NotAllowed ≡ judged (W.Refused X.NotAllowed) u
   unfolding ruled_by step_by left_by
   not_allowed_is = refl
 
   agree-is : (b : Bool) → eqb r.start 0 ≡ b
-      → ruledAs T.Agree ≡ pick b (agreed_to u (fragment_of d r) (agreement_of (fragment_of d r) u.id u.offer)) (judged (W.Refused X.NotAllowed) u)
+      → ruled_as T.Agree ≡ pick b (agreed_to u (fragment_of d r) (agreement_of (fragment_of d r) u.id u.offer)) (judged (W.Refused X.NotAllowed) u)
   unfolding ruled_by step_by left_by agreed_by
   agree-is b e = ap (λ x. pick x (agreed_to u (fragment_of d r) (agreement_of (fragment_of d r) u.id u.offer)) (judged (W.Refused X.NotAllowed) u)) e
 
   request-is : (b : Bool) → is_request (fragment_of d r) ≡ b
-      → ruledAs T.Request ≡ pick b (judged (request_in u.state) u) (judged (W.Refused X.Malformed) u)
+      → ruled_as T.Request ≡ pick b (judged (request_in u.state) u) (judged (W.Refused X.Malformed) u)
   unfolding ruled_by step_by left_by requested_by
   request-is true e =
       ap (λ x. stepped_by u (pick x (step (request_in u.state) u.protection.window Stay) (refusing u.protection.window X.Malformed))) e
@@ -316,12 +316,12 @@ module _ (u : Ship) (d : List ℕ) (r : Record) where
       ap (λ x. stepped_by u (pick x (step (request_in u.state) u.protection.window Stay) (refusing u.protection.window X.Malformed))) e
 
   change-is : (b : Bool) → is_change (fragment_of d r) ≡ b
-      → ruledAs T.Change ≡ pick b (judged W.Spec (with_state (with_window u (emptied u.protection.window)) S.Spec)) (judged (W.Refused X.Malformed) u)
+      → ruled_as T.Change ≡ pick b (judged W.Spec (with_state (with_window u (emptied u.protection.window)) S.Spec)) (judged (W.Refused X.Malformed) u)
   unfolding ruled_by step_by left_by changed_by
   change-is true e = ap (λ x. stepped_by u (pick x (step W.Spec (emptied u.protection.window) Change) (refusing u.protection.window X.Malformed))) e
   change-is false e = ap (λ x. stepped_by u (pick x (step W.Spec (emptied u.protection.window) Change) (refusing u.protection.window X.Malformed))) e
 
-  hear-is : (x : Reading) → alert_of (fragment_of d r) ≡ x → ruledAs T.Hear ≡ stepped_by u (heard_by u.sent u.protection.window x)
+  hear-is : (x : Reading) → alert_of (fragment_of d r) ≡ x → ruled_as T.Hear ≡ stepped_by u (heard_by u.sent u.protection.window x)
   unfolding ruled_by step_by heard_alert
   hear-is x e = ap (λ y. stepped_by u (heard_by u.sent u.protection.window y)) e
 
@@ -336,29 +336,29 @@ module _ (u : Ship) (d : List ℕ) (r : Record) where
       ap (take (length c)) s.is_coded
       ∙ take_at c (code_by (hmac (shore_key u.protection.keys r.number)) (size_of u.protection.keys.mac) r.number r.byte c) (length c) refl
 
-  abbrev unprotectedAs : Opening → Step
-  unprotectedAs o =
+  abbrev unprotected_as : Opening → Step
+  unprotected_as o =
       unprotected_to u.protection u.expected u.state (kind_in d r) r.number (r.start + r.head) (fragment_of d r) o.protection o.opened
 
   opened-is : (c : List ℕ) → Protected u.protection.keys d r c → (x : Acceptance)
-      → unprotectedAs (opened_to u.protection (length c) x) ≡ windowed_to c (kind_in d r) x
+      → unprotected_as (opened_to u.protection (length c) x) ≡ windowed_to c (kind_in d r) x
   opened-is c s A.TooOld = refl
   opened-is c s A.Repeated = refl
   opened-is c s (A.New w n) =
       ap (content_by w u.protection.keys.mac u.expected u.state (kind_in d r) r.number (r.start + r.head)) (front_is c s)
 
   unprotect-is : (c : List ℕ) → Protected u.protection.keys d r c → (x : Acceptance) → accept_of u.protection.window r.number ≡ x
-      → ruledAs T.Unprotect ≡ stepped_by u (windowed_to c (kind_in d r) x)
+      → ruled_as T.Unprotect ≡ stepped_by u (windowed_to c (kind_in d r) x)
   unfolding ruled_by step_by unprotected_by
   unprotect-is c s x e =
-      ap (λ o. stepped_by u (unprotectedAs o))
+      ap (λ o. stepped_by u (unprotected_as o))
       (coded_opens u.protection FromShore r.number r.byte (fragment_of d r) c s.is_coded ∙ ap (opened_to u.protection (length c)) e)
       ∙ ap (stepped_by u) (opened-is c s x)
 
-  forged_is : r.protected ≡ true → ((c : List ℕ) → Protected u.protection.keys d r c → ⊥) → ruledAs T.Unprotect ≡ judged (W.Refused X.Forged) u
+  forged_is : r.protected ≡ true → ((c : List ℕ) → Protected u.protection.keys d r c → ⊥) → ruled_as T.Unprotect ≡ judged (W.Refused X.Forged) u
   unfolding ruled_by step_by unprotected_by left_by
   forged_is p never =
-      ap (λ o. stepped_by u (unprotectedAs o))
+      ap (λ o. stepped_by u (unprotected_as o))
       (uncoded_forged u.protection FromShore r.number r.byte (fragment_of d r) (λ c e. never c (record { is_protected = p; is_coded = e })))
 
   -- ---- every record has a row
@@ -415,8 +415,8 @@ module _ (u : Ship) (d : List ℕ) (r : Record) where
   hear_row e (R.WellFormed a) q = sum_row a e q (matches_of u.sent a.checksum) refl
 
   module _ (c : List ℕ) (w : Window) (n : New u d r c w) where
-    abbrev contentAs : Kind → Step
-    contentAs k = content_by w u.protection.keys.mac u.expected u.state k r.number (r.start + r.head) c
+    abbrev content_as : Kind → Step
+    content_as k = content_by w u.protection.keys.mac u.expected u.state k r.number (r.start + r.head) c
 
     guarded : Guards u.state (kind_in d r)
     guarded = ruled-says u d r T.Unprotect n.ruled
@@ -494,7 +494,7 @@ module _ (u : Ship) (d : List ℕ) (r : Record) where
     not-clear : {P : Type 0} (k : Kind) → kind_in d r ≡ k → protected_kind k ≡ false → P
     not-clear k e f = true_false r.protected (ruled-protected n.ruled) (sym is-protected-kind ∙ ap protected_kind e ∙ f)
 
-    content_row : (k : Kind) → kind_in d r ≡ k → Row u d r (stepped_by u (contentAs k))
+    content_row : (k : Kind) → kind_in d r ≡ k → Row u d r (stepped_by u (content_as k))
     unfolding left_by content_by alerted_by handshake_by requested_by
     content_row K.ClearHello e = not-clear K.ClearHello e refl
     content_row K.ClearRequest e = not-clear K.ClearRequest e refl
@@ -509,19 +509,19 @@ module _ (u : Ship) (d : List ℕ) (r : Record) where
   window_row : Ruled u d r T.Unprotect → (c : List ℕ) → Protected u.protection.keys d r c → (x : Acceptance)
       → accept_of u.protection.window r.number ≡ x → Row u d r (stepped_by u (windowed_to c (kind_in d r) x))
   unfolding left_by
-  window_row e c s A.TooOld q = row_stays (too_old_lem c e s q)
+  window_row e c s A.TooOld q = row_stays (too_old c e s q)
   window_row e c s A.Repeated q = row_stays (repeated c e s q)
   window_row e c s (A.New w n) q = content_row c w (record { ruled = e; coded = s; arrived = n; accepted = q }) (kind_in d r) refl
 
   code_row : Ruled u d r T.Unprotect
       → ((c : List ℕ) × Protected u.protection.keys d r c) ⊎ ((c : List ℕ) → Protected u.protection.keys d r c → ⊥)
-      → Row u d r (ruledAs T.Unprotect)
+      → Row u d r (ruled_as T.Unprotect)
   code_row e (inl (c, s)) =
       subst (Row u d r) (sym (unprotect-is c s (accept_of u.protection.window r.number) refl))
       (window_row e c s (accept_of u.protection.window r.number) refl)
   code_row e (inr never) = subst (Row u d r) (sym (forged_is (ruled-protected e) never)) (row_stays (forged e never))
 
-  rule-row : (rule : Rule) → Ruled u d r rule → Row u d r (ruledAs rule)
+  rule-row : (rule : Rule) → Ruled u d r rule → Row u d r (ruled_as rule)
   rule-row T.Ended e = subst (Row u d r) (sym ended_is) (row_stays (at_end e))
   rule-row T.NotAllowed e = subst (Row u d r) (sym not_allowed_is) (row_stays (not_allowed e))
   rule-row T.Agree e = subst (Row u d r) (sym (agree-is (eqb r.start 0) refl)) (first_row e (eqb r.start 0) refl)
@@ -563,7 +563,7 @@ module _ (u : Ship) (d : List ℕ) (r : Record) where
   stays-is (not_allowed e) = ruled_is T.NotAllowed e ∙ not_allowed_is
   stays-is (not_first e z) = ruled_is T.Agree e ∙ agree-is false (ne_eqb r.start 0 z)
   stays-is (forged e never) = ruled_is T.Unprotect e ∙ forged_is (ruled-protected e) never
-  stays-is (too_old_lem c e s q) = windowed_is c e s A.TooOld q
+  stays-is (too_old c e s q) = windowed_is c e s A.TooOld q
   stays-is (repeated c e s q) = windowed_is c e s A.Repeated q
   stays-is (bad_hello e z q) = agreed_is G.Malformed e z q
   stays-is (bad_request e q) = ruled_is T.Request e ∙ request-is false q
@@ -581,10 +581,10 @@ module _ (u : Ship) (d : List ℕ) (r : Record) where
   shuts-is (fatal a e q m l) = leveled-is a e q m L.Fatal l
 
   module _ (c : List ℕ) (w : Window) (n : New u d r c w) where
-    new_is : (k : Kind) → kind_in d r ≡ k → judged_record u d r ≡ stepped_by u (contentAs c w n k)
+    new_is : (k : Kind) → kind_in d r ≡ k → judged_record u d r ≡ stepped_by u (content_as c w n k)
     new_is k e =
         windowed_is c n.ruled n.coded (A.New w n.arrived) n.accepted
-        ∙ ap (λ x. stepped_by u (contentAs c w n x)) e
+        ∙ ap (λ x. stepped_by u (content_as c w n x)) e
 
     alert_is : (x : Reading) → kind_in d r ≡ K.ProtectedAlert → alert_of c ≡ x → judged_record u d r ≡ stepped_by u (alerted_to w x)
     unfolding content_by alerted_by
@@ -611,14 +611,14 @@ module _ (u : Ship) (d : List ℕ) (r : Record) where
         ∙ ap (λ s. judged (W.Warning a.description) (with_state (with_window u w) s)) (settled-spec u.state e)
     warned-in-spec a k q l e false b = warned-is a k q l false b
 
-    abbrev messageAs : Bool → Step
-    messageAs b =
+    abbrev message_as : Bool → Step
+    message_as b =
         pick b (pick b (step (request_in u.state) w Stay) (refusing w X.Malformed))
         (verified_by w u.protection.keys.mac u.expected u.state c)
 
-    message_is : (b : Bool) → kind_in d r ≡ K.ProtectedHandshake → is_request c ≡ b → judged_record u d r ≡ stepped_by u (messageAs b)
+    message_is : (b : Bool) → kind_in d r ≡ K.ProtectedHandshake → is_request c ≡ b → judged_record u d r ≡ stepped_by u (message_as b)
     unfolding content_by handshake_by requested_by
-    message_is b k q = new_is K.ProtectedHandshake k ∙ ap (λ x. stepped_by u (messageAs x)) q
+    message_is b k q = new_is K.ProtectedHandshake k ∙ ap (λ x. stepped_by u (message_as x)) q
 
     verdict-is : (x : Verified) → kind_in d r ≡ K.ProtectedHandshake → is_request c ≡ false → judged_of c u.expected ≡ x
         → (s : State) → u.state ≡ s → judged_record u d r ≡ stepped_by u (verified_to w u.protection.keys.mac s x)

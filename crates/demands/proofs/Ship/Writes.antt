@@ -86,11 +86,11 @@ module _ (u : Ship) (random macs : List ℕ) (refresh : ℕ) (out : List ℕ) wh
   abbrev said : Kinds → List ℕ
   said kinds = hello_datagram u.id random (offer_of kinds refresh)
 
-  abbrev greetedAs : Kinds → Ship
-  greetedAs kinds = greeted u random (offer_of kinds refresh) (sum_of (said kinds))
+  abbrev greeted_as : Kinds → Ship
+  greeted_as kinds = greeted u random (offer_of kinds refresh) (sum_of (said kinds))
 
   abbrev Greeted : Step → Type 0
-  Greeted s = IsDone s.result → (kinds : Kinds) × (kinds_named macs ≡ Are kinds) × (s ≡ wrote_step out (said kinds) (greetedAs kinds))
+  Greeted s = IsDone s.result → (kinds : Kinds) × (kinds_named macs ≡ Are kinds) × (s ≡ wrote_step out (said kinds) (greeted_as kinds))
 
   greeted-by : (kinds : Kinds) → kinds_named macs ≡ Are kinds
       → Greeted (sent_as (greeted_with u random (offer_of kinds refresh) (length out)) (written_of out (said kinds)))
@@ -123,9 +123,9 @@ module _ (u : Ship) (random macs : List ℕ) (refresh : ℕ) (out : List ℕ) wh
         named = q.1;
         bytes = said q.0;
         bytes_are = refl;
-        left = greetedAs q.0;
+        left = greeted_as q.0;
         wrote = q.2;
-        said_next = λ more fits. again-hello (greetedAs q.0) more (inl refl) fits;
+        said_next = λ more fits. again-hello (greeted_as q.0) more (inl refl) fits;
       }
 
 pub hello-said-next : HelloSaidNext step_of

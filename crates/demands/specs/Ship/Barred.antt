@@ -25,7 +25,7 @@ pub record FatalUnderCode (u : Ship) (e : Event) : Type 0 where
   pub new : New u d r c w
   pub alert : r.content ≡ C.Alert
   pub a : Alert
-  pub well_formed_lem : alert_of c ≡ R.WellFormed a
+  pub well_formed : alert_of c ≡ R.WellFormed a
   pub fatal : a.level ≡ L.Fatal
 
 -- barred, and the session's identifier, its secret, both randoms and what Finished is to hold are zeros: "required to forget any session

@@ -31,7 +31,7 @@ pub record Second : Type 0 where
   pub again_same : AgainSame
   -- "A success writes the counted bytes at the front and no others."
   pub again_gives : AgainGives step_of
-  pub hello_said_lem : HelloSaidNext step_of
+  pub hello_said : HelloSaidNext step_of
   pub open_writes : OpenWrites step_of
   pub unwritten : NothingWithoutOpen step_of
   pub data_written : DataWritten step_of

@@ -78,7 +78,7 @@ after u (e ∷ es) = after (next u e) es
 pub data Happened : Type 0 where
   answered : (d : List ℕ) (r : Record) (a : Answer) → Happened
   greeted : (random macs : List ℕ) (refresh : ℕ) (bytes : List ℕ) → Happened
-  said_again_lem : (bytes : List ℕ) → Happened
+  said_again : (bytes : List ℕ) → Happened
   wrote : (protected : Bool) (bytes : List ℕ) → Happened
   closed : Happened
   started : Happened
@@ -98,7 +98,7 @@ happening u (greeting random macs refresh out) =
     let s = hello_sent u random macs refresh (length out) in
     if_done s.outcome (greeted random macs refresh (written_by s (hello_output u random macs refresh out)))
 happening u (repeating out) =
-    let s = again_sent u (length out) in if_done s.outcome (said_again_lem (written_by s (again_output u out)))
+    let s = again_sent u (length out) in if_done s.outcome (said_again (written_by s (again_output u out)))
 happening u (sending bytes out) =
     let s = data_sent u bytes (length out) in if_done s.outcome (wrote true (written_by s (data_output u bytes out)))
 happening u (alerting protected level description lent out) =

@@ -15,7 +15,7 @@ use Rattle.unit.specs.Judge.{judged_record}
 use Rattle.unit.specs.declared.answer.Answer.TheVariants.{Open}
 use Rattle.demands.specs.Past.{shuts}
 use Rattle.demands.specs.Ship.Genuine.{Protected}
-use Rattle.demands.specs.Ship.Events.{Event, after, Happened, answered, greeted, said_again_lem, wrote, closed, started, refused, history}
+use Rattle.demands.specs.Ship.Events.{Event, after, Happened, answered, greeted, said_again, wrote, closed, started, refused, history}
 use Rattle.demands.specs.Ship.Runs.{fresh_ship}
 use Rattle.demands.specs.Ship.HandedOut.{HandsOut}
 use Rattle.demands.specs.Ship.Past.{is_hello, read, last_read, keys_for}
@@ -25,7 +25,7 @@ abbrev pub Quiet : List Happened → Type 0
 Quiet [] = Unit
 Quiet (answered d r a ∷ past) = (is_hello a ≡ false) × (shuts (as_ashore a) ≡ false) × Quiet past
 Quiet (greeted random macs refresh bytes ∷ past) = ⊥
-Quiet (said_again_lem bytes ∷ past) = Quiet past
+Quiet (said_again bytes ∷ past) = Quiet past
 Quiet (wrote protected bytes ∷ past) = Quiet past
 Quiet (closed ∷ past) = ⊥
 Quiet (started ∷ past) = ⊥

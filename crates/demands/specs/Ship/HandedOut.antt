@@ -11,7 +11,7 @@ use Rattle.unit.specs.Judge.{judged_record}
 use Rattle.unit.specs.declared.answer.Answer.{Answer}
 use Rattle.unit.specs.declared.unit.Unit.{Unit as Ship}
 use Rattle.demands.specs.Genuine.{RecordOf}
-use Rattle.demands.specs.Past.{is_data as dataAshore}
+use Rattle.demands.specs.Past.{is_data as data_ashore}
 use Rattle.demands.specs.Course.{Course}
 use Rattle.demands.specs.Ship.Table.{Up, Over}
 use Rattle.demands.specs.Ship.Events.{Event, took, after}
@@ -19,7 +19,7 @@ use Rattle.demands.specs.Ship.Course.{Due, HoldsNumbers, course_from, OngoingFro
 
 -- whether an answer hands out data, and what: as ashore
 abbrev pub HandsOut : Answer → Type 0
-HandsOut a = dataAshore (as_ashore a) ≡ true
+HandsOut a = data_ashore (as_ashore a) ≡ true
 
 abbrev pub handed_by : List ℕ → Answer → List ℕ
 handed_by d a = handed_of d (as_ashore a)

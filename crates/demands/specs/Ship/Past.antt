@@ -15,8 +15,8 @@ use Rattle.unit.specs.Hello.{offer_of}
 use Rattle.unit.specs.Unit.{nothing_offered}
 use Rattle.unit.specs.declared.answer.Answer.{Answer}
 use Rattle.unit.specs.declared.answer.Answer.TheVariants.{Nothing, Hello, Spec, Open, Again, Data, Request, Ignored, Warning, Critical, Fatal, Barred, Refused}
-use Rattle.demands.specs.Past.{is_spec, marks as marksAshore}
-use Rattle.demands.specs.Ship.Events.{Happened, answered, greeted, said_again_lem, wrote, closed, started, refused}
+use Rattle.demands.specs.Past.{is_spec, marks as marks_ashore}
+use Rattle.demands.specs.Ship.Events.{Happened, answered, greeted, said_again, wrote, closed, started, refused}
 
 -- ---- answers
 
@@ -50,7 +50,7 @@ marks (Warning description) = true
 marks (Critical description) = true
 marks (Fatal description) = false
 marks (Barred description) = true
-marks (Refused refusal) = marksAshore (as_ashore (Refused refusal))
+marks (Refused refusal) = marks_ashore (as_ashore (Refused refusal))
 
 -- ---- hellos
 
@@ -67,7 +67,7 @@ unfoldable pub last_hello : List Happened → Said
 last_hello [] = silent
 last_hello (answered d r a ∷ past) = last_hello past
 last_hello (greeted random macs refresh bytes ∷ past) = said random (offer_named (kinds_named macs) refresh)
-last_hello (said_again_lem bytes ∷ past) = last_hello past
+last_hello (said_again bytes ∷ past) = last_hello past
 last_hello (wrote protected bytes ∷ past) = last_hello past
 last_hello (closed ∷ past) = last_hello past
 last_hello (started ∷ past) = last_hello past
@@ -86,7 +86,7 @@ unfoldable pub last_read : List Happened → Read
 last_read [] = unread
 last_read (answered d r a ∷ past) = pick (is_hello a) (read_as (last_hello past) (fragment_of d r)) (last_read past)
 last_read (greeted random macs refresh bytes ∷ past) = unread
-last_read (said_again_lem bytes ∷ past) = last_read past
+last_read (said_again bytes ∷ past) = last_read past
 last_read (wrote protected bytes ∷ past) = last_read past
 last_read (closed ∷ past) = last_read past
 last_read (started ∷ past) = unread
@@ -106,7 +106,7 @@ accepted_in (answered d r a ∷ past) =
     pick (is_spec (as_ashore a)) []
     (pick (pick r.protected (marks a) false) (r.number ∷ accepted_in past) (accepted_in past))
 accepted_in (greeted random macs refresh bytes ∷ past) = accepted_in past
-accepted_in (said_again_lem bytes ∷ past) = accepted_in past
+accepted_in (said_again bytes ∷ past) = accepted_in past
 accepted_in (wrote protected bytes ∷ past) = accepted_in past
 accepted_in (closed ∷ past) = accepted_in past
 accepted_in (started ∷ past) = []

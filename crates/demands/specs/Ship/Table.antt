@@ -73,7 +73,7 @@ pub data Stays (u : Ship) (d : List ℕ) (r : Record) : Answer → Type 0 where
   not_first : Ruled u d r T.Agree → r.start ≢ 0 → Stays u d r (W.Refused X.NotAllowed)
   -- 9, 10, 11
   forged : Ruled u d r T.Unprotect → ((c : List ℕ) → Protected u.protection.keys d r c → ⊥) → Stays u d r (W.Refused X.Forged)
-  too_old_lem : (c : List ℕ) → Ruled u d r T.Unprotect → Protected u.protection.keys d r c
+  too_old : (c : List ℕ) → Ruled u d r T.Unprotect → Protected u.protection.keys d r c
       → accept_of u.protection.window r.number ≡ A.TooOld → Stays u d r (W.Refused X.TooOld)
   repeated : (c : List ℕ) → Ruled u d r T.Unprotect → Protected u.protection.keys d r c
       → accept_of u.protection.window r.number ≡ A.Repeated → Stays u d r (W.Refused X.Repeated)
