@@ -336,8 +336,10 @@ fn any_gateway_takes_any_datagram() {
         ship.turn();
         ship.ship.send(&ship.ship.data(40));
     }
-    // Closed at one, it opens at the other.
+    // Closed at one, it opens at the other, once the one has taken the alert.
+    let log = || fs::read_to_string(place.path.join("log")).unwrap();
     ship.ship.send(&ship.ship.alert(2, 0, 41));
+    wait_for("the closing", || log().contains("closed by an alert, description 0"));
     ship.turn();
     ship.ship.open(2);
     ship.turn();
@@ -351,7 +353,6 @@ fn any_gateway_takes_any_datagram() {
     let mut barred = Spread::new(1, to);
     barred.ship.open(1);
     barred.ship.send(&barred.ship.alert(3, 40, 1));
-    let log = || fs::read_to_string(place.path.join("log")).unwrap();
     wait_for("the alert", || log().contains("session barred by a fatal alert"));
     barred.turn();
     let hello = barred.ship.hello(2);
