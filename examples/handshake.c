@@ -1,6 +1,6 @@
 /* A whole handshake and a report, and the report once more in two short messages, with a unit whose datagrams are stored (crates/handshakes has their values). To run it:
        tools/library gateway
-       cc -I include examples/handshake.c target/lib/libgateway.a -o handshake && ./handshake */
+       cc -I include examples/handshake.c target/staticlib/libgateway.a -o handshake && ./handshake */
 #include <stdio.h>
 #include "gateway.h"
 

@@ -1,7 +1,7 @@
 /* A ship's day: hello, the flight, a report and the shore's word, closing. The shore is the gateway, in this same program; on a ship
    each `cast` is a radio. To run it:
        tools/library gateway && tools/library shipboard
-       cc -I include examples/ship.c target/lib/libshipboard.a target/lib/libgateway.a -o ship && ./ship */
+       cc -I include examples/ship.c target/staticlib/libshipboard.a target/staticlib/libgateway.a -o ship && ./ship */
 #include <stdio.h>
 #include "gateway.h"
 #include "unit.h"

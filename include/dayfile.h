@@ -1,6 +1,6 @@
 /* The day's list of reports as one file, for C: written, read and mended, proved in Rattle.
 
-   Link target/lib/libdayfile.a (`tools/library dayfile`). There is no heap, no global and no system call, and nothing is kept
+   Link target/staticlib/libdayfile.a (`tools/library dayfile`). There is no heap, no global and no system call, and nothing is kept
    between calls. A call may be made on any bytes whatever: what is lent is tested, and what is wrong is refused with a number. A
    refused call leaves every lent byte as it was. The work of a call is linear in what it is lent.
 

@@ -1,6 +1,6 @@
 /* The shore end of one link, for C: WTLS (WAP-261, 6 April 2001) with one ship's unit, proved in Rattle.
 
-   Link target/lib/libgateway.a (`tools/library gateway`). There is no heap, no global and no system call: a connection,
+   Link target/staticlib/libgateway.a (`tools/library gateway`). There is no heap, no global and no system call: a connection,
    a tally and a gatherer of short messages live in bytes that the caller lends, and nothing is kept between calls. A call may
    be made on any bytes whatever: what is lent is tested, and what is wrong is refused with a number. A refused call leaves
    every lent byte as it was, but for what gateway_gather and gateway_message say of the gathering.

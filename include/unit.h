@@ -1,6 +1,6 @@
 /* The shipboard end of one link, for C: WTLS (WAP-261, 6 April 2001) between a ship's unit and the shore, proved in Rattle.
 
-   Link target/lib/libshipboard.a (`tools/library shipboard`). There is no heap, no global and no system call: a unit and a
+   Link target/staticlib/libshipboard.a (`tools/library shipboard`). There is no heap, no global and no system call: a unit and a
    tally live in bytes that the caller lends, and nothing is kept between calls. The stack that each call takes is in docs/SPEED.md.
    A call may be made on any bytes whatever: what is lent is tested, and what is wrong is refused with a number. A refused call
    leaves every lent byte as it was.

@@ -1,4 +1,4 @@
-//! Finds the proved library: target/lib/libshipboard.a of the repository, or the folder that SHIPBOARD_LIB names.
+//! Finds the proved library: target/staticlib/libshipboard.a of the repository, or the folder that SHIPBOARD_LIB names.
 
 use std::env;
 use std::path::PathBuf;
@@ -8,7 +8,7 @@ fn main() {
     let here = env::var_os("CARGO_MANIFEST_DIR").expect("cargo names the crate's folder");
     let folder = match env::var_os("SHIPBOARD_LIB") {
         Some(folder) => PathBuf::from(folder),
-        None => PathBuf::from(here).join("../../target/lib"),
+        None => PathBuf::from(here).join("../../target/staticlib"),
     };
     let archive = folder.join("libshipboard.a");
     println!("cargo:rerun-if-changed={}", archive.display());

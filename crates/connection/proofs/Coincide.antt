@@ -1,7 +1,7 @@
 -- Two outcomes that meet the contract of one public call are the same: a theorem for each call, over the very predicate of its
 -- `ensures` (`Determined`, in `digest`, says what is stated). A clause `exact`, or the only one, is an equation for the result, and
 -- `bytes` one for the lent output, which w stands for, in its place among the parameters. `handed` gives back a part of the lent
--- datagram: the same bytes. `receive_counted` is walked by hand, and the check makes no reading of its clauses: `promised` is one.
+-- datagram: the same bytes. Of `receive_counted` the three clauses are read one by one, as `promised`.
 use mathlib.Core.Path.{◌≡◌, refl, sym, ◌∙◌, ap}
 use contract.Lifetimes.{Lfts}
 use denote.Triple.Entry.{Args, Res}

@@ -1,5 +1,5 @@
 // What C and Rust link: each call is one of `lent`, or for short messages of `lentshort`, under a name of its own.
-// include/gateway.h is the manual. A crate apart, since the archive's build proves its crate once more: so little is proved twice.
+// include/gateway.h is the manual. A crate apart, since no crate can use a static library.
 #![tactic(auto)]
 
 ghost use Rattle.std.specs.Prelude.{◌≡◌, length};

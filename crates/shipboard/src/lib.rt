@@ -1,5 +1,5 @@
 // What C and Rust link of the shipboard end: each call is one of `lentunit`, under a name of its own. include/unit.h is the manual. A
-// crate apart, since the archive's build proves its crate once more: so little is proved twice.
+// crate apart, since no crate can use a static library.
 #![tactic(auto)]
 
 ghost use Rattle.std.specs.Prelude.{◌≡◌, length};
