@@ -9,7 +9,6 @@ use Rattle.dayfile.proofs.run.run_in.Goals as goal
 pub loop-end-init : goal.loop-end-init
 loop-end-init c = begun _
 
--- PAIR
 pub returns-in-Nothing : goal.returns-in-Nothing
 returns-in-Nothing c = let both = ended _ _ _ c.loop-end.invariant (sym c.report_at.ensures.exact ∙ c.in-Nothing.is) in record { exact = both.0; stands = both.1 }
 
@@ -28,6 +27,5 @@ loop-end-smaller c = omega (arith, c.loop-end-test.true)
 pub loop-end-preserved : goal.loop-end-preserved
 loop-end-preserved c = go_on _ _ _ c.loop-end.invariant _ _ (sym c.report_at.ensures.exact ∙ c.in-Whole.is) (λ n z e. c.report_at.ensures.stands n z (c.in-Whole.is ∙ e))
 
--- PAIR
 pub returns : goal.returns
 returns c = let both = ended _ _ _ c.loop-end.invariant (short_nothing _ (omega (arith, length-drop c.loop-end.end c.args.file.now, c.loop-end-test.false))) in record { exact = both.0; stands = both.1 }

@@ -29,6 +29,5 @@ slice_bounds-put-start-2 c = omega (arith, c.requires, c.bytes_below-at.ensures,
 pub slice_bounds-put-end-2 : goal.slice_bounds-put-end-2
 slice_bounds-put-end-2 c = omega (arith, c.requires, c.bytes_below-at.ensures, below_small c.args.s c.args.i, c.bytes_below-end.ensures, below_small c.args.s 11, below_mono c.args.s c.args.i 11 (omega arith))
 
--- PAIR
 pub returns : goal.returns
 returns c = let both = assemble_ends _ _ _ _ _ (search rules) (search rules) (search rules) (search rules) _ _ _ _ _ _ (search rules) c.bytes_below-at.ensures c.bytes_below-end.ensures c.put.ensures.exact c.put-2.ensures.exact c.put-3.ensures.exact in record { value = both.0; assembly_after = both.1 }

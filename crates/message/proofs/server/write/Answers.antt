@@ -9,25 +9,21 @@ use Rattle.message.proofs.Buffers.{wrote_none, wrote_no_room, wrote_all, puts_as
 use Rattle.message.proofs.Replies.{reply_random, reply_session, reply_hello, length_server, put_server}
 use Rattle.message.proofs.server.write.Goals as goal
 
--- PAIR
 pub returns-then-random-ne16 : goal.returns-then-random-ne16
 returns-then-random-ne16 c = let both = let a = c.args in
     wrote_none a.out.now (reply_of a.random.now a.session.now a.plan) (ap length (reply_random a.random.now a.session.now a.plan c.if-random-ne16.true)) in record { value = both.0; out_after = both.1 }
 
--- PAIR
 pub returns-then-session-gt8 : goal.returns-then-session-gt8
 returns-then-session-gt8 c = let both = let a = c.args in
     wrote_none a.out.now (reply_of a.random.now a.session.now a.plan)
     (ap length (reply_session a.random.now a.session.now a.plan c.if-random-ne16.false c.if-session-gt8.true)) in record { value = both.0; out_after = both.1 }
 
--- PAIR
 pub returns-then-out-session : goal.returns-then-out-session
 returns-then-out-session c = let both = let a = c.args in
     let e = reply_hello a.random.now a.session.now a.plan c.if-random-ne16.false c.if-session-gt8.false in
     wrote_no_room a.out.now (reply_of a.random.now a.session.now a.plan)
     (omega (arith, ap length e, length_server a.random.now a.session.now a.plan)) in record { value = both.0; out_after = both.1 }
 
--- PAIR
 pub returns : goal.returns
 returns c = let both = let a = c.args in
     let h = c.if-random-ne16.false in

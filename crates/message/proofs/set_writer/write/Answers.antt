@@ -5,24 +5,20 @@ use Rattle.message.proofs.Buffers.{wrote_none}
 use Rattle.message.proofs.SetsPut.{wrote_as, dh_same, ec_same, set_as}
 use Rattle.message.proofs.set_writer.write.Goals as goal
 
--- PAIR
 pub returns-in-Skipped : goal.returns-in-Skipped
 returns-in-Skipped c = let both = let a = c.args in
     wrote_as a.out.now _ [] _ _ (set_as a.s.now a.set _ c.in-Skipped.is) (wrote_none a.out.now [] refl) in record { value = both.0; out_after = both.1 }
 
--- PAIR
 pub returns-in-Malformed : goal.returns-in-Malformed
 returns-in-Malformed c = let both = let a = c.args in
     wrote_as a.out.now _ [] _ _ (set_as a.s.now a.set _ c.in-Malformed.is) (wrote_none a.out.now [] refl) in record { value = both.0; out_after = both.1 }
 
--- PAIR
 pub returns-in-DiffieHellman : goal.returns-in-DiffieHellman
 returns-in-DiffieHellman c = let both = let a = c.args in
     wrote_as a.out.now _ _ _ _
     (dh_same _ _ _ _ _ c.part.ensures c.part-in-DiffieHellman.ensures ∙ set_as a.s.now a.set _ c.in-DiffieHellman.is)
     (c.write_dh.ensures.value, c.write_dh.ensures.out_after) in record { value = both.0; out_after = both.1 }
 
--- PAIR
 pub returns-in-EllipticCurve : goal.returns-in-EllipticCurve
 returns-in-EllipticCurve c = let both = let a = c.args in
     wrote_as a.out.now _ _ _ _

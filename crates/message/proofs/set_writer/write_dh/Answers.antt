@@ -8,7 +8,6 @@ use Rattle.message.proofs.SetsWritten.{vector_ceiling}
 use Rattle.message.proofs.SetsPut.{dh_no_p, dh_no_g, dh_written_lem, length_dh, put_dh}
 use Rattle.message.proofs.set_writer.write_dh.Goals as goal
 
--- PAIR
 pub returns-then-not-vector_allowed : goal.returns-then-not-vector_allowed
 returns-then-not-vector_allowed c = let both = let a = c.args in
     let e = a.e in
@@ -16,7 +15,6 @@ returns-then-not-vector_allowed c = let both = let a = c.args in
     let g = a.g.now in
     wrote_none a.out.now (dh_written e p g) (dh_no_p e p g (sym c.vector_allowed.ensures ∙ c.if-not-vector_allowed.true)) in record { value = both.0; out_after = both.1 }
 
--- PAIR
 pub returns-then-not-vector_allowed-2 : goal.returns-then-not-vector_allowed-2
 returns-then-not-vector_allowed-2 c = let both = let a = c.args in
     let e = a.e in
@@ -33,7 +31,6 @@ overflow_add-p-2 c = let a = c.args in
     let hg = vector_ceiling 1 65535 g (sym c.vector_allowed-2.ensures ∙ c.if-not-vector_allowed-2.false) in
     omega (arith, hp, hg)
 
--- PAIR
 pub returns-then-out-p : goal.returns-then-out-p
 returns-then-out-p c = let both = let a = c.args in
     let e = a.e in
@@ -42,7 +39,6 @@ returns-then-out-p c = let both = let a = c.args in
     let w = dh_written_lem e p g (sym c.vector_allowed.ensures ∙ c.if-not-vector_allowed.false) (sym c.vector_allowed-2.ensures ∙ c.if-not-vector_allowed-2.false) in
     wrote_no_room a.out.now (dh_written e p g) (omega (arith, ap length w, length_dh e p g, c.if-out-p.true)) in record { value = both.0; out_after = both.1 }
 
--- PAIR
 pub returns : goal.returns
 returns c = let both = let a = c.args in
     let e = a.e in

@@ -7,7 +7,6 @@ use Rattle.message.proofs.Buffers.{wrote_none, wrote_no_room, wrote_all, puts_as
 use Rattle.message.proofs.SetsPut.{field_written_lem, field_can, written_small, vectors_parts, ec_no_field, ec_no_vectors, ec_written_lem, length_ec, put_ec}
 use Rattle.message.proofs.set_writer.write_ec.Goals as goal
 
--- PAIR
 pub returns-then-front-eq0 : goal.returns-then-front-eq0
 returns-then-front-eq0 c = let both = let x = c.args in
     let f = field_at x.s.now x.field in
@@ -19,7 +18,6 @@ returns-then-front-eq0 c = let both = let x = c.args in
     let h = x.cofactor.now in
     wrote_none x.out.now (ec_written f a b s p n h) (ec_no_field f a b s p n h (sym c.field_size-front.ensures ∙ c.if-front-eq0.true)) in record { value = both.0; out_after = both.1 }
 
--- PAIR
 pub returns-then-not-vectors_allowed : goal.returns-then-not-vectors_allowed
 returns-then-not-vectors_allowed c = let both = let x = c.args in
     let f = field_at x.s.now x.field in
@@ -132,7 +130,6 @@ overflow_add-size-7 c = let x = c.args in
     let v = vectors_parts a b s p n h all in
     omega (arith, size, written_small f, v.a_size, v.b_size, v.seed_size, v.base_size, v.order_size, v.cofactor_size)
 
--- PAIR
 pub returns-then-out-size : goal.returns-then-out-size
 returns-then-out-size c = let both = let x = c.args in
     let f = field_at x.s.now x.field in
@@ -150,7 +147,6 @@ returns-then-out-size c = let both = let x = c.args in
     wrote_no_room x.out.now (ec_written f a b s p n h)
     (omega (arith, ap length w, length_ec f a b s p n h, size, ap length (field_written_lem f can), c.if-out-size.true)) in record { value = both.0; out_after = both.1 }
 
--- PAIR
 pub returns : goal.returns
 returns c = let both = let x = c.args in
     let f = field_at x.s.now x.field in

@@ -9,14 +9,12 @@ use Rattle.message.specs.Buffer.{Puts}
 use Rattle.message.proofs.Givens.{sent_allowed, allowed_parts, sent_hello, put_hello, length_hello}
 use Rattle.message.proofs.writer.write.Goals as goal
 
--- PAIR
 pub returns-then-size-eq0 : goal.returns-then-size-eq0
 returns-then-size-eq0 c = let both = let a = c.args in
     let v = given_of a.version a.random.now a.session.now a.client.now a.trusted.now a.suites.now a.methods.now a.numbering a.refresh in
     let e : c.size_of-size.result ≡ length (sent_of v) = c.size_of-size.ensures a.version a.numbering a.refresh in
     wrote_none a.out.now (sent_of v) (sym e ∙ c.if-size-eq0.true) in record { value = both.0; out_after = both.1 }
 
--- PAIR
 pub returns-then-out-size : goal.returns-then-out-size
 returns-then-out-size c = let both = let a = c.args in
     let v = given_of a.version a.random.now a.session.now a.client.now a.trusted.now a.suites.now a.methods.now a.numbering a.refresh in
@@ -37,7 +35,6 @@ overflow_cast-head c = let a = c.args in
     let t = sent_allowed v (λ z. c.if-size-eq0.false (e ∙ z)) in
     omega (arith, ap length (sent_hello v t), (allowed_parts v t).size)
 
--- PAIR
 pub returns : goal.returns
 returns c = let both = let a = c.args in
     let v = given_of a.version a.random.now a.session.now a.client.now a.trusted.now a.suites.now a.methods.now a.numbering a.refresh in

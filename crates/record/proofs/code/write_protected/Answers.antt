@@ -10,7 +10,6 @@ use Rattle.record.proofs.Fronts.{retold}
 use Rattle.record.proofs.ProtectedBytes.{protected}
 use Rattle.record.proofs.code.write_protected.Goals as goal
 
--- PAIR
 pub returns : goal.returns
 returns c = let both = let a = c.args in
     let body : List ℕ = a.body.now in

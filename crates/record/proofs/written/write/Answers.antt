@@ -8,7 +8,6 @@ use Rattle.record.specs.Written.{record_of}
 use Rattle.record.proofs.Fronts.{record_size, laid_three, room, no_room}
 use Rattle.record.proofs.written.write.Goals as goal
 
--- PAIR
 pub returns-then-out-head : goal.returns-then-out-head
 returns-then-out-head c = let both = let a = c.args in
     let first : List ℕ = a.first.now in
@@ -16,7 +15,6 @@ returns-then-out-head c = let both = let a = c.args in
     no_room a.out.now (record_of a.long a.protected a.content a.number (first ++ second))
     (omega (arith, record_size a.long a.protected a.content a.number _ first second c.header_size-head.ensures.value)) in record { count = both.0; bytes = both.1 }
 
--- PAIR
 pub returns-then-out-head-2 : goal.returns-then-out-head-2
 returns-then-out-head-2 c = let both = let a = c.args in
     let first : List ℕ = a.first.now in
@@ -24,7 +22,6 @@ returns-then-out-head-2 c = let both = let a = c.args in
     no_room a.out.now (record_of a.long a.protected a.content a.number (first ++ second))
     (omega (arith, record_size a.long a.protected a.content a.number _ first second c.header_size-head.ensures.value)) in record { count = both.0; bytes = both.1 }
 
--- PAIR
 pub returns-then-out-next : goal.returns-then-out-next
 returns-then-out-next c = let both = let a = c.args in
     let first : List ℕ = a.first.now in
@@ -32,7 +29,6 @@ returns-then-out-next c = let both = let a = c.args in
     no_room a.out.now (record_of a.long a.protected a.content a.number (first ++ second))
     (omega (arith, record_size a.long a.protected a.content a.number _ first second c.header_size-head.ensures.value)) in record { count = both.0; bytes = both.1 }
 
--- PAIR
 pub returns : goal.returns
 returns c = let both = let a = c.args in
     let first : List ℕ = a.first.now in

@@ -6,7 +6,6 @@ use Rattle.record.specs.Written.{record_of}
 use Rattle.record.proofs.Fronts.{retold}
 use Rattle.record.proofs.written.write_clear.Goals as goal
 
--- PAIR
 pub returns : goal.returns
 returns c = let both = let a = c.args in
     let whole = ap (record_of a.long false a.content a.number) (append-nil a.fragment.now) in

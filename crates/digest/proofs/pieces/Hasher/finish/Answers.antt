@@ -13,7 +13,6 @@ slice_bounds-ending-end c = let whole : length c.args.self.rest ≡ 64 = search 
 pub ending-requires : goal.ending-requires
 ending-requires c = let whole : length c.args.self.rest ≡ 64 = search rules in length-take-le _ _ (omega arith)
 
--- PAIR
 pub returns : goal.returns
 unfolding finished
 returns c = let both = let args = c.args in

@@ -8,7 +8,6 @@ use Rattle.digest.proofs.pieces.Hasher.update.Goals as goal
 pub lay-requires : goal.lay-requires
 lay-requires c = let whole : length c.args.self.rest ≡ 64 = search rules in omega arith
 
--- PAIR
 pub returns-then-s-fill : goal.returns-then-s-fill
 returns-then-s-fill c = let both = let args = c.args in
     both_updated args.self _ args.s.now
@@ -19,7 +18,6 @@ lay-requires-2 c = let args = c.args in
     let whole : length args.self.rest ≡ 64 = search (rules, c.well_formed.0) in
     left_over args.s.now args.self.rest args.self.count whole
 
--- PAIR
 pub returns : goal.returns
 returns c = let both = let args = c.args in
     let need = (64 - args.self.count % 64) % 64 in

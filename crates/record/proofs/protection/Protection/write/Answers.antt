@@ -6,12 +6,10 @@ use Rattle.record.specs.declared.protection.Wrote.TheVariants as W
 use Rattle.record.proofs.Protecting.{spent_as, no_room_as, wrote_as}
 use Rattle.record.proofs.protection.Protection.write.Goals as goal
 
--- PAIR
 pub returns-then-self-gt65535 : goal.returns-then-self-gt65535
 returns-then-self-gt65535 c = let both = let a = c.args in
     spent_as a.self a.sense a.content a.body.now a.out.now (omega arith) in record { exact = both.0; bytes = both.1 }
 
--- PAIR
 pub returns-then-size-eq0 : goal.returns-then-size-eq0
 returns-then-size-eq0 c = let both = let a = c.args in
     no_room_as a.self a.sense a.content a.body.now a.out.now _ _ _ (omega arith) c.key-key.ensures c.write_protected-size.ensures.count c.write_protected-size.ensures.bytes (omega arith) in record { exact = both.0; bytes = both.1 }
