@@ -18,10 +18,11 @@ use Rattle.connection.specs.declared.refusal.Refusal.TheVariants.{Argument}
 use Rattle.connection.specs.declared.asked.Whom.{Whom}
 use Rattle.connection.specs.declared.connection.Connection.{Connection}
 use Rattle.connection.specs.declared.told.Told.{Told}
-use Rattle.connection.specs.declared.receive.Taken.{Taken}
-use Rattle.connection.specs.declared.receive.Taken.TheVariants.{Records, Refused}
+use Rattle.connection.specs.declared.receive.Untaken.TheVariants.{Refused}
 use Rattle.connection.specs.declared.point.Point.{Point}
 use Rattle.connection.proofs.Running.{end_snoc}
+use Rattle.std.specs.Prelude.{Err, Ok, Result}
+use Rattle.connection.specs.declared.receive.Untaken.{Untaken}
 
 -- the records before an index, where there are more
 pub fewer : (d : List ℕ) (count index : ℕ) (records : List Record) → index < count → Walkable d count records → Walkable d index records
@@ -47,7 +48,7 @@ left_more c ours d records i left j h e told =
 
 -- no such record among them
 pub none_among : (c : Connection) (ours d : List ℕ) (records : List Record) (count index : ℕ) (p : Point) → count ≤ length records
-    → count ≤ index → p ≡ nowhere c (Refused Argument) → p ≡ point_among c ours d (take count records) index
+    → count ≤ index → p ≡ nowhere c (Err (Refused Argument)) → p ≡ point_among c ours d (take count records) index
 unfolding point_among
 none_among c ours d records count index p l h e =
     if_ge _ index (length (take count records)) (omega (arith, length-take-le count records l)) e
@@ -56,7 +57,7 @@ none_among c ours d records count index p l h e =
 pub one_among : (c : Connection) (ours d : List ℕ) (records : List Record) (count index : ℕ) (left : Connection) (whom : Whom) (t : Told)
     → count ≤ length records → index < count → left ≡ end_of c ours d (take index records)
     → whom ≡ whom_of left d (get_or records index blank) → t ≡ told_record left ours d (get_or records index blank)
-    → ◌≡◌ {A = Point} (record { taken = Records count; connection = left; whom = whom; found = get_or records index blank; answer = t.answer })
+    → ◌≡◌ {A = Point} (record { taken = Ok count; connection = left; whom = whom; found = get_or records index blank; answer = t.answer })
     (point_among c ours d (take count records) index)
 unfolding point_among point_at point_on
 one_among c ours d records count index left whom t l h e w told =
@@ -66,11 +67,11 @@ one_among c ours d records count index left whom t l h e w told =
     = e ∙ ap (end_of c ours d) (sym (take-take index count records (omega arith))) in
     let r_is : r ≡ get_or (take count records) index blank = sym (get_or-take count records index blank h) in
     if_lt _ index (length (take count records)) (omega arith)
-    ((λ i. record { taken = Records (size i); connection = left; whom = w i; found = r; answer = (told i).answer })
-    ∙ (λ i. record { taken = Records (length (take count records)); connection = left_is i; whom = whom_of (left_is i) d (r_is i); found = r_is i; answer = (told_record (left_is i) ours d (r_is i)).answer }))
+    ((λ i. record { taken = Ok (size i); connection = left; whom = w i; found = r; answer = (told i).answer })
+    ∙ (λ i. record { taken = Ok (length (take count records)); connection = left_is i; whom = whom_of (left_is i) d (r_is i); found = r_is i; answer = (told_record (left_is i) ours d (r_is i)).answer }))
 
 -- no record lies inside any datagram
-pub nowhere_inside : (c : Connection) (taken : Taken) (p : Point) (d : List ℕ) → p ≡ nowhere c taken
+pub nowhere_inside : (c : Connection) (taken : Result ℕ Untaken) (p : Point) (d : List ℕ) → p ≡ nowhere c taken
     → p.found.start + p.found.head + p.found.size ≤ length d
 nowhere_inside c taken p d e = rw e (omega arith)
 

@@ -33,10 +33,10 @@ use Rattle.connection.specs.Receive.{end_of, answers_of, slot, slots_of, sent_by
 use Rattle.connection.specs.declared.answer.Answer.{Answer}
 use Rattle.connection.specs.declared.answer.Answer.TheVariants.{Nothing}
 use Rattle.connection.specs.declared.answer.Slot.{Slot}
-use Rattle.connection.specs.declared.receive.Taken.TheVariants.{Records}
 use Rattle.connection.specs.declared.receive.Received.{Received}
 use Rattle.connection.specs.declared.connection.Connection.{Connection}
 use Rattle.connection.specs.declared.told.Told.{Told}
+use Rattle.std.specs.Prelude.{Ok}
 
 pub end_snoc : (c : Connection) (random d : List ℕ) (rs : List Record) (r : Record)
     → end_of c random d (rs ++ (r ∷ [])) ≡ (told_record (end_of c random d rs) random d r).connection
@@ -139,7 +139,7 @@ first_and_later records count some l =
 pub run_by : (c : Connection) (ours d : List ℕ) (records : List Record) (count i : ℕ) (answers : List Slot) (left : Connection) (j : Told) (written : ℕ)
     → 0 < count → count ≤ length records → count ≤ i + 1 → j ≡ told_record c ours d (get_or records 0 blank)
     → Ran d ours records count j.connection j.answer answers left i → written ≡ length (sent_by j)
-    → ◌≡◌ {A = Received} (record { taken = Records count; answers = answers; written = written; connection = left }) (run_of c ours d (take count records))
+    → ◌≡◌ {A = Received} (record { taken = Ok count; answers = answers; written = written; connection = left }) (run_of c ours d (take count records))
 unfolding run_of end_of answers_of first_reply
 run_by c ours d records count i answers left j written some l done ej ran ew =
     let rs-is = first_and_later records count some l in
@@ -147,11 +147,11 @@ run_by c ours d records count i answers left j written some l done ej ran ew =
     let size : count ≡ length (take count records) = sym (length-take-le count records l) in
     let left_is = ran.left_is ∙ ap (end_of j.connection ours d) all in
     let answers_are = ran.answers_are ∙ ap (λ x. slots_of (j.answer ∷ answers_of j.connection ours d x)) all in
-    let made : ◌≡◌ {A = Received} (record { taken = Records count; answers = answers; written = written; connection = left })
-    (record { taken = Records (length (take count records)); answers = slots_of (j.answer ∷ answers_of j.connection ours d (later records count)); written = length (sent_by j); connection = end_of j.connection ours d (later records count) })
-    = λ k. record { taken = Records (size k); answers = answers_are k; written = ew k; connection = left_is k } in
+    let made : ◌≡◌ {A = Received} (record { taken = Ok count; answers = answers; written = written; connection = left })
+    (record { taken = Ok (length (take count records)); answers = slots_of (j.answer ∷ answers_of j.connection ours d (later records count)); written = length (sent_by j); connection = end_of j.connection ours d (later records count) })
+    = λ k. record { taken = Ok (size k); answers = answers_are k; written = ew k; connection = left_is k } in
     made
-    ∙ (λ k. record { taken = Records (length (rs-is k)); answers = slots_of ((ej k).answer ∷ answers_of (ej k).connection ours d (later records count)); written = length (sent_by (ej k)); connection = end_of (ej k).connection ours d (later records count) })
+    ∙ (λ k. record { taken = Ok (length (rs-is k)); answers = slots_of ((ej k).answer ∷ answers_of (ej k).connection ours d (later records count)); written = length (sent_by (ej k)); connection = end_of (ej k).connection ours d (later records count) })
     ∙ ap (run_of c ours d) (sym rs-is)
 
 pub first_reply_lem : (c : Connection) (ours d : List ℕ) (records : List Record) (count : ℕ) (j : Told) → 0 < count → count ≤ length records
@@ -321,13 +321,13 @@ begun_written c ours d r = told (is_hello (kind_in d r))
 -- a run at its end
 pub gone : (d ours : List ℕ) (c : Connection) (rs : List Record) (answers : List Slot) (left : Connection) (i at count written : ℕ) → length rs ≡ count → count ≤ i
     → Going d ours c rs answers left i at → written ≡ length (first_reply c ours d rs)
-    → ◌≡◌ {A = Received} (record { taken = Records count; answers = answers; written = written; connection = left }) (run_of c ours d rs)
+    → ◌≡◌ {A = Received} (record { taken = Ok count; answers = answers; written = written; connection = left }) (run_of c ours d rs)
 unfolding run_of
 gone d ours c rs answers left i at count written size done g ew =
     let all : take i rs ≡ rs = take_all i rs (omega arith) in
     let left_is = g.left_is ∙ ap (end_of c ours d) all in
     let answers_are = g.answers_are ∙ ap (λ x. slots_of (answers_of c ours d x)) all in
-    λ k. record { taken = Records (sym size k); answers = answers_are k; written = ew k; connection = left_is k }
+    λ k. record { taken = Ok (sym size k); answers = answers_are k; written = ew k; connection = left_is k }
 
 -- the record at the place is the next one
 pub record_next : (d ours : List ℕ) (c : Connection) (rs : List Record) (answers : List Slot) (left : Connection) (i at : ℕ) → i < length rs → CoversFrom d 0 rs
@@ -448,7 +448,7 @@ module _ (d ours : List ℕ) (c : Connection) (w : Walk) (b : Begun) (r : Record
 
   pub goes_end : (answers : List Slot) (left : Connection) (i at : ℕ) → w.count ≤ i
       → Goes d w.count first b.connection b.done b.at answers left i at
-      → ◌≡◌ {A = Received} (record { taken = Records w.count; answers = answers; written = b.written; connection = left }) (run_of c ours d rs)
+      → ◌≡◌ {A = Received} (record { taken = Ok w.count; answers = answers; written = b.written; connection = left }) (run_of c ours d rs)
   goes_end answers left i at done g =
       gone d ours c rs answers left i at w.count b.written counted done (g.goes ours c rs counted walked.4 walked.0 began_going)
       (ap (λ (x : Begun). x.written) eb ∙ begun_written c ours d r ∙ ap length replied)

@@ -20,13 +20,10 @@ use Rattle.record.proofs.ProtectedBytes.{protected_length}
 use Rattle.record.specs.declared.header.Content.{Content}
 use Rattle.record.specs.declared.header.Content.TheVariants as C
 use Rattle.digest.specs.Pick.{pick}
-use Rattle.message.specs.declared.alert.Graded.TheVariants as G
-use Rattle.message.specs.declared.alert.Sorted.{Sorted}
-use Rattle.message.specs.declared.alert.Sorted.TheVariants as D
 use Rattle.record.specs.Protection.{next_record, counted_on, wrote_size, writing, wrote_by, output_by}
 use Rattle.record.specs.declared.keys.Sense.TheVariants.{FromShore}
 use Rattle.record.specs.declared.protection.Writing.{Writing}
-use Rattle.record.specs.declared.protection.Wrote.TheVariants as W
+use Rattle.record.specs.declared.protection.Unwritten.TheVariants as W
 use Rattle.record.proofs.Protecting.{record_under_length, wrote_when, output_when}
 use Rattle.connection.specs.Send.{and_then, may_data, numbered_by, data_refused, alert_refused, unsent, sent_to, output_to, next_protected, next_clear, alert_sent_as, alert_output_as, after_protected, after_clear, after_send, sender_of, clear_back, done, done_with}
 use Rattle.connection.specs.Sent.{sum_of, with_record}
@@ -37,9 +34,9 @@ use Rattle.connection.specs.declared.refusal.Refusal.TheVariants.{Room, Spent, A
 use Rattle.connection.specs.declared.sent.SentRecords.{SentRecords}
 use Rattle.connection.specs.declared.handshake.Handshake.{Handshake}
 use Rattle.connection.specs.declared.connection.Connection.{Connection}
-use Rattle.connection.specs.declared.calls.Outcome.{Outcome}
-use Rattle.connection.specs.declared.calls.Outcome.TheVariants.{Done, Refused}
 use Rattle.connection.specs.declared.send.Sent.{Sent}
+use Rattle.std.specs.Prelude.{Err, None, Ok, Option, Result, Some, ⊤}
+use Rattle.message.specs.declared.alert.Description.{Description}
 
 -- a protected record without a length: three bytes, the content and the code
 pub protected_size : (k : List ℕ) (mac : Mac) (content : Content) (number : ℕ) (body : List ℕ)
@@ -79,7 +76,7 @@ unfolding next_protected
 protected_wrote h content body out after w n few fits ew ea en =
     let p = h.protection in
     let next = next_record p FromShore content body in
-    let done-is : w ≡ writing (W.Done (length next)) (counted_on p) = ew ∙ wrote_when p FromShore content body out few fits in
+    let done-is : w ≡ writing (Ok (length next)) (counted_on p) = ew ∙ wrote_when p FromShore content body out few fits in
     let count-is : n ≡ length next = en ∙ ap (λ (x : Writing). wrote_size x.wrote) done-is in
     let after_is : after ≡ laid_over out 0 next = ea ∙ output_when p FromShore content body out few fits in
     let all : n ≡ 0 + length next = count-is ∙ sym (zero-add (length next)) in (
@@ -88,31 +85,31 @@ protected_wrote h content body out after w n few fits ew ea en =
     )
 
 -- A send that is refused, and one that is done.
-pub refused_send : (c : Connection) (success : Sent) (out bytes : List ℕ) (o : Outcome) (r : Refusal) → o ≡ Refused r
+pub refused_send : (c : Connection) (success : Sent) (out bytes : List ℕ) (o : Result ⊤ Refusal) (r : Refusal) → o ≡ Err r
     → (unsent c r ≡ sent_to c success o) × (out ≡ output_to out bytes o)
 refused_send c success out bytes o r e = (sym (ap (sent_to c success) e), sym (ap (output_to out bytes) e))
 
-pub done_send : (c : Connection) (success : Sent) (out bytes : List ℕ) (o : Outcome) → o ≡ Done
+pub done_send : (c : Connection) (success : Sent) (out bytes : List ℕ) (o : Result ⊤ Refusal) → o ≡ Ok tt
     → (success ≡ sent_to c success o) × (laid_over out 0 bytes ≡ output_to out bytes o)
 done_send c success out bytes o e = (sym (ap (sent_to c success) e), sym (ap (output_to out bytes) e))
 
 -- What a send that is not refused has: a number to spend, and room.
-pick_done : (b : Bool) (r : Refusal) (o : Outcome) → pick b (Refused r) o ≡ Done → (b ≡ false) × (o ≡ Done)
+pick_done : (b : Bool) (r : Refusal) (o : Result ⊤ Refusal) → pick b (Err r) o ≡ Ok tt → (b ≡ false) × (o ≡ Ok tt)
 pick_done true r o e = let z : ◌≡◌ {A = ℕ} 0 1 = cc in absurd (omega arith)
 pick_done false r o e = (refl, e)
 
-then_done : (a o : Outcome) → and_then a o ≡ Done → o ≡ Done
-then_done Done o e = e
-then_done (Refused r) o e = let z : ◌≡◌ {A = ℕ} 0 1 = cc in absurd (omega arith)
+then_done : (a o : Result ⊤ Refusal) → and_then a o ≡ Ok tt → o ≡ Ok tt
+then_done (Ok tt) o e = e
+then_done (Err r) o e = let z : ◌≡◌ {A = ℕ} 0 1 = cc in absurd (omega arith)
 
-numbered_done : (number size room : ℕ) → numbered_by number size room ≡ Done → (number ≤ 65535) × (size ≤ room)
+numbered_done : (number size room : ℕ) → numbered_by number size room ≡ Ok tt → (number ≤ 65535) × (size ≤ room)
 unfolding numbered_by
 numbered_done number size room e =
-    let a = pick_done (ltb 65535 number) Spent (pick (ltb room size) (Refused Room) Done) e in
-    let b = pick_done (ltb room size) Room Done a.1 in
+    let a = pick_done (ltb 65535 number) Spent (pick (ltb room size) (Err Room) (Ok tt)) e in
+    let b = pick_done (ltb room size) Room (Ok tt) a.1 in
     (ltb-false 65535 number a.0, ltb-false room size b.0)
 
-pub data_done : (state : State) (size number code room : ℕ) → data_refused state size number code room ≡ Done
+pub data_done : (state : State) (size number code room : ℕ) → data_refused state size number code room ≡ Ok tt
     → (number ≤ 65535) × (3 + size + code ≤ room)
 unfolding data_refused
 data_done state size number code room e =
@@ -120,7 +117,7 @@ data_done state size number code room e =
     let b = pick_done (ltb 1300 size) Argument _ a.1 in
     numbered_done number (3 + size + code) room (then_done (may_data state) _ b.1)
 
-pub alert_done : (may : Outcome) (lent number code room : ℕ) → alert_refused may lent number code room ≡ Done
+pub alert_done : (may : Result ⊤ Refusal) (lent number code room : ℕ) → alert_refused may lent number code room ≡ Ok tt
     → (number ≤ 65535) × (9 + code ≤ room)
 unfolding alert_refused
 alert_done may lent number code room e =
@@ -139,13 +136,13 @@ unfolding next_clear
 clear_size h body = record_length false false C.Alert h.protection.clear body
 
 -- an unknown level or description is refused, whatever else is said
-pub no_level : (c : Connection) (protected : Bool) (answered : List ℕ) (room : ℕ) (s : Sorted) → unsent c Argument ≡ alert_sent_as c protected answered room G.Unassigned s
-no_level c protected answered room (D.Assigned d) = refl
-no_level c protected answered room D.Unassigned = refl
+pub no_level : (c : Connection) (protected : Bool) (answered : List ℕ) (room : ℕ) (s : Option Description) → unsent c Argument ≡ alert_sent_as c protected answered room None s
+no_level c protected answered room (Some d) = refl
+no_level c protected answered room None = refl
 
-pub no_level_output : (c : Connection) (protected : Bool) (answered out : List ℕ) (s : Sorted) → out ≡ alert_output_as c protected answered out G.Unassigned s
-no_level_output c protected answered out (D.Assigned d) = refl
-no_level_output c protected answered out D.Unassigned = refl
+pub no_level_output : (c : Connection) (protected : Bool) (answered out : List ℕ) (s : Option Description) → out ≡ alert_output_as c protected answered out None s
+no_level_output c protected answered out (Some d) = refl
+no_level_output c protected answered out None = refl
 
 -- the connection after a record was sent, from its parts
 pub protected_sent_lem : (c : Connection) (next : List ℕ) (g : Handshake) (s : SentRecords) (size sum : ℕ) (r : Sent)

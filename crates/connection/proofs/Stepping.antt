@@ -10,8 +10,7 @@ use Rattle.digest.specs.Pick.{pick}
 use Rattle.record.specs.Protection.{opened_by}
 use Rattle.record.specs.declared.window.Window.{Window}
 use Rattle.record.specs.declared.protection.Protection.{Protection}
-use Rattle.record.specs.declared.protection.Opened.{Opened}
-use Rattle.record.specs.declared.protection.Opened.TheVariants as O
+use Rattle.record.specs.declared.protection.Unopened.TheVariants as O
 use Rattle.record.specs.declared.keys.Sense.TheVariants.{FromUnit}
 use Rattle.record.specs.declared.reader.Record.{Record}
 use Rattle.message.specs.Alert.{alert_of}
@@ -20,10 +19,7 @@ use Rattle.message.specs.Finished.{judged_of}
 use Rattle.message.specs.declared.alert.Level.{Level}
 use Rattle.message.specs.declared.alert.Level.TheVariants as L
 use Rattle.message.specs.declared.alert.Description.{Description}
-use Rattle.message.specs.declared.alert.Reading.{Reading}
-use Rattle.message.specs.declared.alert.Reading.TheVariants as R
-use Rattle.message.specs.declared.finished.Verified.{Verified}
-use Rattle.message.specs.declared.finished.Verified.TheVariants as F
+use Rattle.message.specs.declared.finished.Unverified.TheVariants as F
 use Rattle.connection.specs.State.{kind_of, rule_of}
 use Rattle.connection.specs.Handshake.{with_window}
 use Rattle.connection.specs.Connection.{connection_of}
@@ -54,6 +50,10 @@ use Rattle.connection.specs.declared.handshake.Kept.{Kept}
 use Rattle.connection.specs.declared.handshake.Handshake.{Handshake}
 use Rattle.connection.specs.declared.connection.Connection.{Connection}
 use Rattle.connection.specs.declared.told.Told.{Told}
+use Rattle.std.specs.Prelude.{Err, None, Ok, Option, Result, Some, ⊤}
+use Rattle.message.specs.declared.alert.Alert.{Alert}
+use Rattle.message.specs.declared.finished.Unverified.{Unverified}
+use Rattle.record.specs.declared.protection.Unopened.{Unopened}
 
 never : {P : Type 0} → ◌≡◌ {A = Bool} true false → P
 never e = let z : ◌≡◌ {A = ℕ} 0 1 = cc in absurd (omega arith)
@@ -141,19 +141,19 @@ still_finished h S.Open = (refl, λ s k. refl)
 still_finished h S.Closed = (refl, λ s k. refl)
 still_finished h S.Barred = (refl, λ s k. refl)
 
-still_verified : (h : Handshake) (x : Verified) → Still (verified_to h x).answer
-still_verified h F.Right = still_finished h h.state
-still_verified h F.Wrong = (refl, λ s k. refl)
-still_verified h F.Malformed = (refl, λ s k. refl)
+still_verified : (h : Handshake) (x : Result ⊤ Unverified) → Still (verified_to h x).answer
+still_verified h (Ok tt) = still_finished h h.state
+still_verified h (Err F.Wrong) = (refl, λ s k. refl)
+still_verified h (Err F.Malformed) = (refl, λ s k. refl)
 
 still_level : (h : Handshake) (level : Level) (d : Description) → Still (protected_level h level d).answer
 still_level h L.Warning d = (refl, λ s k. refl)
 still_level h L.Critical d = (refl, λ s k. refl)
 still_level h L.Fatal d = (refl, λ s k. refl)
 
-still_alerted : (h : Handshake) (x : Reading) → Still (alerted_to h x).answer
-still_alerted h R.Malformed = (refl, λ s k. refl)
-still_alerted h (R.WellFormed a) = still_level h a.level a.description
+still_alerted : (h : Handshake) (x : Option Alert) → Still (alerted_to h x).answer
+still_alerted h None = (refl, λ s k. refl)
+still_alerted h (Some a) = still_level h a.level a.description
 
 still_content : (h : Handshake) (kind : Kind) (number at : ℕ) (content : List ℕ) → Still (content_by h kind number at content).answer
 unfolding content_by alerted_by verified_by
@@ -166,20 +166,20 @@ still_content h K.ClearChange number at content = (refl, λ s k. refl)
 still_content h K.ClearAlert number at content = (refl, λ s k. refl)
 still_content h K.OtherClear number at content = (refl, λ s k. refl)
 
-still_opened : (h : Handshake) (kind : Kind) (number at : ℕ) (f : List ℕ) (p : Protection) (x : Opened) → Still (opened_as h kind number at f p x).answer
-still_opened h kind number at f p O.Forged = (refl, λ s k. refl)
-still_opened h kind number at f p O.TooOld = (refl, λ s k. refl)
-still_opened h kind number at f p O.Repeated = (refl, λ s k. refl)
-still_opened h kind number at f p (O.New size) = still_content _ kind number at (take size f)
+still_opened : (h : Handshake) (kind : Kind) (number at : ℕ) (f : List ℕ) (p : Protection) (x : Result ℕ Unopened) → Still (opened_as h kind number at f p x).answer
+still_opened h kind number at f p (Err O.Forged) = (refl, λ s k. refl)
+still_opened h kind number at f p (Err O.TooOld) = (refl, λ s k. refl)
+still_opened h kind number at f p (Err O.Repeated) = (refl, λ s k. refl)
+still_opened h kind number at f p (Ok size) = still_content _ kind number at (take size f)
 
 still_clear_level : (h : Handshake) (level : Level) (d : Description) → Still (by_level h level d).answer
 still_clear_level h L.Warning d = (refl, λ s k. refl)
 still_clear_level h L.Critical d = (refl, λ s k. refl)
 still_clear_level h L.Fatal d = (refl, λ s k. refl)
 
-still_heard : (h : Handshake) (sent : SentRecords) (x : Reading) → Still (heard_by h sent x).answer
-still_heard h sent R.Malformed = (refl, λ s k. refl)
-still_heard h sent (R.WellFormed a) = still_pick (matches_of sent a.checksum) _ _ (still_clear_level h a.level a.description) (refl, λ s k. refl)
+still_heard : (h : Handshake) (sent : SentRecords) (x : Option Alert) → Still (heard_by h sent x).answer
+still_heard h sent None = (refl, λ s k. refl)
+still_heard h sent (Some a) = still_pick (matches_of sent a.checksum) _ _ (still_clear_level h a.level a.description) (refl, λ s k. refl)
 
 still_ruled : (h : Handshake) (sent : SentRecords) (rule : Rule) (kind : Kind) (r : Record) (f : List ℕ) → Still (ruled_else h sent rule kind r f).answer
 unfolding ruled_else changed_by heard_alert opened_record

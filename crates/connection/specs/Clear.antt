@@ -1,18 +1,18 @@
 -- Clear records (01, "Handshake" and "Alerts").
-use Rattle.std.specs.Prelude.{Bool, List, ℕ, length, take}
+use Rattle.std.specs.Prelude.{Bool, List, ℕ, length, take, Err, None, Ok, Option, Result, Some}
+use Rattle.message.specs.declared.acceptance.Plan.{Plan}
+use Rattle.message.specs.declared.acceptance.Unheard.{Unheard}
+use Rattle.message.specs.declared.alert.Alert.{Alert}
 use Rattle.digest.specs.Pick.{pick}
 use Rattle.digest.specs.Mac.{same_bytes}
 use Rattle.record.specs.Window.{emptied}
 use Rattle.message.specs.Acceptance.{heard_of}
 use Rattle.message.specs.Alert.{alert_of}
 use Rattle.message.specs.Change.{is_change}
-use Rattle.message.specs.declared.acceptance.Heard.{Heard}
-use Rattle.message.specs.declared.acceptance.Heard.TheVariants as H
+use Rattle.message.specs.declared.acceptance.Unheard.TheVariants as H
 use Rattle.message.specs.declared.alert.Level.{Level}
 use Rattle.message.specs.declared.alert.Level.TheVariants as L
 use Rattle.message.specs.declared.alert.Description.{Description}
-use Rattle.message.specs.declared.alert.Reading.{Reading}
-use Rattle.message.specs.declared.alert.Reading.TheVariants as R
 use Rattle.connection.specs.Handshake.{planted, with_state, with_window}
 use Rattle.connection.specs.Sent.{matches_of}
 use Rattle.connection.specs.Answer.{judged, refusing}
@@ -26,10 +26,10 @@ use Rattle.connection.specs.declared.handshake.Kept.{Kept}
 use Rattle.connection.specs.declared.sent.SentRecords.{SentRecords}
 
 -- "Idle, clear ClientHello: reply; Replied". A hello that is malformed is 12, one that is not acceptable 13.
-abbrev pub heard_to : Handshake → List ℕ → List ℕ → Heard → Judged
-heard_to h random m (H.Accepted plan) = judged (Reply (length (reply_to (planted h) random m plan))) (answered_with h random m plan)
-heard_to h random m (H.Unacceptable condition) = refusing Unacceptable h
-heard_to h random m (H.Malformed fault) = refusing Malformed h
+abbrev pub heard_to : Handshake → List ℕ → List ℕ → Result Plan Unheard → Judged
+heard_to h random m (Ok plan) = judged (Reply (length (reply_to (planted h) random m plan))) (answered_with h random m plan)
+heard_to h random m (Err (H.Unacceptable condition)) = refusing Unacceptable h
+heard_to h random m (Err (H.Malformed fault)) = refusing Malformed h
 
 unfoldable pub greeted_by : Handshake → List ℕ → List ℕ → Judged
 greeted_by h random m = heard_to h random m (heard_of m h.id)
@@ -62,9 +62,9 @@ by_level h L.Critical description = judged (Critical description) (with_state h 
 by_level h L.Fatal description = judged (Fatal description) (with_state h S.Closed)
 
 -- 12, then 14: a clear alert "is now good if it matches any of the last eight records that we sent since the last start" (02)
-abbrev pub heard_by : Handshake → SentRecords → Reading → Judged
-heard_by h sent R.Malformed = refusing Malformed h
-heard_by h sent (R.WellFormed a) =
+abbrev pub heard_by : Handshake → SentRecords → Option Alert → Judged
+heard_by h sent None = refusing Malformed h
+heard_by h sent (Some a) =
     pick (matches_of sent a.checksum) (by_level h a.level a.description) (refusing Checksum h)
 
 unfoldable pub heard_alert : Handshake → SentRecords → List ℕ → Judged

@@ -1,13 +1,12 @@
 -- A record that is no ClientHello first in its datagram: no new reply is made to it. Its judgement, and the connection that it leaves
 -- where the state of whoever was asked stays.
-use Rattle.std.specs.Prelude.{Bool, true, false, List, [], ℕ, ◌+◌, length, drop}
+use Rattle.std.specs.Prelude.{Bool, true, false, List, [], ℕ, ◌+◌, length, drop, Err, Ok, Result}
+use Rattle.record.specs.declared.reader.Fault.{Fault}
 use Rattle.digest.specs.Pick.{pick}
 use Rattle.record.specs.Reader.{read_of}
 use Rattle.record.specs.Datagram.{placed_at, blank}
 use Rattle.record.specs.declared.window.Window.{Window}
 use Rattle.record.specs.declared.reader.Record.{Record}
-use Rattle.record.specs.declared.reader.Reading.{Reading}
-use Rattle.record.specs.declared.reader.Reading.TheVariants as R
 use Rattle.connection.specs.State.{rule_of}
 use Rattle.connection.specs.Handshake.{with_window}
 use Rattle.connection.specs.Connection.{connection_of}
@@ -76,9 +75,9 @@ windowed_by c whom new =
     (with_window c.started (started_window whom c.started.protection.window new)) c.sent
 
 -- the record that is read at a place of the datagram
-abbrev pub record_in : ℕ → Reading → Record
-record_in at (R.Sound r) = placed_at r at
-record_in at (R.Refused fault) = blank
+abbrev pub record_in : ℕ → Result Record Fault → Record
+record_in at (Ok r) = placed_at r at
+record_in at (Err fault) = blank
 
 abbrev pub record_at : List ℕ → ℕ → Record
 record_at d at = record_in at (read_of (drop at d))

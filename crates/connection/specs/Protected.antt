@@ -1,21 +1,20 @@
 -- Protected records (01, "Handshake", "Alerts" and "The record on the wire"): "checked in this order: code, too old,
 -- repeated, content". The first three are layer 2's, where a record is opened.
-use Rattle.std.specs.Prelude.{List, ℕ, length, take, eqb}
+use Rattle.std.specs.Prelude.{List, ℕ, length, take, eqb, Err, None, Ok, Option, Result, Some, ⊤}
+use Rattle.message.specs.declared.alert.Alert.{Alert}
+use Rattle.message.specs.declared.finished.Unverified.{Unverified}
+use Rattle.record.specs.declared.protection.Unopened.{Unopened}
 use Rattle.digest.specs.Pick.{pick}
 use Rattle.record.specs.Protection.{opened_by}
 use Rattle.record.specs.declared.keys.Sense.TheVariants.{FromUnit}
 use Rattle.record.specs.declared.protection.Protection.{Protection}
-use Rattle.record.specs.declared.protection.Opened.{Opened}
-use Rattle.record.specs.declared.protection.Opened.TheVariants as O
+use Rattle.record.specs.declared.protection.Unopened.TheVariants as O
 use Rattle.message.specs.Alert.{alert_of}
 use Rattle.message.specs.Finished.{judged_of}
 use Rattle.message.specs.declared.alert.Level.{Level}
 use Rattle.message.specs.declared.alert.Level.TheVariants as L
 use Rattle.message.specs.declared.alert.Description.{Description}
-use Rattle.message.specs.declared.alert.Reading.{Reading}
-use Rattle.message.specs.declared.alert.Reading.TheVariants as R
-use Rattle.message.specs.declared.finished.Verified.{Verified}
-use Rattle.message.specs.declared.finished.Verified.TheVariants as F
+use Rattle.message.specs.declared.finished.Unverified.TheVariants as F
 use Rattle.connection.specs.Handshake.{with_state, with_protection, barred}
 use Rattle.connection.specs.Answer.{judged, refusing}
 use Rattle.connection.specs.declared.state.State.{State}
@@ -41,10 +40,10 @@ finished_in h S.Closed = refusing Ended h
 finished_in h S.Barred = refusing Ended h
 
 -- 12: "a message other than Finished under protection"; 17: "genuine Finished with wrong contents", which also closes
-abbrev pub verified_to : Handshake → Verified → Judged
-verified_to h F.Right = finished_in h h.state
-verified_to h F.Wrong = judged (W.Refused WrongFinished) (with_state h S.Closed)
-verified_to h F.Malformed = refusing Malformed h
+abbrev pub verified_to : Handshake → Result ⊤ Unverified → Judged
+verified_to h (Ok tt) = finished_in h h.state
+verified_to h (Err F.Wrong) = judged (W.Refused WrongFinished) (with_state h S.Closed)
+verified_to h (Err F.Malformed) = refusing Malformed h
 
 unfoldable pub verified_by : Handshake → List ℕ → Judged
 verified_by h content = verified_to h (judged_of content h.expected)
@@ -56,9 +55,9 @@ protected_level h L.Warning description = judged (W.Warning description) h
 protected_level h L.Critical description = judged (W.Critical description) (with_state h S.Closed)
 protected_level h L.Fatal description = judged (W.Barred description) (barred h)
 
-abbrev pub alerted_to : Handshake → Reading → Judged
-alerted_to h R.Malformed = refusing Malformed h
-alerted_to h (R.WellFormed a) = protected_level h a.level a.description
+abbrev pub alerted_to : Handshake → Option Alert → Judged
+alerted_to h None = refusing Malformed h
+alerted_to h (Some a) = protected_level h a.level a.description
 
 unfoldable pub alerted_by : Handshake → List ℕ → Judged
 alerted_by h content = alerted_to h (alert_of content)
@@ -77,11 +76,11 @@ content_by h ClearAlert number at content = refusing NotAllowed h
 content_by h OtherClear number at content = refusing NotAllowed h
 
 -- "A genuine new record marks its number even if its content is then refused." The content is the front of the fragment.
-abbrev pub opened_as : Handshake → Kind → ℕ → ℕ → List ℕ → Protection → Opened → Judged
-opened_as h kind number at fragment p O.Forged = refusing Forged h
-opened_as h kind number at fragment p O.TooOld = refusing TooOld h
-opened_as h kind number at fragment p O.Repeated = refusing Repeated h
-opened_as h kind number at fragment p (O.New size) = content_by (with_protection h p) kind number at (take size fragment)
+abbrev pub opened_as : Handshake → Kind → ℕ → ℕ → List ℕ → Protection → Result ℕ Unopened → Judged
+opened_as h kind number at fragment p (Err O.Forged) = refusing Forged h
+opened_as h kind number at fragment p (Err O.TooOld) = refusing TooOld h
+opened_as h kind number at fragment p (Err O.Repeated) = refusing Repeated h
+opened_as h kind number at fragment p (Ok size) = content_by (with_protection h p) kind number at (take size fragment)
 
 -- the unit's records
 unfoldable pub opened_record : Handshake → Kind → ℕ → ℕ → ℕ → List ℕ → Judged

@@ -1,6 +1,7 @@
 -- Receive a datagram (01, "Refusal numbers": "Receive: 16, 6, 1, then framing from the front (per record 5, 3, 2, 4), then
 -- one answer per record.").
-use Rattle.std.specs.Prelude.{List, [], ◌∷◌, ◌++◌, map, ℕ, ◌-◌, length, take, replicate, eqb, ltb}
+use Rattle.std.specs.Prelude.{List, [], ◌∷◌, ◌++◌, map, ℕ, ◌-◌, length, take, replicate, eqb, ltb, Err, Ok, Result}
+use Rattle.connection.specs.declared.receive.Untaken.{Untaken}
 use Rattle.digest.specs.Pick.{pick}
 use Rattle.digest.specs.Bytes.{laid_over}
 use Rattle.record.specs.Datagram.{Framing, framed, faulty, framing_of}
@@ -15,8 +16,7 @@ use Rattle.connection.specs.declared.answer.Slot.{Slot}
 use Rattle.connection.specs.declared.handshake.Kept.{Kept}
 use Rattle.connection.specs.declared.connection.Connection.{Connection}
 use Rattle.connection.specs.declared.told.Told.{Told}
-use Rattle.connection.specs.declared.receive.Taken.{Taken}
-use Rattle.connection.specs.declared.receive.Taken.TheVariants.{Records, Refused, Misframed}
+use Rattle.connection.specs.declared.receive.Untaken.TheVariants.{Refused, Misframed}
 use Rattle.connection.specs.declared.receive.Received.{Received}
 
 -- each record is judged in the state that the records before it left: the connection at the end, and the answers
@@ -51,7 +51,7 @@ first_reply c random d (r ∷ rs) = sent_by (told_record c random d r)
 unfoldable pub run_of : Connection → List ℕ → List ℕ → List Record → Received
 run_of c random d rs =
     record {
-      taken = Records (length rs);
+      taken = Ok (length rs);
       answers = slots_of (answers_of c random d rs);
       written = length (first_reply c random d rs);
       connection = end_of c random d rs;
@@ -59,29 +59,29 @@ run_of c random d rs =
 
 -- the number of the refusal of a whole datagram (01, "Refusal numbers"), 0 where it was taken; and "the offset of the record at
 -- fault" of 1 to 5
-abbrev pub taken_number : Taken → ℕ
-taken_number (Records count) = 0
-taken_number (Refused refusal) = refusal_number refusal
-taken_number (Misframed refusal at) = refusal_number refusal
+abbrev pub taken_number : Result ℕ Untaken → ℕ
+taken_number (Ok count) = 0
+taken_number (Err (Refused refusal)) = refusal_number refusal
+taken_number (Err (Misframed refusal at)) = refusal_number refusal
 
-abbrev pub taken_at : Taken → ℕ
-taken_at (Records count) = 0
-taken_at (Refused refusal) = 0
-taken_at (Misframed refusal at) = at
+abbrev pub taken_at : Result ℕ Untaken → ℕ
+taken_at (Ok count) = 0
+taken_at (Err (Refused refusal)) = 0
+taken_at (Err (Misframed refusal at)) = at
 
 -- refused as a whole: nothing changes
-unfoldable pub whole_of : Connection → Taken → Received
+unfoldable pub whole_of : Connection → Result ℕ Untaken → Received
 whole_of c taken = record { taken = taken; answers = slots_of []; written = 0; connection = c }
 
 abbrev pub framed_to : Connection → List ℕ → List ℕ → Framing → Received
 framed_to c random d (framed rs) = run_of c random d rs
-framed_to c random d (faulty fault at) = whole_of c (Misframed (Framed fault) at)
+framed_to c random d (faulty fault at) = whole_of c (Err (Misframed (Framed fault) at))
 
 unfoldable pub received_of : Connection → List ℕ → List ℕ → ℕ → Received
 received_of c d random room =
     pick (eqb (length random) 16)
-    (pick (ltb room 128) (whole_of c (Refused Room)) (framed_to c random d (framing_of d)))
-    (whole_of c (Refused Argument))
+    (pick (ltb room 128) (whole_of c (Err (Refused Room))) (framed_to c random d (framing_of d)))
+    (whole_of c (Err (Refused Argument)))
 
 -- "A success writes the counted bytes at the front and no others."
 abbrev pub sent_of : Connection → List ℕ → List ℕ → Framing → List ℕ

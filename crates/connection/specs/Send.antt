@@ -1,6 +1,6 @@
 -- Send data and send an alert (01, "Refusal numbers": "Send: 16, 7, 8, 15, 6. Data is sent only in Open, protected alerts in
 -- Replied, Spec and Open, clear ones in Replied and Spec.").
-use Rattle.std.specs.Prelude.{Bool, true, false, List, ℕ, ◌+◌, length, eqb, ltb}
+use Rattle.std.specs.Prelude.{Bool, true, false, List, ℕ, ◌+◌, length, eqb, ltb, Err, None, Ok, Option, Result, Some, ⊤}
 use Rattle.digest.specs.Pick.{pick}
 use Rattle.digest.specs.Bytes.{word_at, laid_over}
 use Rattle.digest.specs.Mac.{size_of}
@@ -14,10 +14,6 @@ use Rattle.record.specs.declared.header.Content.TheVariants as C
 use Rattle.message.specs.Alert.{level_of, sorted_of, alert_bytes}
 use Rattle.message.specs.declared.alert.Level.{Level}
 use Rattle.message.specs.declared.alert.Description.{Description}
-use Rattle.message.specs.declared.alert.Graded.{Graded}
-use Rattle.message.specs.declared.alert.Graded.TheVariants as G
-use Rattle.message.specs.declared.alert.Sorted.{Sorted}
-use Rattle.message.specs.declared.alert.Sorted.TheVariants as D
 use Rattle.connection.specs.Handshake.{with_protection}
 use Rattle.connection.specs.Sent.{sum_of, with_record}
 use Rattle.connection.specs.Connection.{connection_of}
@@ -28,62 +24,60 @@ use Rattle.connection.specs.declared.refusal.Refusal.TheVariants.{Room, Ended, N
 use Rattle.connection.specs.declared.sent.SentRecords.{SentRecords}
 use Rattle.connection.specs.declared.handshake.Handshake.{Handshake}
 use Rattle.connection.specs.declared.connection.Connection.{Connection}
-use Rattle.connection.specs.declared.calls.Outcome.{Outcome}
-use Rattle.connection.specs.declared.calls.Outcome.TheVariants.{Done, Refused}
 use Rattle.connection.specs.declared.send.Sent.{Sent}
 
 -- the first refusal, or the next test
-abbrev pub and_then : Outcome → Outcome → Outcome
-and_then Done next = next
-and_then (Refused refusal) next = Refused refusal
+abbrev pub and_then : Result ⊤ Refusal → Result ⊤ Refusal → Result ⊤ Refusal
+and_then (Ok tt) next = next
+and_then (Err refusal) next = Err refusal
 
 -- 7 and 8, by the state
-abbrev pub may_data : State → Outcome
-may_data S.Idle = Refused NotAllowed
-may_data S.Replied = Refused NotAllowed
-may_data S.Spec = Refused NotAllowed
-may_data S.Open = Done
-may_data S.Closed = Refused Ended
-may_data S.Barred = Refused Ended
+abbrev pub may_data : State → Result ⊤ Refusal
+may_data S.Idle = Err NotAllowed
+may_data S.Replied = Err NotAllowed
+may_data S.Spec = Err NotAllowed
+may_data S.Open = Ok tt
+may_data S.Closed = Err Ended
+may_data S.Barred = Err Ended
 
-abbrev pub may_protect : State → Outcome
-may_protect S.Idle = Refused NotAllowed
-may_protect S.Replied = Done
-may_protect S.Spec = Done
-may_protect S.Open = Done
-may_protect S.Closed = Refused Ended
-may_protect S.Barred = Refused Ended
+abbrev pub may_protect : State → Result ⊤ Refusal
+may_protect S.Idle = Err NotAllowed
+may_protect S.Replied = Ok tt
+may_protect S.Spec = Ok tt
+may_protect S.Open = Ok tt
+may_protect S.Closed = Err Ended
+may_protect S.Barred = Err Ended
 
-abbrev pub may_clear : State → Outcome
-may_clear S.Idle = Refused NotAllowed
-may_clear S.Replied = Done
-may_clear S.Spec = Done
-may_clear S.Open = Refused NotAllowed
-may_clear S.Closed = Refused Ended
-may_clear S.Barred = Refused Ended
+abbrev pub may_clear : State → Result ⊤ Refusal
+may_clear S.Idle = Err NotAllowed
+may_clear S.Replied = Ok tt
+may_clear S.Spec = Ok tt
+may_clear S.Open = Err NotAllowed
+may_clear S.Closed = Err Ended
+may_clear S.Barred = Err Ended
 
 -- 15, "sending number spent": "sending never passes 65,535"; then 6, "under the record's size for send"
-unfoldable pub numbered_by : ℕ → ℕ → ℕ → Outcome
-numbered_by number size room = pick (ltb 65535 number) (Refused Spent) (pick (ltb room size) (Refused Room) Done)
+unfoldable pub numbered_by : ℕ → ℕ → ℕ → Result ⊤ Refusal
+numbered_by number size room = pick (ltb 65535 number) (Err Spent) (pick (ltb room size) (Err Room) (Ok tt))
 
 -- 16: "data not 1 to 1,300"; 7, 8; 15; 6
-unfoldable pub data_refused : State → ℕ → ℕ → ℕ → ℕ → Outcome
+unfoldable pub data_refused : State → ℕ → ℕ → ℕ → ℕ → Result ⊤ Refusal
 data_refused state size number code room =
-    pick (eqb size 0) (Refused Argument)
-    (pick (ltb 1300 size) (Refused Argument)
+    pick (eqb size 0) (Err Argument)
+    (pick (ltb 1300 size) (Err Argument)
     (and_then (may_data state) (numbered_by number (3 + size + code) room)))
 
 -- 16: "record lent for an alert over 1,400"; 7, 8; 15; 6. An alert is six bytes.
-unfoldable pub alert_refused : Outcome → ℕ → ℕ → ℕ → ℕ → Outcome
+unfoldable pub alert_refused : Result ⊤ Refusal → ℕ → ℕ → ℕ → ℕ → Result ⊤ Refusal
 alert_refused may lent number code room =
-    pick (ltb 1400 lent) (Refused Argument) (and_then may (numbered_by number (9 + code) room))
+    pick (ltb 1400 lent) (Err Argument) (and_then may (numbered_by number (9 + code) room))
 
 -- "A refusal changes neither buffer nor connection"
 abbrev pub unsent : Connection → Refusal → Sent
-unsent c refusal = record { outcome = Refused refusal; written = 0; connection = c }
+unsent c refusal = record { outcome = Err refusal; written = 0; connection = c }
 
 abbrev pub done_with : ℕ → Connection → Sent
-done_with written c = record { outcome = Done; written = written; connection = c }
+done_with written c = record { outcome = (Ok tt); written = written; connection = c }
 
 -- "A success writes the counted bytes at the front"
 abbrev pub done : List ℕ → Connection → Sent
@@ -144,16 +138,16 @@ abbrev pub after_send : Bool → Connection → List ℕ → Connection
 after_send protected c bytes = put_back protected c (after_alert protected (sender_of protected c)) (with_record c.sent (sum_of bytes))
 
 -- a send that is refused, or its outcome; and what the output then holds
-abbrev pub sent_to : Connection → Sent → Outcome → Sent
-sent_to c success Done = success
-sent_to c success (Refused refusal) = unsent c refusal
+abbrev pub sent_to : Connection → Sent → Result ⊤ Refusal → Sent
+sent_to c success (Ok tt) = success
+sent_to c success (Err refusal) = unsent c refusal
 
-abbrev pub output_to : List ℕ → List ℕ → Outcome → List ℕ
-output_to out bytes Done = laid_over out 0 bytes
-output_to out bytes (Refused refusal) = out
+abbrev pub output_to : List ℕ → List ℕ → Result ⊤ Refusal → List ℕ
+output_to out bytes (Ok tt) = laid_over out 0 bytes
+output_to out bytes (Err refusal) = out
 
 -- send data
-abbrev pub data_outcome : Handshake → ℕ → ℕ → Outcome
+abbrev pub data_outcome : Handshake → ℕ → ℕ → Result ⊤ Refusal
 data_outcome h size room = data_refused h.state size h.protection.protected (size_of h.protection.keys.mac) room
 
 unfoldable pub data_sent : Connection → List ℕ → ℕ → Sent
@@ -169,7 +163,7 @@ data_output c bytes out =
 abbrev pub alert_body : Level → Description → List ℕ → List ℕ
 alert_body level description answered = alert_bytes level description (word_at (checksum_of answered) 0)
 
-abbrev pub alert_outcome : Bool → Handshake → ℕ → ℕ → Outcome
+abbrev pub alert_outcome : Bool → Handshake → ℕ → ℕ → Result ⊤ Refusal
 alert_outcome true h lent room = alert_refused (may_protect h.state) lent h.protection.protected (size_of h.protection.keys.mac) room
 alert_outcome false h lent room = alert_refused (may_clear h.state) lent h.protection.clear 0 room
 
@@ -178,25 +172,25 @@ next_alert true h body = next_protected h C.Alert body
 next_alert false h body = next_clear h body
 
 -- 16: "level or description unknown"
-abbrev pub alert_sent_as : Connection → Bool → List ℕ → ℕ → Graded → Sorted → Sent
-alert_sent_as c protected answered room (G.Is level) (D.Assigned description) =
+abbrev pub alert_sent_as : Connection → Bool → List ℕ → ℕ → Option Level → Option Description → Sent
+alert_sent_as c protected answered room (Some level) (Some description) =
     let next = next_alert protected (sender_of protected c) (alert_body level description answered) in
     sent_to c (done next (after_send protected c next)) (alert_outcome protected (sender_of protected c) (length answered) room)
-alert_sent_as c protected answered room (G.Is level) D.Unassigned = unsent c Argument
-alert_sent_as c protected answered room G.Unassigned (D.Assigned description) = unsent c Argument
-alert_sent_as c protected answered room G.Unassigned D.Unassigned = unsent c Argument
+alert_sent_as c protected answered room (Some level) None = unsent c Argument
+alert_sent_as c protected answered room None (Some description) = unsent c Argument
+alert_sent_as c protected answered room None None = unsent c Argument
 
 unfoldable pub alert_sent : Connection → Bool → ℕ → ℕ → List ℕ → ℕ → Sent
 alert_sent c protected level description answered room =
     alert_sent_as c protected answered room (level_of level) (sorted_of description)
 
-abbrev pub alert_output_as : Connection → Bool → List ℕ → List ℕ → Graded → Sorted → List ℕ
-alert_output_as c protected answered out (G.Is level) (D.Assigned description) =
+abbrev pub alert_output_as : Connection → Bool → List ℕ → List ℕ → Option Level → Option Description → List ℕ
+alert_output_as c protected answered out (Some level) (Some description) =
     output_to out (next_alert protected (sender_of protected c) (alert_body level description answered))
     (alert_outcome protected (sender_of protected c) (length answered) (length out))
-alert_output_as c protected answered out (G.Is level) D.Unassigned = out
-alert_output_as c protected answered out G.Unassigned (D.Assigned description) = out
-alert_output_as c protected answered out G.Unassigned D.Unassigned = out
+alert_output_as c protected answered out (Some level) None = out
+alert_output_as c protected answered out None (Some description) = out
+alert_output_as c protected answered out None None = out
 
 unfoldable pub alert_output : Connection → Bool → ℕ → ℕ → List ℕ → List ℕ → List ℕ
 alert_output c protected level description answered out =

@@ -8,16 +8,10 @@ use crate::handshake::{Session, blank, made, none_started};
 use crate::refusal::{Refusal, number};
 use crate::state::State;
 
-#[derive(Clone, Copy)]
-pub enum Outcome {
-    Done,
-    Refused(Refusal),
-}
-
 // The outcome of a call, and the connection that it leaves.
 #[derive(Clone, Copy)]
 pub struct Called {
-    pub outcome: Outcome,
+    pub outcome: Result<(), Refusal>,
     pub connection: Connection,
 }
 
@@ -27,19 +21,19 @@ pub fn fresh(id: &[u8], secret: &[u8], width: u32) -> Called
     ensures { result ≡ fresh_of id.now secret.now width }
 {
     if id.len() != 8 {
-        return leave(Outcome::Refused(Refusal::Argument), alone(blank()));
+        return leave(Err(Refusal::Argument), alone(blank()));
     }
     if secret.len() != 20 {
-        return leave(Outcome::Refused(Refusal::Argument), alone(blank()));
+        return leave(Err(Refusal::Argument), alone(blank()));
     }
     if width < 32 {
-        return leave(Outcome::Refused(Refusal::Argument), alone(blank()));
+        return leave(Err(Refusal::Argument), alone(blank()));
     }
     if 64 < width {
-        return leave(Outcome::Refused(Refusal::Argument), alone(blank()));
+        return leave(Err(Refusal::Argument), alone(blank()));
     }
     leave(
-        Outcome::Done,
+        Ok(()),
         alone(made(planted(id, secret), width as u8, State::Idle)),
     )
 }
@@ -51,12 +45,12 @@ pub fn close(c: Connection) -> Called
     let h = c.handshake;
     let state = h.state;
     match state {
-        State::Barred => leave(Outcome::Refused(Refusal::Ended), c),
-        State::Idle => leave(Outcome::Done, ended(c)),
-        State::Replied => leave(Outcome::Done, ended(c)),
-        State::Spec => leave(Outcome::Done, ended(c)),
-        State::Open => leave(Outcome::Done, ended(c)),
-        State::Closed => leave(Outcome::Done, ended(c)),
+        State::Barred => leave(Err(Refusal::Ended), c),
+        State::Idle => leave(Ok(()), ended(c)),
+        State::Replied => leave(Ok(()), ended(c)),
+        State::Spec => leave(Ok(()), ended(c)),
+        State::Open => leave(Ok(()), ended(c)),
+        State::Closed => leave(Ok(()), ended(c)),
     }
 }
 
@@ -67,26 +61,26 @@ pub fn start(c: Connection) -> Called
     let h = c.handshake;
     let state = h.state;
     match state {
-        State::Barred => leave(Outcome::Refused(Refusal::Ended), c),
-        State::Idle => leave(Outcome::Refused(Refusal::NotAllowed), c),
-        State::Replied => leave(Outcome::Refused(Refusal::NotAllowed), c),
-        State::Spec => leave(Outcome::Refused(Refusal::NotAllowed), c),
-        State::Open => leave(Outcome::Refused(Refusal::NotAllowed), c),
-        State::Closed => leave(Outcome::Done, alone(h.reopened())),
+        State::Barred => leave(Err(Refusal::Ended), c),
+        State::Idle => leave(Err(Refusal::NotAllowed), c),
+        State::Replied => leave(Err(Refusal::NotAllowed), c),
+        State::Spec => leave(Err(Refusal::NotAllowed), c),
+        State::Open => leave(Err(Refusal::NotAllowed), c),
+        State::Closed => leave(Ok(()), alone(h.reopened())),
     }
 }
 
 // The number of the refusal that an outcome is; 0 where the call was done.
-pub fn refused(outcome: Outcome) -> u8
+pub fn refused(outcome: Result<(), Refusal>) -> u8
     ensures { result ≡ outcome_number outcome }
 {
     match outcome {
-        Outcome::Done => 0,
-        Outcome::Refused(refusal) => number(refusal),
+        Ok(()) => 0,
+        Err(refusal) => number(refusal),
     }
 }
 
-fn leave(outcome: Outcome, connection: Connection) -> Called
+fn leave(outcome: Result<(), Refusal>, connection: Connection) -> Called
     ensures { result ≡ leaving outcome connection }
 {
     Called {

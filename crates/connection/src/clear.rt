@@ -10,7 +10,7 @@ use crate::reply::answered;
 use crate::sent::SentRecords;
 use crate::step;
 use crate::step::{Move, Step};
-use message::acceptance::{Heard, hear};
+use message::acceptance::{Unheard, hear};
 use message::alert;
 use message::alert::Level;
 use message::change::is_change;
@@ -22,9 +22,9 @@ pub(crate) fn greet(h: Handshake, random: [u8; 16], m: &[u8]) -> Judged
 {
     let id = h.id;
     match hear(m, &id) {
-        Heard::Malformed(_) => refuse(h, Refusal::Malformed),
-        Heard::Unacceptable(_) => refuse(h, Refusal::Unacceptable),
-        Heard::Accepted(plan) => {
+        Err(Unheard::Malformed(_)) => refuse(h, Refusal::Malformed),
+        Err(Unheard::Unacceptable(_)) => refuse(h, Refusal::Unacceptable),
+        Ok(plan) => {
             let left = answered(h, random, m, plan);
             let kept = left.kept;
             Judged {
@@ -106,8 +106,8 @@ pub(crate) fn hear_alert(h: Handshake, sent: SentRecords, fragment: &[u8]) -> St
     let protection = h.protection;
     let window = protection.window;
     match alert::read(fragment) {
-        alert::Reading::Malformed => step::refuse(window, Refusal::Malformed),
-        alert::Reading::WellFormed(a) => {
+        None => step::refuse(window, Refusal::Malformed),
+        Some(a) => {
             if !sent.matches(a.checksum) {
                 return step::refuse(window, Refusal::Checksum);
             }

@@ -9,7 +9,7 @@ use crate::answer::Answer;
 use crate::asked::{Whom, asked, whom_of};
 use crate::connection::Connection;
 use crate::handshake::Handshake;
-use crate::receive::Taken;
+use crate::receive::Untaken;
 use crate::refusal::Refusal;
 use crate::told::tell;
 use record::datagram::{Outcome, Walk, walked};
@@ -20,7 +20,7 @@ use record::reader::Record;
 // is for, and its answer. Where there is no such record, the connection as it was, a blank record and no answer.
 #[derive(Clone, Copy)]
 pub struct Point {
-    pub taken: Taken,
+    pub taken: Result<usize, Untaken>,
     pub connection: Connection,
     pub whom: Whom,
     pub found: Record,
@@ -34,14 +34,14 @@ pub fn point_at(c: Connection, datagram: &[u8], random: &[u8], index: usize) -> 
     ensures inside { result.found.start + result.found.head + result.found.size ≤ length datagram.now }
 {
     if random.len() != 16 {
-        return nowhere(c, Taken::Refused(Refusal::Argument));
+        return nowhere(c, Err(Untaken::Refused(Refusal::Argument)));
     }
     let mut ours = [0u8; 16];
     digest::put(&mut ours, 0, random);
     let walk = walked(datagram);
     let outcome = walk.outcome;
     match outcome {
-        Outcome::Refused(fault, at) => nowhere(c, Taken::Misframed(Refusal::Framing(fault), at)),
+        Outcome::Refused(fault, at) => nowhere(c, Err(Untaken::Misframed(Refusal::Framing(fault), at))),
         Outcome::Sound => among(c, datagram, ours, walk, index),
     }
 }
@@ -62,7 +62,7 @@ fn among(c: Connection, d: &[u8], ours: [u8; 16], walk: Walk, index: usize) -> P
 {
     let count = walk.count;
     if count <= index {
-        return nowhere(c, Taken::Refused(Refusal::Argument));
+        return nowhere(c, Err(Untaken::Refused(Refusal::Argument)));
     }
     let records = walk.records;
     let left = before(c, d, ours, walk, index);
@@ -71,7 +71,7 @@ fn among(c: Connection, d: &[u8], ours: [u8; 16], walk: Walk, index: usize) -> P
     let told = tell(left, whom, ours, d, found);
     let answer = told.answer;
     Point {
-        taken: Taken::Records(count),
+        taken: Ok(count),
         connection: left,
         whom,
         found,
@@ -97,7 +97,7 @@ fn before(c: Connection, d: &[u8], ours: [u8; 16], walk: Walk, index: usize) -> 
 }
 
 // No such record.
-fn nowhere(c: Connection, taken: Taken) -> Point
+fn nowhere(c: Connection, taken: Result<usize, Untaken>) -> Point
     ensures { result ≡ nowhere c taken }
 {
     Point {

@@ -10,10 +10,10 @@ use crate::refusal::Refusal;
 use crate::state::{Kind, State};
 use crate::step::{Move, Step, lead, refuse};
 use message::alert::Level;
-use message::finished::Verified;
+use message::finished::Unverified;
 use message::{alert, finished};
 use record::keys::Sense;
-use record::protection::Opened;
+use record::protection::Unopened;
 use record::window::Window;
 
 // A protected record of an allowed kind: its type byte, its number, and its fragment, which stands at `at`.
@@ -31,10 +31,10 @@ pub(crate) fn open_record(
     let opening = protection.open(Sense::FromUnit, number, byte, fragment);
     let opened = opening.opened;
     match opened {
-        Opened::Forged => refuse(protection.window, Refusal::Forged),
-        Opened::TooOld => refuse(protection.window, Refusal::TooOld),
-        Opened::Repeated => refuse(protection.window, Refusal::Repeated),
-        Opened::New(size) => {
+        Err(Unopened::Forged) => refuse(protection.window, Refusal::Forged),
+        Err(Unopened::TooOld) => refuse(protection.window, Refusal::TooOld),
+        Err(Unopened::Repeated) => refuse(protection.window, Refusal::Repeated),
+        Ok(size) => {
             let marked = opening.protection;
             content(h, marked.window, kind, number, at, &fragment[..size])
         }
@@ -75,8 +75,8 @@ fn alerted(h: Handshake, window: Window, content: &[u8]) -> Step
     ensures { stepped_by h result ≡ alerted_by (with_window h window) content.now }
 {
     match alert::read(content) {
-        alert::Reading::Malformed => refuse(window, Refusal::Malformed),
-        alert::Reading::WellFormed(a) => {
+        None => refuse(window, Refusal::Malformed),
+        Some(a) => {
             let level = a.level;
             let description = a.description;
             match level {
@@ -94,9 +94,9 @@ fn verified(h: Handshake, window: Window, content: &[u8]) -> Step
 {
     let expected = h.expected;
     match finished::judge(content, &expected) {
-        Verified::Malformed => refuse(window, Refusal::Malformed),
-        Verified::Wrong => lead(Answer::Refused(Refusal::WrongFinished), window, Move::Close),
-        Verified::Right => opened(h, window),
+        Err(Unverified::Malformed) => refuse(window, Refusal::Malformed),
+        Err(Unverified::Wrong) => lead(Answer::Refused(Refusal::WrongFinished), window, Move::Close),
+        Ok(()) => opened(h, window),
     }
 }
 

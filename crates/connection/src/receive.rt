@@ -20,20 +20,19 @@ use crate::tally::Tally;
 use crate::told::{moved, open_window, started_window, tell};
 use record::datagram::{Outcome, Walk, walked};
 use record::header::Content;
-use record::reader::{Reading, Record, read};
+use record::reader::{Record, read};
 
-// How a datagram was taken: so many records, each with its answer; or refused as a whole, a framing fault with the offset
-// of the record at fault.
+// Why a datagram is refused as a whole: a framing fault with the offset of the record at fault.
 #[derive(Clone, Copy)]
-pub enum Taken {
-    Records(usize),
+pub enum Untaken {
     Refused(Refusal),
     Misframed(Refusal, usize),
 }
 
 #[derive(Clone, Copy)]
 pub struct Received {
-    pub taken: Taken,
+    // so many records, each with its answer
+    pub taken: Result<usize, Untaken>,
     // an answer for each record, and Nothing behind them
     pub answers: [Slot; 8],
     // how many bytes stand at the front of the output
@@ -47,17 +46,17 @@ pub fn receive(c: Connection, datagram: &[u8], random: &[u8], out: &mut [u8]) ->
     ensures bytes { out.new ≡ output_of c datagram.now random.now out.old }
 {
     if random.len() != 16 {
-        return whole(c, Taken::Refused(Refusal::Argument));
+        return whole(c, Err(Untaken::Refused(Refusal::Argument)));
     }
     if out.len() < 128 {
-        return whole(c, Taken::Refused(Refusal::Room));
+        return whole(c, Err(Untaken::Refused(Refusal::Room)));
     }
     let mut ours = [0u8; 16];
     digest::put(&mut ours, 0, random);
     let walk = walked(datagram);
     let outcome = walk.outcome;
     match outcome {
-        Outcome::Refused(fault, at) => whole(c, Taken::Misframed(Refusal::Framing(fault), at)),
+        Outcome::Refused(fault, at) => whole(c, Err(Untaken::Misframed(Refusal::Framing(fault), at))),
         Outcome::Sound => each(c, datagram, ours, walk, out),
     }
 }
@@ -89,29 +88,29 @@ pub fn counted(tally: Tally, received: Received) -> Tally
 }
 
 // The number of the refusal of a whole datagram; 0 where it was taken.
-pub fn refused(taken: Taken) -> u8
+pub fn refused(taken: Result<usize, Untaken>) -> u8
     ensures { result ≡ taken_number taken }
 {
     match taken {
-        Taken::Records(_) => 0,
-        Taken::Refused(refusal) => number(refusal),
-        Taken::Misframed(refusal, _) => number(refusal),
+        Ok(_) => 0,
+        Err(Untaken::Refused(refusal)) => number(refusal),
+        Err(Untaken::Misframed(refusal, _)) => number(refusal),
     }
 }
 
 // The offset of the record at fault, of 1 to 5.
-pub fn refused_at(taken: Taken) -> usize
+pub fn refused_at(taken: Result<usize, Untaken>) -> usize
     ensures { result ≡ taken_at taken }
 {
     match taken {
-        Taken::Records(_) => 0,
-        Taken::Refused(_) => 0,
-        Taken::Misframed(_, at) => at,
+        Ok(_) => 0,
+        Err(Untaken::Refused(_)) => 0,
+        Err(Untaken::Misframed(_, at)) => at,
     }
 }
 
 // The datagram refused as a whole: nothing changes.
-fn whole(c: Connection, taken: Taken) -> Received
+fn whole(c: Connection, taken: Result<usize, Untaken>) -> Received
     ensures { result ≡ whole_of c taken }
 {
     let nothing = Slot {
@@ -197,8 +196,8 @@ fn record_at(d: &[u8], at: usize) -> Record
     ensures { result ≡ record_at d.now at }
 {
     match read(&d[at..]) {
-        Reading::Refused(_) => no_record(),
-        Reading::Sound(found) => {
+        Err(_) => no_record(),
+        Ok(found) => {
             let mut r = found;
             r.start = at;
             r
@@ -270,7 +269,7 @@ fn each(c: Connection, d: &[u8], ours: [u8; 16], walk: Walk, out: &mut [u8]) -> 
         i += 1;
     }
     Received {
-        taken: Taken::Records(count),
+        taken: Ok(count),
         answers,
         written,
         connection: left,

@@ -3,14 +3,12 @@ ghost use Rattle.std.specs.Prelude.{ℕ, ◌+◌, ◌≤◌, ◌<◌, ◌≡◌,
 ghost use Rattle.connection.specs.Send.{data_refused, alert_refused, numbered_by, data_sent, data_output, alert_sent, alert_output, may_data, may_protect, may_clear, unsent, done, done_with, next_protected, next_clear, after_protected, after_clear, sender_of, clear_sender, clear_back, after_send};
 ghost use Rattle.digest.specs.Bytes.{laid_over};
 
-use crate::calls::Outcome;
 use crate::connection::Connection;
 use crate::handshake::Handshake;
 use crate::refusal::Refusal;
 use crate::sent::SentRecords;
 use crate::state::State;
 use message::alert;
-use message::alert::{Graded, Sorted};
 use record::checksum::checksum;
 use record::header::Content;
 use record::keys::Sense;
@@ -19,7 +17,7 @@ use record::written::write_clear;
 // The outcome of a send, how many bytes stand at the front of the output, and the connection that it leaves.
 #[derive(Clone, Copy)]
 pub struct Sent {
-    pub outcome: Outcome,
+    pub outcome: Result<(), Refusal>,
     pub written: usize,
     pub connection: Connection,
 }
@@ -41,8 +39,8 @@ pub fn send_data(c: Connection, data: &[u8], out: &mut [u8]) -> Sent
         mac.size(),
         out.len(),
     ) {
-        Outcome::Refused(refusal) => refused(c, refusal),
-        Outcome::Done => next_protected(c, Content::Data, data, out),
+        Err(refusal) => refused(c, refusal),
+        Ok(()) => next_protected(c, Content::Data, data, out),
     }
 }
 
@@ -59,10 +57,10 @@ pub fn send_alert(
     ensures exact { result ≡ alert_sent c protected level description answered.now (length out.old) }
     ensures bytes { out.new ≡ alert_output c protected level description answered.now out.old }
 {
-    let Graded::Is(graded) = alert::grade(level) else {
+    let Some(graded) = alert::grade(level) else {
         return refused(c, Refusal::Argument);
     };
-    let Sorted::Assigned(sorted) = alert::sort(description) else {
+    let Some(sorted) = alert::sort(description) else {
         return refused(c, Refusal::Argument);
     };
     if protected {
@@ -78,8 +76,8 @@ pub fn send_alert(
             mac.size(),
             out.len(),
         ) {
-            Outcome::Refused(refusal) => refused(c, refusal),
-            Outcome::Done => {
+            Err(refusal) => refused(c, refusal),
+            Ok(()) => {
                 let bytes = alert::write(graded, sorted, checksum(answered));
                 next_protected(c, Content::Alert, &bytes, out)
             }
@@ -95,8 +93,8 @@ pub fn send_alert(
         0,
         out.len(),
     ) {
-        Outcome::Refused(refusal) => refused(c, refusal),
-        Outcome::Done => {
+        Err(refusal) => refused(c, refusal),
+        Ok(()) => {
             let bytes = alert::write(graded, sorted, checksum(answered));
             next_clear(c, &bytes, out)
         }
@@ -104,88 +102,88 @@ pub fn send_alert(
 }
 
 // 16: data not 1 to 1,300; 7 and 8 by the state; 15; 6.
-fn data_refusal(state: State, size: usize, number: u32, code: usize, room: usize) -> Outcome
+fn data_refusal(state: State, size: usize, number: u32, code: usize, room: usize) -> Result<(), Refusal>
     requires { code ≤ 20 }
     ensures { result ≡ data_refused state size number code room }
 {
     if size == 0 {
-        return Outcome::Refused(Refusal::Argument);
+        return Err(Refusal::Argument);
     }
     if 1300 < size {
-        return Outcome::Refused(Refusal::Argument);
+        return Err(Refusal::Argument);
     }
     match may_data(state) {
-        Outcome::Refused(refusal) => Outcome::Refused(refusal),
-        Outcome::Done => numbered(number, 3 + size + code, room),
+        Err(refusal) => Err(refusal),
+        Ok(()) => numbered(number, 3 + size + code, room),
     }
 }
 
 // 16: the record lent over 1,400 (level and description are known by now); 7 and 8 as given; 15; 6.
-fn alert_refusal(may: Outcome, lent: usize, number: u32, code: usize, room: usize) -> Outcome
+fn alert_refusal(may: Result<(), Refusal>, lent: usize, number: u32, code: usize, room: usize) -> Result<(), Refusal>
     requires { code ≤ 20 }
     ensures { result ≡ alert_refused may lent number code room }
 {
     if 1400 < lent {
-        return Outcome::Refused(Refusal::Argument);
+        return Err(Refusal::Argument);
     }
     match may {
-        Outcome::Refused(refusal) => Outcome::Refused(refusal),
-        Outcome::Done => numbered(number, 9 + code, room),
+        Err(refusal) => Err(refusal),
+        Ok(()) => numbered(number, 9 + code, room),
     }
 }
 
 // 15: sending never passes 65,535. 6: the record needs its whole size.
-fn numbered(number: u32, size: usize, room: usize) -> Outcome
+fn numbered(number: u32, size: usize, room: usize) -> Result<(), Refusal>
     ensures { result ≡ numbered_by number size room }
 {
     if 65535 < number {
-        return Outcome::Refused(Refusal::Spent);
+        return Err(Refusal::Spent);
     }
     if room < size {
-        return Outcome::Refused(Refusal::Room);
+        return Err(Refusal::Room);
     }
-    Outcome::Done
+    Ok(())
 }
 
 // Data is sent only in Open.
-fn may_data(state: State) -> Outcome
+fn may_data(state: State) -> Result<(), Refusal>
     ensures { result ≡ may_data state }
 {
     match state {
-        State::Idle => Outcome::Refused(Refusal::NotAllowed),
-        State::Replied => Outcome::Refused(Refusal::NotAllowed),
-        State::Spec => Outcome::Refused(Refusal::NotAllowed),
-        State::Open => Outcome::Done,
-        State::Closed => Outcome::Refused(Refusal::Ended),
-        State::Barred => Outcome::Refused(Refusal::Ended),
+        State::Idle => Err(Refusal::NotAllowed),
+        State::Replied => Err(Refusal::NotAllowed),
+        State::Spec => Err(Refusal::NotAllowed),
+        State::Open => Ok(()),
+        State::Closed => Err(Refusal::Ended),
+        State::Barred => Err(Refusal::Ended),
     }
 }
 
 // Protected alerts are sent in Replied, Spec and Open.
-fn may_protect(state: State) -> Outcome
+fn may_protect(state: State) -> Result<(), Refusal>
     ensures { result ≡ may_protect state }
 {
     match state {
-        State::Idle => Outcome::Refused(Refusal::NotAllowed),
-        State::Replied => Outcome::Done,
-        State::Spec => Outcome::Done,
-        State::Open => Outcome::Done,
-        State::Closed => Outcome::Refused(Refusal::Ended),
-        State::Barred => Outcome::Refused(Refusal::Ended),
+        State::Idle => Err(Refusal::NotAllowed),
+        State::Replied => Ok(()),
+        State::Spec => Ok(()),
+        State::Open => Ok(()),
+        State::Closed => Err(Refusal::Ended),
+        State::Barred => Err(Refusal::Ended),
     }
 }
 
 // Clear alerts are sent in Replied and Spec.
-fn may_clear(state: State) -> Outcome
+fn may_clear(state: State) -> Result<(), Refusal>
     ensures { result ≡ may_clear state }
 {
     match state {
-        State::Idle => Outcome::Refused(Refusal::NotAllowed),
-        State::Replied => Outcome::Done,
-        State::Spec => Outcome::Done,
-        State::Open => Outcome::Refused(Refusal::NotAllowed),
-        State::Closed => Outcome::Refused(Refusal::Ended),
-        State::Barred => Outcome::Refused(Refusal::Ended),
+        State::Idle => Err(Refusal::NotAllowed),
+        State::Replied => Ok(()),
+        State::Spec => Ok(()),
+        State::Open => Err(Refusal::NotAllowed),
+        State::Closed => Err(Refusal::Ended),
+        State::Barred => Err(Refusal::Ended),
     }
 }
 
@@ -194,7 +192,7 @@ fn refused(c: Connection, refusal: Refusal) -> Sent
     ensures { result ≡ unsent c refusal }
 {
     Sent {
-        outcome: Outcome::Refused(refusal),
+        outcome: Err(refusal),
         written: 0,
         connection: c,
     }
@@ -209,8 +207,7 @@ fn next_protected(c: Connection, content: Content, body: &[u8], out: &mut [u8]) 
     let h = c.handshake;
     let protection = h.protection;
     let writing = protection.write(Sense::FromShore, content, body, out);
-    let wrote = writing.wrote;
-    let size = wrote.size();
+    let size = writing.size();
     let last = checksum(&out[..size]);
     let sent = c.sent;
     let mut k = c;
@@ -295,7 +292,7 @@ fn finish(connection: Connection, written: usize) -> Sent
     ensures { result ≡ done_with written connection }
 {
     Sent {
-        outcome: Outcome::Done,
+        outcome: Ok(()),
         written,
         connection,
     }

@@ -3,7 +3,6 @@
 use crate::console::{Console, Ran};
 use calllines::outcome::{put_out, put_outcome, put_taken};
 use calllines::status::put_status;
-use connection::calls::Outcome;
 use connection::receive::Received;
 use lines::text::put;
 
@@ -14,7 +13,7 @@ pub fn bad_line(console: Console, text: &mut [u8], at: usize) -> Ran {
 }
 
 // A call that writes no bytes.
-pub fn done(console: Console, name: &[u8], outcome: Outcome, text: &mut [u8], at: usize) -> Ran {
+pub fn done(console: Console, name: &[u8], outcome: Result<(), Refusal>, text: &mut [u8], at: usize) -> Ran {
     let end = put_outcome(name, outcome, text, at);
     state_line(console, text, end)
 }
@@ -23,7 +22,7 @@ pub fn done(console: Console, name: &[u8], outcome: Outcome, text: &mut [u8], at
 pub fn sent(
     console: Console,
     name: &[u8],
-    outcome: Outcome,
+    outcome: Result<(), Refusal>,
     written: usize,
     out: &[u8],
     text: &mut [u8],

@@ -5,7 +5,6 @@ use crate::console::{Console, Ran};
 use crate::{gathering, outcome};
 use callwords::call::{Call, call_in, call_of};
 use connection::calls;
-use connection::calls::Outcome;
 use connection::receive::receive;
 use connection::send::{send_alert, send_data};
 use lines::hex::put_bytes;
@@ -66,11 +65,11 @@ fn fresh(
     let called = calls::fresh(id, secret, width);
     let outcome = called.outcome;
     match outcome {
-        Outcome::Done => {
+        Ok(()) => {
             let connection = called.connection;
             outcome::done(Console::of(connection), b"fresh", outcome, text, at)
         }
-        Outcome::Refused(_) => outcome::done(console, b"fresh", outcome, text, at),
+        Err(_) => outcome::done(console, b"fresh", outcome, text, at),
     }
 }
 

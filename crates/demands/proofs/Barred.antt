@@ -15,7 +15,6 @@ use Rattle.message.specs.Alert.{alert_of}
 use Rattle.message.specs.declared.acceptance.Plan.{Plan}
 use Rattle.message.specs.declared.alert.Alert.{Alert}
 use Rattle.message.specs.declared.alert.Level.TheVariants as L
-use Rattle.message.specs.declared.alert.Reading.TheVariants as R
 use Rattle.connection.specs.Answer.{reply_size}
 use Rattle.connection.specs.Judge.{fragment_of}
 use Rattle.connection.specs.Receive.{first_reply, slots_of}
@@ -25,7 +24,7 @@ use Rattle.connection.specs.declared.state.State.{State}
 use Rattle.connection.specs.declared.state.State.TheVariants as S
 use Rattle.connection.specs.declared.answer.Judged.{Judged}
 use Rattle.connection.specs.declared.connection.Connection.{Connection}
-use Rattle.connection.specs.declared.receive.Taken.TheVariants as T
+use Rattle.connection.specs.declared.receive.Untaken.TheVariants as T
 use Rattle.connection.specs.declared.handshake.Handshake.{Handshake}
 use Rattle.demands.specs.Runs.{Call, receive, send_data, send_alert, close, start, received, Step, step_of, final_of}
 use Rattle.demands.specs.Genuine.{RecordOf}
@@ -45,6 +44,7 @@ use Rattle.demands.proofs.Refusals.{laid_nothing, no_reply}
 use Rattle.connection.specs.declared.sent.SentRecords.{SentRecords}
 use Rattle.connection.specs.Connection.{alone}
 use Rattle.connection.specs.Send.{sender_of, clear_sender}
+use Rattle.std.specs.Prelude.{Ok, Some}
 
 -- ---- Barred by a fatal alert only
 
@@ -55,7 +55,7 @@ pub record FatalRow (h : Handshake) (d : List ℕ) (r : Record) : Type 0 where
   pub a : Alert
   pub new : New h d r c w
   pub alert : r.content ≡ C.Alert
-  pub well_formed : alert_of c ≡ R.WellFormed a
+  pub well_formed : alert_of c ≡ Some a
   pub fatal : a.level ≡ L.Fatal
 
 module _ (h : Handshake) (sent : SentRecords) (random d : List ℕ) (r : Record) (nb : h.state ≢ S.Barred) where
@@ -208,10 +208,10 @@ module _ (c : Connection) (b : c.handshake.state ≡ S.Barred) where
   same_always (call ∷ calls) = ap (λ x. final_of step_of x calls) (stays (call_of c call)).0 ∙ same_always calls
 
   received_seven : (d random out : List ℕ) (rs : List Record) → length random ≡ 16 → 128 ≤ length out → framing_of d ≡ framed rs
-      → (step_of c (receive d random out)).result ≡ received (T.Records (length rs)) (slots_of (refused_all rs)) 0
+      → (step_of c (receive d random out)).result ≡ received (Ok (length rs)) (slots_of (refused_all rs)) 0
   received_seven d random out rs e l f =
       ap (λ s. s.result) (call_is c (by_chain c {out = out} e l f (chain_seven random d c is_over rs)))
-      ∙ ap (λ reply. received (T.Records (length rs)) (slots_of (refused_all rs)) (length reply)) (no_reply_ended c random d is_over rs)
+      ∙ ap (λ reply. received (Ok (length rs)) (slots_of (refused_all rs)) (length reply)) (no_reply_ended c random d is_over rs)
 
   answers_seven : AnswersSeven step_of c
   unfolding AnswersSeven

@@ -19,10 +19,6 @@ use Rattle.record.specs.declared.reader.Record.{Record}
 use Rattle.message.specs.Alert.{level_of, sorted_of}
 use Rattle.message.specs.declared.alert.Level.{Level}
 use Rattle.message.specs.declared.alert.Description.{Description}
-use Rattle.message.specs.declared.alert.Graded.{Graded}
-use Rattle.message.specs.declared.alert.Graded.TheVariants as G
-use Rattle.message.specs.declared.alert.Sorted.{Sorted}
-use Rattle.message.specs.declared.alert.Sorted.TheVariants as D
 use Rattle.connection.specs.Connection as I
 use Rattle.connection.specs.Told.{told_record}
 use Rattle.connection.specs.Receive.{slots_of, first_reply, end_of, answers_of, received_of, output_of, whole_of, run_of, framed_to, sent_of}
@@ -36,9 +32,7 @@ use Rattle.connection.specs.declared.refusal.Refusal.TheVariants as X
 use Rattle.connection.specs.declared.answer.Answer.{Answer}
 use Rattle.connection.specs.declared.connection.Connection.{Connection}
 use Rattle.connection.specs.declared.calls.Called.{Called}
-use Rattle.connection.specs.declared.calls.Outcome.{Outcome}
-use Rattle.connection.specs.declared.calls.Outcome.TheVariants as O
-use Rattle.connection.specs.declared.receive.Taken.TheVariants as T
+use Rattle.connection.specs.declared.receive.Untaken.TheVariants as T
 use Rattle.connection.specs.declared.handshake.Handshake.{Handshake}
 use Rattle.demands.specs.Runs.{Call, receive, send_data, send_alert, close, start, received, received_as, sent_as, called_as, Step, step_of, fresh_one}
 use Rattle.demands.specs.Calls.{Chain, chain_end, chain_more, not_taken, not_sent, not_called, taken, was_called, may_alert, number_for, code_for, BadData, BadAlert, GoodData, GoodAlert, CallRow, CallsHold, FreshRow, fresh_16, fresh_done, FreshHolds}
@@ -47,6 +41,8 @@ use Rattle.demands.proofs.States.{ended, live_over, over_live, over_ended, ended
 use Rattle.demands.proofs.Genuine.{true_false}
 use Rattle.demands.proofs.Asked.{tells_of, tells_is}
 use Rattle.demands.proofs.First.{first_sends, first_is}
+use Rattle.std.specs.Prelude.{Err, None, Ok, Option, Result, Some, ⊤}
+use Rattle.connection.specs.declared.refusal.Refusal.{Refusal}
 
 -- ---- records one after the other
 
@@ -81,16 +77,16 @@ module _ (c : Connection) (d random out : List ℕ) where
   -- the step, by the outcomes of the tests
   abbrev pub receive_by : Bool → Bool → Framing → Step
   receive_by sixteen short f =
-      received_as (pick sixteen (pick short (whole_of c (T.Refused X.Room)) (framed_to c random d f)) (whole_of c (T.Refused X.Argument)))
+      received_as (pick sixteen (pick short (whole_of c (Err (T.Refused X.Room))) (framed_to c random d f)) (whole_of c (Err (T.Refused X.Argument))))
       (pick sixteen (pick short out (laid_over out 0 (sent_of c random d f))) out)
 
   pub step_receive : step_of c (receive d random out) ≡ receive_by (eqb (length random) 16) (ltb (length out) 128) (framing_of d)
   unfolding step_of received_of output_of
   step_receive = refl
 
-  misframed_is : (fault : Fault) (at : ℕ) → receive_by true false (faulty fault at) ≡ not_taken c out (T.Misframed (X.Framing fault) at)
+  misframed_is : (fault : Fault) (at : ℕ) → receive_by true false (faulty fault at) ≡ not_taken c out (Err (T.Misframed (X.Framing fault) at))
   unfolding whole_of
-  misframed_is fault at = λ i. record { result = received (T.Misframed (X.Framing fault) at) (slots_of []) 0; output = laid_none i; connection = c }
+  misframed_is fault at = λ i. record { result = received (Err (T.Misframed (X.Framing fault) at)) (slots_of []) 0; output = laid_none i; connection = c }
 
   receive_by_lem : (b : Bool) → eqb (length random) 16 ≡ b → (s : Bool) → ltb (length out) 128 ≡ s → (f : Framing) → framing_of d ≡ f
       → CallRow c (receive d random out) (receive_by b s f)
@@ -112,11 +108,11 @@ module _ (c : Connection) (d random out : List ℕ) where
   unfolding run_of
   taken_is rs = refl
 
-  not_16_is : receive_by false (ltb (length out) 128) (framing_of d) ≡ not_taken c out (T.Refused X.Argument)
+  not_16_is : receive_by false (ltb (length out) 128) (framing_of d) ≡ not_taken c out (Err (T.Refused X.Argument))
   unfolding whole_of
   not_16_is = refl
 
-  no_room_is : receive_by true true (framing_of d) ≡ not_taken c out (T.Refused X.Room)
+  no_room_is : receive_by true true (framing_of d) ≡ not_taken c out (Err (T.Refused X.Room))
   unfolding whole_of
   no_room_is = refl
 
@@ -130,7 +126,7 @@ module _ (c : Connection) (bytes out : List ℕ) where
   data_next = next_protected h C.Data bytes
 
   -- the step, by the outcome
-  abbrev data_step : Outcome → Step
+  abbrev data_step : Result ⊤ Refusal → Step
   data_step o = sent_as (sent_to c (done data_next (after_send true c data_next)) o) (output_to out data_next o)
 
   step_data : step_of c (send_data bytes out) ≡ data_step (data_outcome h (length bytes) (length out))
@@ -138,12 +134,12 @@ module _ (c : Connection) (bytes out : List ℕ) where
   step_data = refl
 
   data_by_room : GoodData bytes → h.state ≡ S.Open → h.protection.protected ≤ 65535 → (b : Bool) → ltb (length out) (3 + length bytes + size_of h.protection.keys.mac) ≡ b
-      → CallRow c (send_data bytes out) (data_step (pick b (O.Refused X.Room) O.Done))
+      → CallRow c (send_data bytes out) (data_step (pick b (Err X.Room) (Ok tt)))
   data_by_room g s n true e = data_6 g s n (ltb-true (length out) (3 + length bytes + size_of h.protection.keys.mac) e)
   data_by_room g s n false e = data_sent_lem g s n (ltb-false (length out) (3 + length bytes + size_of h.protection.keys.mac) e)
 
   data_by_number : GoodData bytes → h.state ≡ S.Open → (b : Bool) → ltb 65535 h.protection.protected ≡ b
-      → CallRow c (send_data bytes out) (data_step (pick b (O.Refused X.Spent) (pick (ltb (length out) (3 + length bytes + size_of h.protection.keys.mac)) (O.Refused X.Room) O.Done)))
+      → CallRow c (send_data bytes out) (data_step (pick b (Err X.Spent) (pick (ltb (length out) (3 + length bytes + size_of h.protection.keys.mac)) (Err X.Room) (Ok tt))))
   data_by_number g s true e = data_15 g s (ltb-true 65535 h.protection.protected e)
   data_by_number g s false e =
       data_by_room g s (ltb-false 65535 h.protection.protected e) (ltb (length out) (3 + length bytes + size_of h.protection.keys.mac)) refl
@@ -161,11 +157,11 @@ module _ (c : Connection) (bytes out : List ℕ) where
   data_by_state g S.Closed e = data_7 g (inl e)
   data_by_state g S.Barred e = data_7 g (inr e)
 
-  abbrev data_rest : Outcome
+  abbrev data_rest : Result ⊤ Refusal
   data_rest = and_then (may_data h.state) (numbered_by h.protection.protected (3 + length bytes + size_of h.protection.keys.mac) (length out))
 
   data_by_size : (b : Bool) → eqb (length bytes) 0 ≡ b → (m : Bool) → ltb 1300 (length bytes) ≡ m
-      → CallRow c (send_data bytes out) (data_step (pick b (O.Refused X.Argument) (pick m (O.Refused X.Argument) data_rest)))
+      → CallRow c (send_data bytes out) (data_step (pick b (Err X.Argument) (pick m (Err X.Argument) data_rest)))
   data_by_size true eb m em = data_16 (inl (eqb-true (length bytes) 0 eb))
   data_by_size false eb true em = data_16 (inr (ltb-true 1300 (length bytes) em))
   data_by_size false eb false em =
@@ -181,12 +177,12 @@ module _ (c : Connection) (bytes out : List ℕ) where
       (data_by_size (eqb (length bytes) 0) refl (ltb 1300 (length bytes)) refl)
 
   -- the other way round
-  data_good : GoodData bytes → (o : Outcome) → data_rest ≡ o → step_of c (send_data bytes out) ≡ data_step o
+  data_good : GoodData bytes → (o : Result ⊤ Refusal) → data_rest ≡ o → step_of c (send_data bytes out) ≡ data_step o
   unfolding data_refused
   data_good g o e =
       step_data
-      ∙ ap (λ b. data_step (pick b (O.Refused X.Argument) (pick (ltb 1300 (length bytes)) (O.Refused X.Argument) data_rest))) (ne_eqb (length bytes) 0 (λ z. not_zero (length bytes) g.some z))
-      ∙ ap (λ b. data_step (pick b (O.Refused X.Argument) data_rest)) (le-ltb 1300 (length bytes) g.most)
+      ∙ ap (λ b. data_step (pick b (Err X.Argument) (pick (ltb 1300 (length bytes)) (Err X.Argument) data_rest))) (ne_eqb (length bytes) 0 (λ z. not_zero (length bytes) g.some z))
+      ∙ ap (λ b. data_step (pick b (Err X.Argument) data_rest)) (le-ltb 1300 (length bytes) g.most)
       ∙ ap data_step e
     where
       not_zero : (n : ℕ) → 1 ≤ n → n ≡ 0 → ⊥
@@ -195,17 +191,17 @@ module _ (c : Connection) (bytes out : List ℕ) where
   data_bad : BadData bytes → step_of c (send_data bytes out) ≡ not_sent c out X.Argument
   unfolding data_refused
   data_bad (inl z) =
-      step_data ∙ ap (λ b. data_step (pick b (O.Refused X.Argument) (pick (ltb 1300 (length bytes)) (O.Refused X.Argument) data_rest))) (eq-eqb (length bytes) 0 z)
+      step_data ∙ ap (λ b. data_step (pick b (Err X.Argument) (pick (ltb 1300 (length bytes)) (Err X.Argument) data_rest))) (eq-eqb (length bytes) 0 z)
   data_bad (inr z) =
       step_data
-      ∙ ap (λ b. data_step (pick b (O.Refused X.Argument) (pick (ltb 1300 (length bytes)) (O.Refused X.Argument) data_rest))) (ne_eqb (length bytes) 0 (not_zero (length bytes) z))
-      ∙ ap (λ b. data_step (pick b (O.Refused X.Argument) data_rest)) (lt-ltb 1300 (length bytes) z)
+      ∙ ap (λ b. data_step (pick b (Err X.Argument) (pick (ltb 1300 (length bytes)) (Err X.Argument) data_rest))) (ne_eqb (length bytes) 0 (not_zero (length bytes) z))
+      ∙ ap (λ b. data_step (pick b (Err X.Argument) data_rest)) (lt-ltb 1300 (length bytes) z)
     where
       not_zero : (n : ℕ) → 1300 < n → n ≡ 0 → ⊥
       not_zero n l e = omega arith
 
 -- which outcome a state gives
-ended_data : (s : State) → ended s ≡ true → may_data s ≡ O.Refused X.Ended
+ended_data : (s : State) → ended s ≡ true → may_data s ≡ Err X.Ended
 ended_data S.Idle e = true_false false e refl
 ended_data S.Replied e = true_false false e refl
 ended_data S.Spec e = true_false false e refl
@@ -213,7 +209,7 @@ ended_data S.Open e = true_false false e refl
 ended_data S.Closed e = refl
 ended_data S.Barred e = refl
 
-other_data : (s : State) → ended s ≡ false → s ≢ S.Open → may_data s ≡ O.Refused X.NotAllowed
+other_data : (s : State) → ended s ≡ false → s ≢ S.Open → may_data s ≡ Err X.NotAllowed
 other_data S.Idle e n = refl
 other_data S.Replied e n = refl
 other_data S.Spec e n = refl
@@ -221,22 +217,22 @@ other_data S.Open e n = absurd (n refl)
 other_data S.Closed e n = true_false true refl e
 other_data S.Barred e n = true_false true refl e
 
-numbered_is : (number need room : ℕ) → number ≤ 65535 → (o : Outcome) → pick (ltb room need) (O.Refused X.Room) O.Done ≡ o → numbered_by number need room ≡ o
+numbered_is : (number need room : ℕ) → number ≤ 65535 → (o : Result ⊤ Refusal) → pick (ltb room need) (Err X.Room) (Ok tt) ≡ o → numbered_by number need room ≡ o
 unfolding numbered_by
 numbered_is number need room n o e =
-    ap (λ b. pick b (O.Refused X.Spent) (pick (ltb room need) (O.Refused X.Room) O.Done)) (le-ltb 65535 number n) ∙ e
+    ap (λ b. pick b (Err X.Spent) (pick (ltb room need) (Err X.Room) (Ok tt))) (le-ltb 65535 number n) ∙ e
 
-spent_is : (number need room : ℕ) → 65535 < number → numbered_by number need room ≡ O.Refused X.Spent
+spent_is : (number need room : ℕ) → 65535 < number → numbered_by number need room ≡ Err X.Spent
 unfolding numbered_by
-spent_is number need room n = ap (λ b. pick b (O.Refused X.Spent) (pick (ltb room need) (O.Refused X.Room) O.Done)) (lt-ltb 65535 number n)
+spent_is number need room n = ap (λ b. pick b (Err X.Spent) (pick (ltb room need) (Err X.Room) (Ok tt))) (lt-ltb 65535 number n)
 
 -- ---- send an alert
 
-abbrev may_of : Bool → State → Outcome
+abbrev may_of : Bool → State → Result ⊤ Refusal
 may_of true s = may_protect s
 may_of false s = may_clear s
 
-ended_alert : (protected : Bool) (s : State) → ended s ≡ true → may_of protected s ≡ O.Refused X.Ended
+ended_alert : (protected : Bool) (s : State) → ended s ≡ true → may_of protected s ≡ Err X.Ended
 ended_alert protected S.Idle e = true_false false e refl
 ended_alert protected S.Replied e = true_false false e refl
 ended_alert protected S.Spec e = true_false false e refl
@@ -246,7 +242,7 @@ ended_alert false S.Closed e = refl
 ended_alert true S.Barred e = refl
 ended_alert false S.Barred e = refl
 
-other_alert : (protected : Bool) (s : State) → ended s ≡ false → may_alert protected s ≡ false → may_of protected s ≡ O.Refused X.NotAllowed
+other_alert : (protected : Bool) (s : State) → ended s ≡ false → may_alert protected s ≡ false → may_of protected s ≡ Err X.NotAllowed
 other_alert true S.Idle e n = refl
 other_alert false S.Idle e n = refl
 other_alert protected S.Replied e n = true_false true refl n
@@ -256,7 +252,7 @@ other_alert false S.Open e n = refl
 other_alert protected S.Closed e n = true_false true refl e
 other_alert protected S.Barred e n = true_false true refl e
 
-may_alert_lem : (protected : Bool) (s : State) → may_alert protected s ≡ true → may_of protected s ≡ O.Done
+may_alert_lem : (protected : Bool) (s : State) → may_alert protected s ≡ true → may_of protected s ≡ Ok tt
 may_alert_lem protected S.Idle e = true_false false e refl
 may_alert_lem true S.Replied e = refl
 may_alert_lem false S.Replied e = refl
@@ -273,7 +269,7 @@ alert_outcome_lem true h lent room = refl
 alert_outcome_lem false h lent room = refl
 
 module _ (c : Connection) (protected : Bool) (level description : ℕ) (answered out : List ℕ) where
-  abbrev alert_by : Graded → Sorted → Step
+  abbrev alert_by : Option Level → Option Description → Step
   alert_by g s = sent_as (alert_sent_as c protected answered (length out) g s) (alert_output_as c protected answered out g s)
 
   step_alert : step_of c (send_alert protected level description answered out) ≡ alert_by (level_of level) (sorted_of description)
@@ -284,21 +280,21 @@ module _ (c : Connection) (protected : Bool) (level description : ℕ) (answered
     abbrev alert_next : List ℕ
     alert_next = next_alert protected (sender_of protected c) (alert_body l k answered)
 
-    abbrev alert_step : Outcome → Step
+    abbrev alert_step : Result ⊤ Refusal → Step
     alert_step o = sent_as (sent_to c (done alert_next (after_send protected c alert_next)) o) (output_to out alert_next o)
 
-    abbrev alert_numbered : Outcome
+    abbrev alert_numbered : Result ⊤ Refusal
     alert_numbered = numbered_by (number_for protected (sender_of protected c)) (9 + code_for protected (sender_of protected c)) (length out)
 
     alert_by_room : GoodAlert level description answered l k → may_alert protected (sender_of protected c).state ≡ true → number_for protected (sender_of protected c) ≤ 65535
         → (b : Bool) → ltb (length out) (9 + code_for protected (sender_of protected c)) ≡ b
-        → CallRow c (send_alert protected level description answered out) (alert_step (pick b (O.Refused X.Room) O.Done))
+        → CallRow c (send_alert protected level description answered out) (alert_step (pick b (Err X.Room) (Ok tt)))
     alert_by_room g s n true e = alert_6 g s n (ltb-true (length out) (9 + code_for protected (sender_of protected c)) e)
     alert_by_room g s n false e = alert_sent_lem g s n (ltb-false (length out) (9 + code_for protected (sender_of protected c)) e)
 
     alert_by_number : GoodAlert level description answered l k → may_alert protected (sender_of protected c).state ≡ true → (b : Bool) → ltb 65535 (number_for protected (sender_of protected c)) ≡ b
         → CallRow c (send_alert protected level description answered out)
-        (alert_step (pick b (O.Refused X.Spent) (pick (ltb (length out) (9 + code_for protected (sender_of protected c))) (O.Refused X.Room) O.Done)))
+        (alert_step (pick b (Err X.Spent) (pick (ltb (length out) (9 + code_for protected (sender_of protected c))) (Err X.Room) (Ok tt))))
     alert_by_number g s true e = alert_15 g s (ltb-true 65535 (number_for protected (sender_of protected c)) e)
     alert_by_number g s false e =
         alert_by_room g s (ltb-false 65535 (number_for protected (sender_of protected c)) e) (ltb (length out) (9 + code_for protected (sender_of protected c))) refl
@@ -314,14 +310,14 @@ module _ (c : Connection) (protected : Bool) (level description : ℕ) (answered
         subst (λ o. CallRow c (send_alert protected level description answered out) (alert_step (and_then o alert_numbered))) (sym (may_alert_lem protected (sender_of protected c).state f))
         (alert_by_number g f (ltb 65535 (number_for protected (sender_of protected c))) refl)
 
-    alert_by_lent : level_of level ≡ G.Is l → sorted_of description ≡ D.Assigned k → (b : Bool) → ltb 1400 (length answered) ≡ b
+    alert_by_lent : level_of level ≡ Some l → sorted_of description ≡ Some k → (b : Bool) → ltb 1400 (length answered) ≡ b
         → CallRow c (send_alert protected level description answered out)
-        (alert_step (pick b (O.Refused X.Argument) (and_then (may_of protected (sender_of protected c).state) alert_numbered)))
+        (alert_step (pick b (Err X.Argument) (and_then (may_of protected (sender_of protected c).state) alert_numbered)))
     alert_by_lent el ek true e = alert_16 (inr (inr (ltb-true 1400 (length answered) e)))
     alert_by_lent el ek false e =
         alert_by_state (record { level_is = el; description_is = ek; lent_most = ltb-false 1400 (length answered) e }) (ended (sender_of protected c).state) (may_alert protected (sender_of protected c).state) refl refl
 
-    alert_assigned : level_of level ≡ G.Is l → sorted_of description ≡ D.Assigned k
+    alert_assigned : level_of level ≡ Some l → sorted_of description ≡ Some k
         → CallRow c (send_alert protected level description answered out) (alert_step (alert_outcome protected (sender_of protected c) (length answered) (length out)))
     unfolding alert_refused
     alert_assigned el ek =
@@ -329,48 +325,48 @@ module _ (c : Connection) (protected : Bool) (level description : ℕ) (answered
         (alert_by_lent el ek (ltb 1400 (length answered)) refl)
 
     -- the other way round
-    alert_good : GoodAlert level description answered l k → (o : Outcome) → and_then (may_of protected (sender_of protected c).state) alert_numbered ≡ o
+    alert_good : GoodAlert level description answered l k → (o : Result ⊤ Refusal) → and_then (may_of protected (sender_of protected c).state) alert_numbered ≡ o
         → step_of c (send_alert protected level description answered out) ≡ alert_step o
     unfolding alert_refused
     alert_good g o e =
         step_alert ∙ ap₂ alert_by g.level_is g.description_is
         ∙ ap alert_step (alert_outcome_lem protected (sender_of protected c) (length answered) (length out))
-        ∙ ap (λ b. alert_step (pick b (O.Refused X.Argument) (and_then (may_of protected (sender_of protected c).state) alert_numbered))) (le-ltb 1400 (length answered) g.lent_most)
+        ∙ ap (λ b. alert_step (pick b (Err X.Argument) (and_then (may_of protected (sender_of protected c).state) alert_numbered))) (le-ltb 1400 (length answered) g.lent_most)
         ∙ ap alert_step e
 
-    alert_long : level_of level ≡ G.Is l → sorted_of description ≡ D.Assigned k → 1400 < length answered
+    alert_long : level_of level ≡ Some l → sorted_of description ≡ Some k → 1400 < length answered
         → step_of c (send_alert protected level description answered out) ≡ not_sent c out X.Argument
     unfolding alert_refused
     alert_long el ek z =
         step_alert ∙ ap₂ alert_by el ek
         ∙ ap alert_step (alert_outcome_lem protected (sender_of protected c) (length answered) (length out))
-        ∙ ap (λ b. alert_step (pick b (O.Refused X.Argument) (and_then (may_of protected (sender_of protected c).state) alert_numbered))) (lt-ltb 1400 (length answered) z)
+        ∙ ap (λ b. alert_step (pick b (Err X.Argument) (and_then (may_of protected (sender_of protected c).state) alert_numbered))) (lt-ltb 1400 (length answered) z)
 
-  alert_by_lem : (g : Graded) (s : Sorted) → level_of level ≡ g → sorted_of description ≡ s
+  alert_by_lem : (g : Option Level) (s : Option Description) → level_of level ≡ g → sorted_of description ≡ s
       → CallRow c (send_alert protected level description answered out) (alert_by g s)
-  alert_by_lem (G.Is l) (D.Assigned k) el ek = alert_assigned l k el ek
-  alert_by_lem (G.Is l) D.Unassigned el ek = alert_16 (inr (inl ek))
-  alert_by_lem G.Unassigned (D.Assigned k) el ek = alert_16 (inl el)
-  alert_by_lem G.Unassigned D.Unassigned el ek = alert_16 (inl el)
+  alert_by_lem (Some l) (Some k) el ek = alert_assigned l k el ek
+  alert_by_lem (Some l) None el ek = alert_16 (inr (inl ek))
+  alert_by_lem None (Some k) el ek = alert_16 (inl el)
+  alert_by_lem None None el ek = alert_16 (inl el)
 
   alert_row : CallRow c (send_alert protected level description answered out) (step_of c (send_alert protected level description answered out))
   alert_row =
       subst (CallRow c (send_alert protected level description answered out)) (sym step_alert) (alert_by_lem (level_of level) (sorted_of description) refl refl)
 
-  no_level : (s : Sorted) → alert_by G.Unassigned s ≡ not_sent c out X.Argument
-  no_level (D.Assigned k) = refl
-  no_level D.Unassigned = refl
+  no_level : (s : Option Description) → alert_by None s ≡ not_sent c out X.Argument
+  no_level (Some k) = refl
+  no_level None = refl
 
-  no_description : (g : Graded) → alert_by g D.Unassigned ≡ not_sent c out X.Argument
-  no_description (G.Is l) = refl
-  no_description G.Unassigned = refl
+  no_description : (g : Option Level) → alert_by g None ≡ not_sent c out X.Argument
+  no_description (Some l) = refl
+  no_description None = refl
 
-  lent_long : (g : Graded) (s : Sorted) → level_of level ≡ g → sorted_of description ≡ s → 1400 < length answered
+  lent_long : (g : Option Level) (s : Option Description) → level_of level ≡ g → sorted_of description ≡ s → 1400 < length answered
       → step_of c (send_alert protected level description answered out) ≡ not_sent c out X.Argument
-  lent_long (G.Is l) (D.Assigned k) el ek z = alert_long l k el ek z
-  lent_long (G.Is l) D.Unassigned el ek z = step_alert ∙ ap₂ alert_by el ek
-  lent_long G.Unassigned (D.Assigned k) el ek z = step_alert ∙ ap₂ alert_by el ek
-  lent_long G.Unassigned D.Unassigned el ek z = step_alert ∙ ap₂ alert_by el ek
+  lent_long (Some l) (Some k) el ek z = alert_long l k el ek z
+  lent_long (Some l) None el ek z = step_alert ∙ ap₂ alert_by el ek
+  lent_long None (Some k) el ek z = step_alert ∙ ap₂ alert_by el ek
+  lent_long None None el ek z = step_alert ∙ ap₂ alert_by el ek
 
   alert_bad : BadAlert level description answered → step_of c (send_alert protected level description answered out) ≡ not_sent c out X.Argument
   alert_bad (inl e) = step_alert ∙ ap (λ g. alert_by g (sorted_of description)) e ∙ no_level (sorted_of description)
@@ -469,45 +465,45 @@ call_is c (receive_records {d = d} {random = random} {out = out} {rs = rs} reply
     ∙ (λ i. taken out rs (q.0 i) (first_is random d more reply sends i) (q.1 i))
 call_is c (data_16 {bytes = bytes} {out = out} b) = data_bad c bytes out b
 call_is c (data_7 {bytes = bytes} {out = out} g e) =
-    data_good c bytes out g (O.Refused X.Ended) (ap (λ o. and_then o (numbered_by c.handshake.protection.protected (3 + length bytes + size_of c.handshake.protection.keys.mac) (length out))) (ended_data c.handshake.state (over_ended c.handshake.state e)))
+    data_good c bytes out g (Err X.Ended) (ap (λ o. and_then o (numbered_by c.handshake.protection.protected (3 + length bytes + size_of c.handshake.protection.keys.mac) (length out))) (ended_data c.handshake.state (over_ended c.handshake.state e)))
 call_is c (data_8 {bytes = bytes} {out = out} g e n) =
-    data_good c bytes out g (O.Refused X.NotAllowed) (ap (λ o. and_then o (numbered_by c.handshake.protection.protected (3 + length bytes + size_of c.handshake.protection.keys.mac) (length out))) (other_data c.handshake.state (over_live c.handshake.state e) n))
+    data_good c bytes out g (Err X.NotAllowed) (ap (λ o. and_then o (numbered_by c.handshake.protection.protected (3 + length bytes + size_of c.handshake.protection.keys.mac) (length out))) (other_data c.handshake.state (over_live c.handshake.state e) n))
 call_is c (data_15 {bytes = bytes} {out = out} g e n) =
-    data_good c bytes out g (O.Refused X.Spent)
+    data_good c bytes out g (Err X.Spent)
     (ap (λ s. and_then (may_data s) (numbered_by c.handshake.protection.protected (3 + length bytes + size_of c.handshake.protection.keys.mac) (length out))) e
     ∙ spent_is c.handshake.protection.protected (3 + length bytes + size_of c.handshake.protection.keys.mac) (length out) n)
 call_is c (data_6 {bytes = bytes} {out = out} g e n l) =
-    data_good c bytes out g (O.Refused X.Room)
+    data_good c bytes out g (Err X.Room)
     (ap (λ s. and_then (may_data s) (numbered_by c.handshake.protection.protected (3 + length bytes + size_of c.handshake.protection.keys.mac) (length out))) e
-    ∙ numbered_is c.handshake.protection.protected (3 + length bytes + size_of c.handshake.protection.keys.mac) (length out) n (O.Refused X.Room)
-    (ap (λ b. pick b (O.Refused X.Room) O.Done) (lt-ltb (length out) (3 + length bytes + size_of c.handshake.protection.keys.mac) l)))
+    ∙ numbered_is c.handshake.protection.protected (3 + length bytes + size_of c.handshake.protection.keys.mac) (length out) n (Err X.Room)
+    (ap (λ b. pick b (Err X.Room) (Ok tt)) (lt-ltb (length out) (3 + length bytes + size_of c.handshake.protection.keys.mac) l)))
 call_is c (data_sent_lem {bytes = bytes} {out = out} g e n l) =
-    data_good c bytes out g O.Done
+    data_good c bytes out g (Ok tt)
     (ap (λ s. and_then (may_data s) (numbered_by c.handshake.protection.protected (3 + length bytes + size_of c.handshake.protection.keys.mac) (length out))) e
-    ∙ numbered_is c.handshake.protection.protected (3 + length bytes + size_of c.handshake.protection.keys.mac) (length out) n O.Done
-    (ap (λ b. pick b (O.Refused X.Room) O.Done) (le-ltb (length out) (3 + length bytes + size_of c.handshake.protection.keys.mac) l)))
+    ∙ numbered_is c.handshake.protection.protected (3 + length bytes + size_of c.handshake.protection.keys.mac) (length out) n (Ok tt)
+    (ap (λ b. pick b (Err X.Room) (Ok tt)) (le-ltb (length out) (3 + length bytes + size_of c.handshake.protection.keys.mac) l)))
 call_is c (alert_16 {protected = protected} {level = level} {description = description} {answered = answered} {out = out} b) =
     alert_bad c protected level description answered out b
 call_is c (alert_7 {protected = protected} {level = level} {description = description} {answered = answered} {out = out} {l = l} {k = k} g e) =
-    alert_good c protected level description answered out l k g (O.Refused X.Ended)
+    alert_good c protected level description answered out l k g (Err X.Ended)
     (ap (λ o. and_then o (numbered_by (number_for protected (sender_of protected c)) (9 + code_for protected (sender_of protected c)) (length out))) (ended_alert protected (sender_of protected c).state (over_ended (sender_of protected c).state e)))
 call_is c (alert_8 {protected = protected} {level = level} {description = description} {answered = answered} {out = out} {l = l} {k = k} g e f) =
-    alert_good c protected level description answered out l k g (O.Refused X.NotAllowed)
+    alert_good c protected level description answered out l k g (Err X.NotAllowed)
     (ap (λ o. and_then o (numbered_by (number_for protected (sender_of protected c)) (9 + code_for protected (sender_of protected c)) (length out))) (other_alert protected (sender_of protected c).state (over_live (sender_of protected c).state e) f))
 call_is c (alert_15 {protected = protected} {level = level} {description = description} {answered = answered} {out = out} {l = l} {k = k} g e n) =
-    alert_good c protected level description answered out l k g (O.Refused X.Spent)
+    alert_good c protected level description answered out l k g (Err X.Spent)
     (ap (λ o. and_then o (numbered_by (number_for protected (sender_of protected c)) (9 + code_for protected (sender_of protected c)) (length out))) (may_alert_lem protected (sender_of protected c).state e)
     ∙ spent_is (number_for protected (sender_of protected c)) (9 + code_for protected (sender_of protected c)) (length out) n)
 call_is c (alert_6 {protected = protected} {level = level} {description = description} {answered = answered} {out = out} {l = l} {k = k} g e n s) =
-    alert_good c protected level description answered out l k g (O.Refused X.Room)
+    alert_good c protected level description answered out l k g (Err X.Room)
     (ap (λ o. and_then o (numbered_by (number_for protected (sender_of protected c)) (9 + code_for protected (sender_of protected c)) (length out))) (may_alert_lem protected (sender_of protected c).state e)
-    ∙ numbered_is (number_for protected (sender_of protected c)) (9 + code_for protected (sender_of protected c)) (length out) n (O.Refused X.Room)
-    (ap (λ b. pick b (O.Refused X.Room) O.Done) (lt-ltb (length out) (9 + code_for protected (sender_of protected c)) s)))
+    ∙ numbered_is (number_for protected (sender_of protected c)) (9 + code_for protected (sender_of protected c)) (length out) n (Err X.Room)
+    (ap (λ b. pick b (Err X.Room) (Ok tt)) (lt-ltb (length out) (9 + code_for protected (sender_of protected c)) s)))
 call_is c (alert_sent_lem {protected = protected} {level = level} {description = description} {answered = answered} {out = out} {l = l} {k = k} g e n s) =
-    alert_good c protected level description answered out l k g O.Done
+    alert_good c protected level description answered out l k g (Ok tt)
     (ap (λ o. and_then o (numbered_by (number_for protected (sender_of protected c)) (9 + code_for protected (sender_of protected c)) (length out))) (may_alert_lem protected (sender_of protected c).state e)
-    ∙ numbered_is (number_for protected (sender_of protected c)) (9 + code_for protected (sender_of protected c)) (length out) n O.Done
-    (ap (λ b. pick b (O.Refused X.Room) O.Done) (le-ltb (length out) (9 + code_for protected (sender_of protected c)) s)))
+    ∙ numbered_is (number_for protected (sender_of protected c)) (9 + code_for protected (sender_of protected c)) (length out) n (Ok tt)
+    (ap (λ b. pick b (Err X.Room) (Ok tt)) (le-ltb (length out) (9 + code_for protected (sender_of protected c)) s)))
 call_is c (close_7 e) = ap (λ s. called_as (closed_in c s)) e
 call_is c (close_done n) = not_barred c c.handshake.state n
 call_is c (start_7 e) = ap (λ s. called_as (started_in c s)) e
@@ -523,7 +519,7 @@ calls_hold c call s = (λ e. subst (CallRow c call) e (call_of c call), call_is 
 module _ (id secret : List ℕ) (width : ℕ) where
   abbrev fresh_by : Bool → Bool → Bool → Bool → Called
   fresh_by eight twenty narrow wide =
-      pick eight (pick twenty (pick narrow out_of_range (pick wide out_of_range (leaving O.Done (fresh_one id secret width)))) out_of_range) out_of_range
+      pick eight (pick twenty (pick narrow out_of_range (pick wide out_of_range (leaving (Ok tt) (fresh_one id secret width)))) out_of_range) out_of_range
 
   fresh_is : fresh_of id secret width ≡ fresh_by (eqb (length id) 8) (eqb (length secret) 20) (ltb width 32) (ltb 64 width)
   unfolding fresh_of

@@ -25,7 +25,7 @@ use Rattle.record.specs.declared.header.Content.TheVariants as C
 use Rattle.record.specs.declared.keys.Keys.{Keys}
 use Rattle.record.specs.declared.reader.Record.{Record}
 use Rattle.record.specs.declared.window.Window.{Window}
-use Rattle.record.specs.declared.window.Acceptance.TheVariants as A
+use Rattle.record.specs.declared.window.NotNew.TheVariants as A
 use Rattle.record.proofs.Fronts.{record_length}
 use Rattle.record.proofs.RoundTrip.{read_back, read_short, fragment_back}
 use Rattle.record.proofs.ProtectedBytes.{protected_length, size_most, size_some}
@@ -38,7 +38,6 @@ use Rattle.connection.specs.Judge.{judged_record, fragment_of}
 use Rattle.connection.specs.Send.{alert_sent, sender_of, clear_sender}
 use Rattle.connection.specs.declared.answer.Answer.TheVariants as W
 use Rattle.connection.specs.declared.answer.Judged.{Judged}
-use Rattle.connection.specs.declared.calls.Outcome.TheVariants as O
 use Rattle.connection.specs.declared.handshake.Handshake.{Handshake}
 use Rattle.connection.specs.declared.refusal.Refusal.TheVariants as X
 use Rattle.connection.specs.declared.state.State.TheVariants as S
@@ -63,6 +62,7 @@ use Rattle.demands.proofs.Example.{example_walk, sha_walk, example_mac, sha_mac,
 use Rattle.demands.proofs.Traps.{w₀, w₇, single, single_framed, single_protected}
 use Rattle.connection.specs.Connection.{alone}
 use Rattle.connection.specs.Sent.{no_records}
+use Rattle.std.specs.Prelude.{Err, Ok}
 
 -- ---- both MAC kinds
 
@@ -151,17 +151,17 @@ module _ (s : ℕ) (inside : s ≤ 65535) where
     unfolding single
     guarded = record { protection = refl; kind = inr w.open_is }
 
-    handed_row : (y : Window) (n : ℕ) → accept_of x s ≡ A.New y n
+    handed_row : (y : Window) (n : ℕ) → accept_of x s ≡ Ok (y, n)
         → Row (with_window h x) no_records example_random data_with data_record (judged (W.Data s 3 6) (with_window (with_window h x) y))
     unfolding single
     handed_row y n e =
         row_data example_data y (record { guarded = guarded; coded = single_protected k C.Data s inside example_data; arrived = n; accepted = e }) refl (lit≤ tt)
 
-    pub old_row : accept_of x s ≡ A.TooOld → Row (with_window h x) no_records example_random data_with data_record (refusing X.TooOld (with_window h x))
+    pub old_row : accept_of x s ≡ Err A.TooOld → Row (with_window h x) no_records example_random data_with data_record (refusing X.TooOld (with_window h x))
     unfolding single
     old_row e = row_old example_data guarded (single_protected k C.Data s inside example_data) e
 
-    pub repeated_row : accept_of x s ≡ A.Repeated → Row (with_window h x) no_records example_random data_with data_record (refusing X.Repeated (with_window h x))
+    pub repeated_row : accept_of x s ≡ Err A.Repeated → Row (with_window h x) no_records example_random data_with data_record (refusing X.Repeated (with_window h x))
     unfolding single
     repeated_row e = row_repeated example_data guarded (single_protected k C.Data s inside example_data) e
 
@@ -174,7 +174,7 @@ module _ (s : ℕ) (inside : s ≤ 65535) where
   with_sound =
       sound_more run (took no_records example_random data_with data_record) run_sound (refl, record { before = []; behind = []; framing = data_framed })
 
-  pub with_leaves : (y : Window) (n : ℕ) → accept_of (w₀ example_width) s ≡ A.New y n → after example_fresh run_with ≡ with_window h y
+  pub with_leaves : (y : Window) (n : ℕ) → accept_of (w₀ example_width) s ≡ Ok (y, n) → after example_fresh run_with ≡ with_window h y
   unfolding run_with after w₀
   with_leaves y n e =
       after_more example_fresh run (took no_records example_random data_with data_record)
@@ -195,27 +195,27 @@ w₉ = record { width = example_width; highest = 9; marks = 513 }
 unfoldable w₉₇ : Window
 w₉₇ = record { width = example_width; highest = 9; marks = 517 }
 
-pub takes_80 : accept_of (w₀ example_width) 80 ≡ A.New w₈₀ 1
+pub takes_80 : accept_of (w₀ example_width) 80 ≡ Ok (w₈₀, 1)
 unfolding w₀ w₈₀ accept_by held_width ones marks_from mark_of highest_of accepted
 takes_80 = refl
 
-pub old_7 : accept_of w₈₀ 7 ≡ A.TooOld
+pub old_7 : accept_of w₈₀ 7 ≡ Err A.TooOld
 unfolding w₈₀ accept_by held_width ones
 old_7 = refl
 
-pub takes_7 : accept_of (w₀ example_width) 7 ≡ A.New (w₇ example_width) 2
+pub takes_7 : accept_of (w₀ example_width) 7 ≡ Ok (w₇ example_width, 2)
 unfolding w₀ w₇ accept_by held_width ones marks_from mark_of highest_of accepted
 takes_7 = refl
 
-pub again_7 : accept_of (w₇ example_width) 7 ≡ A.Repeated
+pub again_7 : accept_of (w₇ example_width) 7 ≡ Err A.Repeated
 unfolding w₇ accept_by held_width ones marks_from mark_of highest_of accepted
 again_7 = refl
 
-takes_9 : accept_of (w₀ example_width) 9 ≡ A.New w₉ 2
+takes_9 : accept_of (w₀ example_width) 9 ≡ Ok (w₉, 2)
 unfolding w₀ w₉ accept_by held_width ones marks_from mark_of highest_of accepted
 takes_9 = refl
 
-late_7 : accept_of w₉ 7 ≡ A.New w₉₇ 3
+late_7 : accept_of w₉ 7 ≡ Ok (w₉₇, 3)
 unfolding w₉ w₉₇ accept_by held_width ones
 late_7 = refl
 
@@ -341,7 +341,7 @@ forged =
 
 -- ---- an alert that is sent clear
 
-clear_is_done : (x : Handshake) → x.state ≡ S.Replied → x.protection.clear ≡ 2 → (alert_sent (alone x) false 1 0 [] (length example_out)).outcome ≡ O.Done
+clear_is_done : (x : Handshake) → x.state ≡ S.Replied → x.protection.clear ≡ 2 → (alert_sent (alone x) false 1 0 [] (length example_out)).outcome ≡ Ok tt
 unfolding step_of
 clear_is_done x s n =
     let sender : sender_of false (alone x) ≡ x = ap (clear_sender (alone x)) s in

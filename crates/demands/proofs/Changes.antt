@@ -20,7 +20,6 @@ use Rattle.connection.specs.declared.refusal.Refusal.TheVariants as X
 use Rattle.connection.specs.declared.answer.Answer.{Answer}
 use Rattle.connection.specs.declared.answer.Answer.TheVariants as W
 use Rattle.connection.specs.declared.answer.Judged.{Judged}
-use Rattle.connection.specs.declared.calls.Outcome.TheVariants as O
 use Rattle.connection.specs.declared.handshake.Handshake.{Handshake}
 use Rattle.demands.specs.Table.{Row, New}
 use Rattle.demands.specs.Table.{row_ended, row_returned, row_not_allowed, row_reply, row_hello_malformed, row_unacceptable, row_resent, row_change, row_change_malformed, row_clear_malformed, row_checksum, row_clear_warning, row_clear_critical, row_clear_fatal, row_forged, row_old, row_repeated, row_malformed, row_data, row_warning, row_critical, row_barred, row_open, row_again, row_wrong_finished}
@@ -28,6 +27,7 @@ use Rattle.demands.specs.Refusals.{marked, marked_as, refused_leaves, RefusedRec
 use Rattle.demands.specs.Changes.{Leaves, RecordChangesOnly, CloseChangesOnly, StartChangesOnly}
 use Rattle.demands.proofs.Table.{row_of}
 use Rattle.connection.specs.declared.sent.SentRecords.{SentRecords}
+use Rattle.std.specs.Prelude.{Err, Ok}
 
 module _ (h : Handshake) (sent : SentRecords) (random d : List ℕ) (r : Record) where
   -- the mark of a new number
@@ -98,10 +98,10 @@ refused_record h sent random d r x e =
 
 -- close, and start again
 
-refused_done : {P : Type 0} (x : Refusal) → O.Refused x ≡ O.Done → P
+refused_done : {P : Type 0} (x : Refusal) → Err x ≡ Ok tt → P
 refused_done x e = let z : ◌≡◌ {A = ℕ} 0 1 = cc in absurd (omega arith)
 
-closed_by : (c : Connection) (s : State) → (closed_in c s).outcome ≡ O.Done → (closed_in c s).connection ≡ ended c
+closed_by : (c : Connection) (s : State) → (closed_in c s).outcome ≡ Ok tt → (closed_in c s).connection ≡ ended c
 closed_by c S.Idle e = refl
 closed_by c S.Replied e = refl
 closed_by c S.Spec e = refl
@@ -113,7 +113,7 @@ pub close_changes_only : CloseChangesOnly
 unfolding CloseChangesOnly
 close_changes_only c e = closed_by c c.handshake.state e
 
-started_by : (c : Connection) (s : State) → (started_in c s).outcome ≡ O.Done → (started_in c s).connection ≡ restarted c
+started_by : (c : Connection) (s : State) → (started_in c s).outcome ≡ Ok tt → (started_in c s).connection ≡ restarted c
 started_by c S.Idle e = refused_done X.NotAllowed e
 started_by c S.Replied e = refused_done X.NotAllowed e
 started_by c S.Spec e = refused_done X.NotAllowed e

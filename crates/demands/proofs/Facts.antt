@@ -29,9 +29,7 @@ use Rattle.message.proofs.Givens.{Walked, walked}
 use Rattle.message.proofs.Written.{read_written}
 use Rattle.message.specs.declared.acceptance.Condition.{Condition}
 use Rattle.message.specs.declared.acceptance.Condition.TheVariants as N
-use Rattle.message.specs.declared.acceptance.Heard.TheVariants as H
-use Rattle.message.specs.declared.hello.Reading.{Reading}
-use Rattle.message.specs.declared.hello.Reading.TheVariants as G
+use Rattle.message.specs.declared.acceptance.Unheard.TheVariants as H
 use Rattle.connection.specs.Asked.{asked_of, is_spec}
 use Rattle.connection.specs.Judge.{fragment_of, kind_in}
 use Rattle.connection.specs.declared.asked.Whom.{Whom}
@@ -60,6 +58,9 @@ use Rattle.demands.proofs.Rules.{kind_by, kind_by_lem}
 use Rattle.demands.proofs.Exactly.Reasons.{decide}
 use Rattle.demands.proofs.Exactly.Record.{lies_in}
 use Rattle.demands.proofs.Exactly.Hello.{HeardHolds, heard-holds, not-acceptable, reads_so, values-so}
+use Rattle.std.specs.Prelude.{Err, Ok, Result}
+use Rattle.message.specs.declared.hello.Field.{Field}
+use Rattle.message.specs.declared.hello.Hello.{Hello}
 
 -- ---- parts of parts
 
@@ -99,10 +100,10 @@ module _ (m : List ℕ) (bytes : Bytes m) where
       decide (ltb 256 (length m)) (λ e. inl (ltb-true 256 (length m) e, rw e refl))
       (λ e. inr (ltb-false 256 (length m) e, by_reading (read_of m) refl ∙ sym (rw e refl)))
     where
-      by_reading : (x : Reading) → read_of m ≡ x → read_of m ≡ G.Malformed (fault_in (read_of m))
-      by_reading (G.WellFormed h) e =
+      by_reading : (x : Result Hello Field) → read_of m ≡ x → read_of m ≡ Err (fault_in (read_of m))
+      by_reading (Ok h) e =
           let w = read_written m bytes h e in absurd (n (record { values = values_at m h; can = w.0; layout = w.1 }))
-      by_reading (G.Malformed fault) e = e ∙ ap G.Malformed (sym (ap fault_in e))
+      by_reading (Err fault) e = e ∙ ap Err (sym (ap fault_in e))
 
   -- where the fields of a hello stand, and what stands there
   module _ (id : List ℕ) (w : WellFormedHello m) where
@@ -318,16 +319,16 @@ module _ (c : Connection) (whom : Whom) (numbers d : List ℕ) (r : Record) (in_
   malformed_facts (bad_message body n k a) = bad_protected_lem (bad_message body n k a) body n
   malformed_facts (empty_data body n k e) = bad_protected_lem (empty_data body n k e) body n
 
-  unacceptable_facts : Greets asked q → (condition : Condition) → heard_of f asked.id ≡ H.Unacceptable condition
+  unacceptable_facts : Greets asked q → (condition : Condition) → heard_of f asked.id ≡ Err (H.Unacceptable condition)
       → Facts (unmet_of (r.start + r.head) f asked.id)
   unfolding unmet_of
   unacceptable_facts g condition e =
-      let (w, u) : HeardHolds f asked.id (H.Unacceptable condition) = subst (HeardHolds f asked.id) e (heard-holds f asked.id bytes) in
+      let (w, u) : HeardHolds f asked.id (Err (H.Unacceptable condition)) = subst (HeardHolds f asked.id) e (heard-holds f asked.id bytes) in
       let p = field_for (places_of w.values) condition in
       let inside = had_inside f bytes asked.id w condition in
-      let told : unmet_by (r.start + r.head) (G.WellFormed (places_of w.values)) condition ≡ unmet_of (r.start + r.head) f asked.id
+      let told : unmet_by (r.start + r.head) (Ok (places_of w.values)) condition ≡ unmet_of (r.start + r.head) f asked.id
       = sym (ap (λ x. unmet_by (r.start + r.head) x (condition_in (heard_of f asked.id))) (reads_so f asked.id w)
-      ∙ ap (λ x. unmet_by (r.start + r.head) (G.WellFormed (places_of w.values)) (condition_in x)) e) in
+      ∙ ap (λ x. unmet_by (r.start + r.head) (Ok (places_of w.values)) (condition_in x)) e) in
       subst Facts told (
         g,
         (

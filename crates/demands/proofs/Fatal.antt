@@ -10,7 +10,7 @@ use Rattle.record.specs.Window.{accept_of}
 use Rattle.record.specs.declared.header.Content.{Content}
 use Rattle.record.specs.declared.header.Content.TheVariants as C
 use Rattle.record.specs.declared.reader.Record.{Record}
-use Rattle.record.specs.declared.window.Acceptance.TheVariants as A
+use Rattle.record.specs.declared.window.NotNew.TheVariants as A
 use Rattle.record.proofs.Histories.{new_means, all_below}
 use Rattle.message.specs.declared.alert.Alert.{Alert}
 use Rattle.connection.specs.Calls.{session_of}
@@ -33,6 +33,7 @@ use Rattle.demands.proofs.Finished.{Progress, progress_all, progress_fresh, keys
 use Rattle.demands.proofs.HandedOut.{by_history, due_new}
 use Rattle.demands.proofs.Barred.{FatalRow, by_fatal}
 use Rattle.connection.specs.declared.sent.SentRecords.{SentRecords}
+use Rattle.std.specs.Prelude.{Ok}
 
 -- the kinds that are allowed: an alert is, in Spec and in Open
 alert_allowed : (s : State) (c : Content) → ((s ≡ S.Spec) × ((c ≡ C.Alert) ⊎ (c ≡ C.Handshake))) ⊎ (s ≡ S.Open) → Alerted s
@@ -55,7 +56,7 @@ module _ (session : Session) {width : ℕ} (past : List Happened) (h : Handshake
       }
 
   new_by_past : (c : List ℕ) (a : Alert) → FatalAt width session past d r c a
-      → accept_of h.protection.window r.number ≡ A.New (window_of width (r.number ∷ accepted_in past)) (arrived_of width (r.number ∷ accepted_in past))
+      → accept_of h.protection.window r.number ≡ Ok (window_of width (r.number ∷ accepted_in past), arrived_of width (r.number ∷ accepted_in past))
   new_by_past c a f =
       ap (λ w. accept_of w r.number) p.kept.window_is
       ∙ due_new width p.kept.held (accepted_in past) r.number f.not_before f.recent

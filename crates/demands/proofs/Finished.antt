@@ -24,8 +24,8 @@ use Rattle.message.specs.Handshake.{fills, finished}
 use Rattle.message.specs.Acceptance.{heard_of}
 use Rattle.message.specs.Finished.{finished_of, judged_of}
 use Rattle.message.specs.declared.acceptance.Plan.{Plan}
-use Rattle.message.specs.declared.acceptance.Heard.TheVariants as H
-use Rattle.message.specs.declared.finished.Verified.TheVariants as F
+use Rattle.message.specs.declared.acceptance.Unheard.TheVariants as H
+use Rattle.message.specs.declared.finished.Unverified.TheVariants as F
 use Rattle.message.proofs.Written.{Filled, filled}
 use Rattle.message.proofs.Rests.{byte_piece}
 use Rattle.connection.specs.Calls.{session_of}
@@ -61,23 +61,24 @@ use Rattle.demands.proofs.Refusals.{outcome_in}
 use Rattle.demands.proofs.Kept.{kept_more, kept_fresh, live, greets_live, protected_live}
 use Rattle.connection.specs.declared.sent.SentRecords.{SentRecords}
 use Rattle.connection.specs.Connection.{alone}
+use Rattle.std.specs.Prelude.{Err, Ok}
 
 -- ---- a content that was judged right is the Finished of the expected contents
 
 module _ (m e : List ℕ) where
   judged_tests : (a b c : Bool) → eqb (length m) 15 ≡ a → fills finished m ≡ b → same_bytes (part_of m 3 15) e ≡ c
-      → pick a (pick b (pick c F.Right F.Wrong) F.Malformed) F.Malformed ≡ F.Right
+      → pick a (pick b (pick c (Ok tt) (Err F.Wrong)) (Err F.Malformed)) (Err F.Malformed) ≡ Ok tt
       → (length m ≡ 15) × (fills finished m ≡ true) × (part_of m 3 15 ≡ e)
   judged_tests true true true ea eb ec z = (eqb-true (length m) 15 ea, eb, same_equal (part_of m 3 15) e ec)
   judged_tests true true false ea eb ec z = let w : ◌≡◌ {A = ℕ} 0 1 = cc in absurd (omega arith)
   judged_tests true false c ea eb ec z = let w : ◌≡◌ {A = ℕ} 0 1 = cc in absurd (omega arith)
   judged_tests false b c ea eb ec z = let w : ◌≡◌ {A = ℕ} 0 1 = cc in absurd (omega arith)
 
-  right_parts : judged_of m e ≡ F.Right → (length m ≡ 15) × (fills finished m ≡ true) × (part_of m 3 15 ≡ e)
+  right_parts : judged_of m e ≡ Ok tt → (length m ≡ 15) × (fills finished m ≡ true) × (part_of m 3 15 ≡ e)
   unfolding judged_of
   right_parts z = judged_tests (eqb (length m) 15) (fills finished m) (same_bytes (part_of m 3 15) e) refl refl refl z
 
-  pub right_is : judged_of m e ≡ F.Right → m ≡ finished_of e
+  pub right_is : judged_of m e ≡ Ok tt → m ≡ finished_of e
   right_is z =
       let q = right_parts z in
       let l : length m ≡ 15 = q.0 in
@@ -108,7 +109,7 @@ pub record Greeted (session : Session) (past : List Happened) : Type 0 where
   pub ours : List ℕ
   pub plan : Plan
   pub replied : last_reply past ≡ greeting hello ours
-  pub heard : heard_of hello session.id ≡ H.Accepted plan
+  pub heard : heard_of hello session.id ≡ Ok plan
 
 pub record Progress (session : Session) (width : ℕ) (past : List Happened) (h : Handshake) : Type 0 where
   pub kept : KeptAs session width past h
@@ -181,7 +182,7 @@ module _ (session : Session) {width : ℕ} (past : List Happened) (h : Handshake
     go_on a x s k e z es v =
         record { kept = k; greeted = λ _. still_greeted a e (p.greeted z); verified = λ y. v (sym es ∙ y) }
 
-    opened : (c : List ℕ) (w : Window) → New h d r c w → h.state ≡ S.Spec → r.content ≡ C.Handshake → judged_of c h.expected ≡ F.Right
+    opened : (c : List ℕ) (w : Window) → New h d r c w → h.state ≡ S.Spec → r.content ≡ C.Handshake → judged_of c h.expected ≡ Ok tt
         → Verified session (answered random d r W.Open ∷ past)
     opened c w n es ec e =
         let g : Greeted session past = p.greeted (ap has_replied es) in
@@ -205,7 +206,7 @@ module _ (session : Session) {width : ℕ} (past : List Happened) (h : Handshake
           genuine = record { in_place = at; protected_as = subst (λ x. Protected x d r (finished_of (expected_of session g.ours g.hello g.plan))) (keys_are l) (subst (Protected (keys_of h) d r) content_is n.coded) };
         }
 
-    new_reply : (plan : Plan) → Greets h (seen_in d r) → heard_of (fragment_of d r) h.id ≡ H.Accepted plan
+    new_reply : (plan : Plan) → Greets h (seen_in d r) → heard_of (fragment_of d r) h.id ≡ Ok plan
         → KeptAs session width (answered random d r (W.Reply (length (reply_to (planted h) random (fragment_of d r) plan))) ∷ past) (answered_with h random (fragment_of d r) plan)
         → Progress session width (answered random d r (W.Reply (length (reply_to (planted h) random (fragment_of d r) plan))) ∷ past) (answered_with h random (fragment_of d r) plan)
     unfolding answered_with last_reply

@@ -10,8 +10,7 @@ use lib.Seq.{take_at}
 use Rattle.record.specs.declared.reader.Record.{Record}
 use Rattle.message.specs.Acceptance.{heard_of}
 use Rattle.message.specs.declared.acceptance.Plan.{Plan}
-use Rattle.message.specs.declared.acceptance.Heard.{Heard}
-use Rattle.message.specs.declared.acceptance.Heard.TheVariants as H
+use Rattle.message.specs.declared.acceptance.Unheard.TheVariants as H
 use Rattle.connection.specs.Answer.{judged, reply_size}
 use Rattle.connection.specs.Handshake.{planted, kept_reply, newcomer_to}
 use Rattle.connection.specs.Asked.{under_way, asked_of}
@@ -34,6 +33,8 @@ use Rattle.demands.specs.Calls.{Chain, chain_end, chain_more, SendsBy, FirstSend
 use Rattle.demands.proofs.Table.{row_of, row_is}
 use Rattle.demands.proofs.Asked.{idle_never, asks_is, told_by_lem}
 use Rattle.connection.specs.declared.sent.SentRecords.{SentRecords}
+use Rattle.std.specs.Prelude.{Ok, Result}
+use Rattle.message.specs.declared.acceptance.Unheard.{Unheard}
 
 -- as many as were taken
 pub take_taken : (n : ℕ) (l : List ℕ) → take (length (take n l)) l ≡ take n l
@@ -45,7 +46,7 @@ take_taken (suc n) (x ∷ l) = ap (λ t. x ∷ t) (take_taken n l)
 abbrev pub sent_of : Judged → List ℕ
 sent_of j = sent_of_kept j.handshake.kept j.answer
 
-one_plan : (a b : Plan) (x : Heard) → x ≡ H.Accepted a → x ≡ H.Accepted b → a ≡ b
+one_plan : (a b : Plan) (x : Result Plan Unheard) → x ≡ Ok a → x ≡ Ok b → a ≡ b
 one_plan a b x e f = cc
 
 module _ (h : Handshake) (sent : SentRecords) (random d : List ℕ) (r : Record) where
@@ -58,7 +59,7 @@ module _ (h : Handshake) (sent : SentRecords) (random d : List ℕ) (r : Record)
       let reply : List ℕ = reply_to (planted h) random (fragment_of d r) plan in
       take_at reply (replicate (84 - length reply) 0) (length reply) refl
 
-  replied_so : (plan : Plan) → heard_of (fragment_of d r) h.id ≡ H.Accepted plan → (bytes : List ℕ)
+  replied_so : (plan : Plan) → heard_of (fragment_of d r) h.id ≡ Ok plan → (bytes : List ℕ)
       → SendsBy h random (fragment_of d r) (W.Reply (length (reply_to (planted h) random (fragment_of d r) plan))) bytes
       → reply_to (planted h) random (fragment_of d r) plan ≡ bytes
   replied_so plan e bytes z =

@@ -29,7 +29,7 @@ use Rattle.connection.specs.declared.answer.Answer.{Answer}
 use Rattle.connection.specs.declared.answer.Answer.TheVariants as W
 use Rattle.connection.specs.declared.answer.Judged.{Judged}
 use Rattle.connection.specs.declared.connection.Connection.{Connection}
-use Rattle.connection.specs.declared.receive.Taken.TheVariants as T
+use Rattle.connection.specs.declared.receive.Untaken.TheVariants as T
 use Rattle.connection.specs.declared.handshake.Handshake.{Handshake}
 use Rattle.connection.specs.declared.handshake.Session.{Session}
 use Rattle.demands.specs.Runs.{receive, close, Result, received, Gateway, step_of, final_of}
@@ -67,6 +67,7 @@ use Rattle.connection.specs.Told.{told_by, told_record}
 use Rattle.connection.specs.declared.asked.Whom.TheVariants as Y
 use Rattle.connection.specs.declared.told.Told.{Told}
 use Rattle.connection.specs.declared.sent.SentRecords.{SentRecords}
+use Rattle.std.specs.Prelude.{Ok}
 
 -- ---- ours
 
@@ -92,7 +93,7 @@ unfolding Demand2IsTable Demand2 AnswersByTable
 demand_2_table g rows c d random out rs e l f =
     let same : step_of c (receive d random out) ≡ g c (receive d random out) = call_is c (rows c (receive d random out)) in
     subst
-    (λ s. (answers : List Answer) × (reply : List ℕ) × (s.result ≡ received (T.Records (length rs)) (slots_of answers) (length reply)) × Chain random d c rs answers s.connection × (s.output ≡ laid_over out 0 reply) × FirstSends c random d rs answers reply)
+    (λ s. (answers : List Answer) × (reply : List ℕ) × (s.result ≡ received (Ok (length rs)) (slots_of answers) (length reply)) × Chain random d c rs answers s.connection × (s.output ≡ laid_over out 0 reply) × FirstSends c random d rs answers reply)
     same (answers_by_table c d random out rs e l f)
 
 pub demand_2_settles : Demand2Settles

@@ -20,12 +20,10 @@ use Rattle.record.specs.declared.header.Content.{Content}
 use Rattle.record.specs.declared.header.Content.TheVariants as C
 use Rattle.record.specs.declared.reader.Record.{Record}
 use Rattle.record.specs.declared.window.Window.{Window}
-use Rattle.record.specs.declared.window.Acceptance.{Acceptance}
-use Rattle.record.specs.declared.window.Acceptance.TheVariants as A
+use Rattle.record.specs.declared.window.NotNew.TheVariants as A
 use Rattle.record.proofs.Histories.{meaning, new_means, old_means, repeated_means, new_when, all_below, below_all, accepted_here, accepted_still, held_some}
 use Rattle.message.specs.Finished.{judged_of as verdict_of}
-use Rattle.message.specs.declared.finished.Verified.{Verified as Verdict}
-use Rattle.message.specs.declared.finished.Verified.TheVariants as F
+use Rattle.message.specs.declared.finished.Unverified.TheVariants as F
 use Rattle.connection.specs.Answer.{handed_of, part_at}
 use Rattle.connection.specs.Calls.{session_of}
 use Rattle.connection.specs.Handshake.{with_state, with_window, barred}
@@ -64,6 +62,9 @@ use Rattle.demands.specs.Acts.{Act, comes, sends, alerts, closes, starts, SoundA
 use Rattle.demands.specs.Lives.{Lives, no_lives, lives_of}
 use Rattle.demands.specs.LeftOut.{Unreplaced}
 use Rattle.demands.proofs.Lives.{data_asked, NoRecord, act_next, lives_hold_at, lives_sound_at}
+use Rattle.std.specs.Prelude.{Err, Ok, Result, ⊤}
+use Rattle.message.specs.declared.finished.Unverified.{Unverified}
+use Rattle.record.specs.declared.window.NotNew.{NotNew}
 
 -- ---- new numbers, by the window and by the history
 
@@ -71,22 +72,22 @@ module _ (width : ℕ) (held : Held width) (numbers : List ℕ) (s : ℕ) where
   pub by_history : accept_of (window_of width numbers) s ≡ judged_of width numbers s
   by_history = meaning width held numbers s
 
-  pub new_facts : (w : Window) (n : ℕ) → accept_of (window_of width numbers) s ≡ A.New w n
+  pub new_facts : (w : Window) (n : ℕ) → accept_of (window_of width numbers) s ≡ Ok (w, n)
       → (highest_of numbers < s + width) × (accepted numbers s ≡ false)
   new_facts w n e = let q = new_means width numbers s w n (sym by_history ∙ e) in (q.0, q.1)
 
   pub is_new_lem : highest_of numbers < s + width → accepted numbers s ≡ false → is_new width numbers s ≡ true
   is_new_lem l a = ap₂ (λ (o b : Bool). pick o false (pick b false true)) (lt-leb (s + width) (highest_of numbers) l) a
 
-  pub new_is : (w : Window) (n : ℕ) → accept_of (window_of width numbers) s ≡ A.New w n → is_new width numbers s ≡ true
+  pub new_is : (w : Window) (n : ℕ) → accept_of (window_of width numbers) s ≡ Ok (w, n) → is_new width numbers s ≡ true
   new_is w n e = let q = new_facts w n e in is_new_lem q.0 q.1
 
-  pub old_is : accept_of (window_of width numbers) s ≡ A.TooOld → is_new width numbers s ≡ false
+  pub old_is : accept_of (window_of width numbers) s ≡ Err A.TooOld → is_new width numbers s ≡ false
   old_is e =
       ap (λ (o : Bool). pick o false (pick (accepted numbers s) false true))
       (le-leb (s + width) (highest_of numbers) (old_means width numbers s (sym by_history ∙ e)))
 
-  pub repeated_is : accept_of (window_of width numbers) s ≡ A.Repeated → is_new width numbers s ≡ false
+  pub repeated_is : accept_of (window_of width numbers) s ≡ Err A.Repeated → is_new width numbers s ≡ false
   repeated_is e =
       let q = repeated_means width numbers s (sym by_history ∙ e) in
       ap₂ (λ (o b : Bool). pick o false (pick b false true)) (lt-leb (s + width) (highest_of numbers) q.0) q.1
@@ -96,7 +97,7 @@ module _ (width : ℕ) (held : Held width) (numbers : List ℕ) (s : ℕ) where
   due_below b = below_all width (held_some width held) numbers s b
 
   pub due_new : accepted numbers s ≡ false → ((n : ℕ) → accepted numbers n ≡ true → n < s + width)
-      → accept_of (window_of width numbers) s ≡ A.New (window_of width (s ∷ numbers)) (arrived_of width (s ∷ numbers))
+      → accept_of (window_of width numbers) s ≡ Ok (window_of width (s ∷ numbers), arrived_of width (s ∷ numbers))
   due_new a b = by_history ∙ new_when width numbers s (due_below b) a
 
 -- ---- the connection goes along with the course
@@ -141,7 +142,7 @@ module _ (k : Keys) (expected : List ℕ) (course : Course) (h : Handshake) (a :
       one_more c s n =
           λ i. pick (z i) course (pick (genuine_yes c s i) (pick (n i) (record { width = course.width; numbers = r.number ∷ course.numbers; shut = content_shuts r.content (protected_content k d r c s i) expected }) course) course)
 
-      window_at_lem : (x : Acceptance) → accept_of h.protection.window r.number ≡ x → accept_of (window_of course.width course.numbers) r.number ≡ x
+      window_at_lem : (x : Result (Window × ℕ) NotNew) → accept_of h.protection.window r.number ≡ x → accept_of (window_of course.width course.numbers) r.number ≡ x
       window_at_lem x e = sym (ap (λ w. accept_of w r.number) (a.window_same z)) ∙ e
 
       -- nothing used up, nothing changed
@@ -157,7 +158,7 @@ module _ (k : Keys) (expected : List ℕ) (course : Course) (h : Handshake) (a :
           → (content_shuts r.content c expected ≡ true → ended x.state ≡ true)
           → Along k expected (with_record k expected course d r) x
       used c w n x ew o s =
-          let e = window_at_lem (A.New w n.arrived) n.accepted in
+          let e = window_at_lem (Ok (w, n.arrived)) n.accepted in
           let more : with_record k expected course d r ≡ record { width = course.width; numbers = r.number ∷ course.numbers; shut = content_shuts r.content c expected }
           = one_more c (right_code c n.coded) (new_is course.width a.held course.numbers r.number w n.arrived e) in
           subst (λ y. Along k expected y x) (sym more)
@@ -182,13 +183,13 @@ module _ (k : Keys) (expected : List ℕ) (course : Course) (h : Handshake) (a :
       closes_by c w n t ec f x ew g =
           used c w n x ew (λ y. true_false (content_shuts r.content c expected) (ap (λ v. content_shuts v c expected) ec ∙ f) y) (λ _. g)
 
-      verdict_at : (c : List ℕ) (x : Verdict) → verdict_of c h.expected ≡ x → verdict_of c expected ≡ x
+      verdict_at : (c : List ℕ) (x : Result ⊤ Unverified) → verdict_of c h.expected ≡ x → verdict_of c expected ≡ x
       verdict_at c x e = sym (ap (verdict_of c) (a.expected_same z)) ∙ e
 
       malformed_shuts : (c : List ℕ) (t : Content) → MalformedAs t c h.expected → content_shuts t c expected ≡ false
       malformed_shuts c C.ChangeCipherSpec m = refl
       malformed_shuts c C.Alert m = ap alert_shuts m
-      malformed_shuts c C.Handshake m = ap finished_shuts (verdict_at c F.Malformed m)
+      malformed_shuts c C.Handshake m = ap finished_shuts (verdict_at c (Err F.Malformed) m)
       malformed_shuts c C.Data m = refl
 
       -- a record that the table does not allow in Open is clear
@@ -220,18 +221,18 @@ module _ (k : Keys) (expected : List ℕ) (course : Course) (h : Handshake) (a :
               = sym (ap (λ b. pick b (genuine_by (hmac (unit_key k r.number)) (size_of k.mac) r.number r.byte (fragment_of d r)) false) g.protection) ∙ e in
               absurd (f (content_bytes k d r) (subst (λ x. Protected x d r (content_bytes k d r)) (sym (a.keys_same z)) (right_protected k d r g.protection code)))
       by_row (row_old c g s e) =
-          unchanged (not_new c (right_code c s) (old_is course.width a.held course.numbers r.number (window_at_lem A.TooOld e)))
+          unchanged (not_new c (right_code c s) (old_is course.width a.held course.numbers r.number (window_at_lem (Err A.TooOld) e)))
       by_row (row_repeated c g s e) =
-          unchanged (not_new c (right_code c s) (repeated_is course.width a.held course.numbers r.number (window_at_lem A.Repeated e)))
+          unchanged (not_new c (right_code c s) (repeated_is course.width a.held course.numbers r.number (window_at_lem (Err A.Repeated) e)))
       by_row (row_malformed c w n m) = stays_open c w n r.content refl (malformed_shuts c r.content m)
       by_row (row_data c w n e m) = stays_open c w n C.Data e refl
       by_row (row_warning c w b n e m l) = stays_open c w n C.Alert e (ap alert_shuts m ∙ ap level_shuts l)
       by_row (row_critical c w b n e m l) = closes_by c w n C.Alert e (ap alert_shuts m ∙ ap level_shuts l) (with_state (with_window h w) S.Closed) refl refl
       by_row (row_barred c w b n e m l) = closes_by c w n C.Alert e (ap alert_shuts m ∙ ap level_shuts l) (barred (with_window h w)) refl refl
       by_row (row_open c w n s e m) = let y : S.Spec ≡ S.Open = sym s ∙ a.is_open z in let v : ◌≡◌ {A = ℕ} 0 1 = cc in absurd (omega arith)
-      by_row (row_again c w n s e m) = stays_open c w n C.Handshake e (ap finished_shuts (verdict_at c F.Right m))
+      by_row (row_again c w n s e m) = stays_open c w n C.Handshake e (ap finished_shuts (verdict_at c (Ok tt) m))
       by_row (row_wrong_finished c w n e m) =
-          closes_by c w n C.Handshake e (ap finished_shuts (verdict_at c F.Wrong m)) (with_state (with_window h w) S.Closed) refl refl
+          closes_by c w n C.Handshake e (ap finished_shuts (verdict_at c (Err F.Wrong) m)) (with_state (with_window h w) S.Closed) refl refl
 
     record_more : (b : Bool) → course.shut ≡ b → Along k expected (with_record k expected course d r) (judged_record h sent random d r).handshake
     record_more true z = shut_more z
@@ -416,7 +417,7 @@ module _ (h : Handshake) (sent : SentRecords) (random d : List ℕ) (r : Record)
 module _ (k : Keys) (expected : List ℕ) (course : Course) (h : Handshake) (a : Along k expected course h) (sent : SentRecords) (random d : List ℕ) (r : Record) (at : RecordOf d r) where
   due_open : DataFacts h d r → course.shut ≡ false → (c : List ℕ) × Due k course d r c
   due_open f z =
-      let e : accept_of (window_of course.width course.numbers) r.number ≡ A.New f.w f.new.arrived
+      let e : accept_of (window_of course.width course.numbers) r.number ≡ Ok (f.w, f.new.arrived)
       = sym (ap (λ w. accept_of w r.number) (a.window_same z)) ∙ f.new.accepted in
       let q = new_facts course.width a.held course.numbers r.number f.w f.new.arrived e in (
         f.c,

@@ -10,13 +10,12 @@ use Rattle.record.specs.Window.{accept_of}
 use Rattle.record.specs.History.{highest_of, judged_of as judged_in}
 use Rattle.record.specs.declared.header.Content.TheVariants as C
 use Rattle.record.specs.declared.reader.Record.{Record}
-use Rattle.record.specs.declared.window.Acceptance.TheVariants as A
+use Rattle.record.specs.declared.window.NotNew.TheVariants as A
 use Rattle.record.proofs.Histories.{highest_in, accepted_le, old_means, old_when, repeated_means, repeated_when, all_below, below_all, held_some}
 use Rattle.message.specs.Alert.{alert_of}
 use Rattle.message.specs.Finished.{judged_of}
 use Rattle.message.specs.declared.alert.Alert.{Alert}
-use Rattle.message.specs.declared.alert.Reading.TheVariants as R
-use Rattle.message.specs.declared.finished.Verified.TheVariants as F
+use Rattle.message.specs.declared.finished.Unverified.TheVariants as F
 use Rattle.connection.specs.Calls.{session_of}
 use Rattle.connection.specs.Judge.{judged_record, fragment_of}
 use Rattle.connection.specs.declared.state.State.TheVariants as S
@@ -49,6 +48,7 @@ use Rattle.demands.proofs.HandedOut.{by_history}
 use Rattle.demands.proofs.LeftOut.{leaves_out_at}
 use Rattle.demands.proofs.Lives.{lives_hold_at, lives_sound_at}
 use Rattle.connection.specs.declared.sent.SentRecords.{SentRecords}
+use Rattle.std.specs.Prelude.{Err, Some}
 
 -- ---- what a row says, by its answer
 
@@ -56,11 +56,11 @@ module _ (h : Handshake) (sent : SentRecords) (random d : List ℕ) (r : Record)
   abbrev RefusedFacts : Refusal → Type 0
   RefusedFacts (X.Framing fault) = Unit
   RefusedFacts X.Forged = (c : List ℕ) → Protected (keys_of h) d r c → ⊥
-  RefusedFacts X.TooOld = (accept_of h.protection.window r.number ≡ A.TooOld) × ((c : List ℕ) × Protected (keys_of h) d r c)
-  RefusedFacts X.Repeated = (accept_of h.protection.window r.number ≡ A.Repeated) × ((c : List ℕ) × Protected (keys_of h) d r c)
-  RefusedFacts X.Checksum = (a : Alert) × (alert_of (fragment_of d r) ≡ R.WellFormed a) × (matches_of sent a.checksum ≡ false)
+  RefusedFacts X.TooOld = (accept_of h.protection.window r.number ≡ Err A.TooOld) × ((c : List ℕ) × Protected (keys_of h) d r c)
+  RefusedFacts X.Repeated = (accept_of h.protection.window r.number ≡ Err A.Repeated) × ((c : List ℕ) × Protected (keys_of h) d r c)
+  RefusedFacts X.Checksum = (a : Alert) × (alert_of (fragment_of d r) ≡ Some a) × (matches_of sent a.checksum ≡ false)
   RefusedFacts X.WrongFinished =
-      (c : List ℕ) × Protected (keys_of h) d r c × (r.content ≡ C.Handshake) × (judged_of c h.expected ≡ F.Wrong)
+      (c : List ℕ) × Protected (keys_of h) d r c × (r.content ≡ C.Handshake) × (judged_of c h.expected ≡ Err F.Wrong)
   RefusedFacts X.Room = Unit
   RefusedFacts X.Ended = Unit
   RefusedFacts X.NotAllowed = Unit
@@ -178,7 +178,7 @@ module _ (session : Session) {width : ℕ} (past : List Happened) (h : Handshake
     protected_exactly = record { exactly_9 = nine; exactly_10 = ten; exactly_11 = eleven }
 
   seventeen : RecordOf d r → barred_in past ≡ false → (judged_record h sent random d r).answer ≡ W.Refused X.WrongFinished
-      → (c : List ℕ) × Genuine (keys_in session past) d r c × (r.content ≡ C.Handshake) × (judged_of c (expected_in session past) ≡ F.Wrong)
+      → (c : List ℕ) × Genuine (keys_in session past) d r c × (r.content ≡ C.Handshake) × (judged_of c (expected_in session past) ≡ Err F.Wrong)
   seventeen at b e =
       let t = told h sent random d r X.WrongFinished e in (
         t.0,

@@ -21,7 +21,6 @@ use Rattle.connection.specs.Judge.{judged_record}
 use Rattle.connection.specs.Send.{data_sent, alert_sent}
 use Rattle.connection.specs.declared.state.State.TheVariants as S
 use Rattle.connection.specs.declared.answer.Answer.TheVariants as W
-use Rattle.connection.specs.declared.calls.Outcome.TheVariants as O
 use Rattle.connection.specs.declared.handshake.Handshake.{Handshake}
 use Rattle.demands.specs.Runs.{step_of, fresh_one}
 use Rattle.record.specs.declared.keys.Keys.{Keys}
@@ -49,6 +48,7 @@ use Rattle.demands.specs.Acts.{Act, behind}
 use Rattle.connection.specs.Calls.{session_of}
 use Rattle.connection.specs.declared.sent.SentRecords.{SentRecords}
 use Rattle.connection.specs.declared.connection.Connection.{Connection}
+use Rattle.std.specs.Prelude.{Ok}
 
 abbrev w : Walk example_id example_secret example_width example_random example_data
 w = example_walk
@@ -98,13 +98,13 @@ fatal_framed : framing_of fatal_datagram ≡ framed (fatal_record ∷ [])
 unfolding fatal_alert
 fatal_framed = single_framed (keys_of w.h₃) C.Alert 7 (lit≤ tt) fatal_alert (lit≤ tt)
 
-data_is_done : (h : Handshake) → h.state ≡ S.Open → h.protection.protected ≡ 1 → (data_sent (alone h) example_data (length example_out)).outcome ≡ O.Done
+data_is_done : (h : Handshake) → h.state ≡ S.Open → h.protection.protected ≡ 1 → (data_sent (alone h) example_data (length example_out)).outcome ≡ Ok tt
 unfolding step_of
 data_is_done h s n =
     ap (λ x. outcome_in x.result)
     (call_is (alone h) (data_sent_lem {bytes = example_data} {out = example_out} (record { some = lit≤ tt; most = lit≤ tt }) s (omega arith) (omega (arith, size_most h.protection.keys.mac))))
 
-alert_is_done : (h : Handshake) → h.state ≡ S.Open → h.protection.protected ≡ 1 → (alert_sent (alone h) true 1 0 [] (length example_out)).outcome ≡ O.Done
+alert_is_done : (h : Handshake) → h.state ≡ S.Open → h.protection.protected ≡ 1 → (alert_sent (alone h) true 1 0 [] (length example_out)).outcome ≡ Ok tt
 unfolding step_of
 alert_is_done h s n =
     ap (λ x. outcome_in x.result)

@@ -16,12 +16,12 @@ use Rattle.record.specs.declared.header.Content.{Content}
 use Rattle.record.specs.declared.header.Content.TheVariants as C
 use Rattle.record.specs.declared.reader.Record.{Record}
 use Rattle.record.specs.declared.window.Window.{Window}
-use Rattle.record.specs.declared.window.Acceptance.TheVariants as A
+use Rattle.record.specs.declared.window.NotNew.TheVariants as A
 use Rattle.record.proofs.Histories.{meaning, fresh_means, new_means}
 use Rattle.message.specs.Acceptance.{heard_of}
 use Rattle.message.specs.declared.alert.Description.{Description}
 use Rattle.message.specs.declared.acceptance.Plan.{Plan}
-use Rattle.message.specs.declared.acceptance.Heard.TheVariants as H
+use Rattle.message.specs.declared.acceptance.Unheard.TheVariants as H
 use Rattle.connection.specs.Calls.{session_of}
 use Rattle.connection.specs.Handshake.{with_state, with_window, barred, reopened, nothing_kept, no_session, kept_hello, kept_reply, planted}
 use Rattle.connection.specs.Judge.{fragment_of}
@@ -53,11 +53,12 @@ use Rattle.demands.proofs.Table.{row_of}
 use Rattle.demands.proofs.Calls.{call_of, sent_alone}
 use Rattle.demands.proofs.Refusals.{outcome_in}
 use Rattle.connection.specs.Connection.{alone}
+use Rattle.std.specs.Prelude.{Ok}
 
 -- ---- the window
 
 -- the window after a new number
-pub window_more : (width : ℕ) → Held width → (past : List ℕ) (s : ℕ) (w : Window) (n : ℕ) → accept_of (window_of width past) s ≡ A.New w n
+pub window_more : (width : ℕ) → Held width → (past : List ℕ) (s : ℕ) (w : Window) (n : ℕ) → accept_of (window_of width past) s ≡ Ok (w, n)
     → w ≡ window_of width (s ∷ past)
 window_more width held past s w n e = (new_means width past s w n (sym (meaning width held past s) ∙ e)).2
 
@@ -169,7 +170,7 @@ module _ (session : Session) {width : ℕ} (past : List Happened) (h : Handshake
         kept_by (with_state (with_window h w) s) a nr nb refl refl refl refl (window_marked c w n a ns m)
         (λ f. true_false (barred_in past) f (live (protected_live h.state r.content n.guarded.kind)))
 
-    replied : (plan : Plan) → Greets h (seen_in d r) → heard_of (fragment_of d r) h.id ≡ H.Accepted plan
+    replied : (plan : Plan) → Greets h (seen_in d r) → heard_of (fragment_of d r) h.id ≡ Ok plan
         → KeptAs session width (answered random d r (W.Reply (length (reply_to (planted h) random (fragment_of d r) plan))) ∷ past) (answered_with h random (fragment_of d r) plan)
     unfolding answered_with last_reply kept_greeting protected_next next_clear_number barred_in
     replied plan g e =

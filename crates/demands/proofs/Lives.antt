@@ -13,10 +13,6 @@ use Rattle.record.specs.Window.{Held}
 use Rattle.record.specs.declared.header.Content.TheVariants as C
 use Rattle.record.specs.declared.reader.Record.{Record}
 use Rattle.message.specs.Alert.{level_of, sorted_of}
-use Rattle.message.specs.declared.alert.Graded.{Graded}
-use Rattle.message.specs.declared.alert.Graded.TheVariants as G
-use Rattle.message.specs.declared.alert.Sorted.{Sorted}
-use Rattle.message.specs.declared.alert.Sorted.TheVariants as D
 use Rattle.connection.specs.Calls.{session_of, closed_in, started_in}
 use Rattle.connection.specs.Connection.{connection_of, alone}
 use Rattle.connection.specs.Handshake.{none_started, newcomer_to, new_handshake}
@@ -32,8 +28,6 @@ use Rattle.connection.specs.declared.state.State.TheVariants as S
 use Rattle.connection.specs.declared.asked.Whom.{Whom}
 use Rattle.connection.specs.declared.asked.Whom.TheVariants as A
 use Rattle.connection.specs.declared.answer.Judged.{Judged}
-use Rattle.connection.specs.declared.calls.Outcome.{Outcome}
-use Rattle.connection.specs.declared.calls.Outcome.TheVariants as O
 use Rattle.connection.specs.declared.refusal.Refusal.TheVariants as X
 use Rattle.connection.specs.declared.send.Sent.{Sent}
 use Rattle.connection.specs.declared.handshake.Handshake.{Handshake}
@@ -54,6 +48,10 @@ use Rattle.demands.proofs.First.{started_hears}
 use Rattle.demands.proofs.Table.{row_of}
 use Rattle.demands.proofs.Kept.{live, kept_all, kept_fresh}
 use Rattle.demands.proofs.Finished.{data_open, progress_all, progress_fresh}
+use Rattle.std.specs.Prelude.{Err, None, Ok, Option, Result, Some, ⊤}
+use Rattle.connection.specs.declared.refusal.Refusal.{Refusal}
+use Rattle.message.specs.declared.alert.Description.{Description}
+use Rattle.message.specs.declared.alert.Level.{Level}
 
 -- ---- one event more
 
@@ -143,13 +141,13 @@ goes_on h sent random d r (row_wrong_finished c w n x m) e = refl
 -- ---- sends
 
 module _ (c : Connection) (bytes : List ℕ) (room : ℕ) where
-  abbrev from_open : Connection → Outcome → Connection
+  abbrev from_open : Connection → Result ⊤ Refusal → Connection
   from_open x o = (sent_to x (done (next_protected c.handshake C.Data bytes) (after_send true x (next_protected c.handshake C.Data bytes))) o).connection
 
-  data_by : (o : Outcome) → ((from_open c o).handshake ≡ (from_open (alone c.handshake) o).handshake) × ((from_open c o).started ≡ c.started)
+  data_by : (o : Result ⊤ Refusal) → ((from_open c o).handshake ≡ (from_open (alone c.handshake) o).handshake) × ((from_open c o).started ≡ c.started)
       × ((from_open c o).handshake.state ≡ c.handshake.state)
-  data_by O.Done = (refl, refl, refl)
-  data_by (O.Refused x) = (refl, refl, refl)
+  data_by (Ok tt) = (refl, refl, refl)
+  data_by (Err x) = (refl, refl, refl)
 
   pub data_left : ((data_sent c bytes room).connection.handshake ≡ (data_sent (alone c.handshake) bytes room).connection.handshake)
       × ((data_sent c bytes room).connection.started ≡ c.started) × ((data_sent c bytes room).connection.handshake.state ≡ c.handshake.state)
@@ -157,23 +155,23 @@ module _ (c : Connection) (bytes : List ℕ) (room : ℕ) where
   data_left = data_by (data_outcome c.handshake (length bytes) room)
 
 module _ (c : Connection) (lent : List ℕ) (room : ℕ) where
-  abbrev protected_from : Connection → List ℕ → Outcome → Connection
+  abbrev protected_from : Connection → List ℕ → Result ⊤ Refusal → Connection
   protected_from x b o = (sent_to x (done b (after_send true x b)) o).connection
 
-  protected_by_lem : (b : List ℕ) (o : Outcome) → ((protected_from c b o).handshake ≡ (protected_from (alone c.handshake) b o).handshake)
+  protected_by_lem : (b : List ℕ) (o : Result ⊤ Refusal) → ((protected_from c b o).handshake ≡ (protected_from (alone c.handshake) b o).handshake)
       × ((protected_from c b o).started ≡ c.started) × ((protected_from c b o).handshake.state ≡ c.handshake.state)
-  protected_by_lem b O.Done = (refl, refl, refl)
-  protected_by_lem b (O.Refused x) = (refl, refl, refl)
+  protected_by_lem b (Ok tt) = (refl, refl, refl)
+  protected_by_lem b (Err x) = (refl, refl, refl)
 
-  pub protected_left : (g : Graded) (s : Sorted)
+  pub protected_left : (g : Option Level) (s : Option Description)
       → ((alert_sent_as c true lent room g s).connection.handshake ≡ (alert_sent_as (alone c.handshake) true lent room g s).connection.handshake)
       × ((alert_sent_as c true lent room g s).connection.started ≡ c.started)
       × ((alert_sent_as c true lent room g s).connection.handshake.state ≡ c.handshake.state)
-  protected_left (G.Is l) (D.Assigned k) =
+  protected_left (Some l) (Some k) =
       protected_by_lem (next_alert true c.handshake (alert_body l k lent)) (alert_outcome true c.handshake (length lent) room)
-  protected_left (G.Is l) D.Unassigned = (refl, refl, refl)
-  protected_left G.Unassigned (D.Assigned k) = (refl, refl, refl)
-  protected_left G.Unassigned D.Unassigned = (refl, refl, refl)
+  protected_left (Some l) None = (refl, refl, refl)
+  protected_left None (Some k) = (refl, refl, refl)
+  protected_left None None = (refl, refl, refl)
 
   -- clear alerts, by the state of the open handshake
   abbrev clear_from : Connection → State → List ℕ → Connection
@@ -181,14 +179,14 @@ module _ (c : Connection) (lent : List ℕ) (room : ℕ) where
       (sent_to x (done (next_clear (clear_sender x s) body) (clear_back x (after_clear (clear_sender x s)) (with_record x.sent (sum_of (next_clear (clear_sender x s) body))) s))
       (alert_outcome false (clear_sender x s) (length lent) room)).connection
 
-  abbrev open_from : List ℕ → Connection → Outcome → Connection
+  abbrev open_from : List ℕ → Connection → Result ⊤ Refusal → Connection
   open_from body x o =
       (sent_to x (done (next_clear c.handshake body) (connection_of (after_clear c.handshake) x.started (with_record x.sent (sum_of (next_clear c.handshake body))))) o).connection
 
-  open_from_lem : (body : List ℕ) (o : Outcome) → ((open_from body c o).handshake ≡ (open_from body (alone c.handshake) o).handshake)
+  open_from_lem : (body : List ℕ) (o : Result ⊤ Refusal) → ((open_from body c o).handshake ≡ (open_from body (alone c.handshake) o).handshake)
       × ((open_from body c o).started ≡ c.started) × ((open_from body c o).handshake.state ≡ c.handshake.state)
-  open_from_lem body O.Done = (refl, refl, refl)
-  open_from_lem body (O.Refused x) = (refl, refl, refl)
+  open_from_lem body (Ok tt) = (refl, refl, refl)
+  open_from_lem body (Err x) = (refl, refl, refl)
 
   clear_on_lem : (s : State) (body : List ℕ) → (s ≡ S.Open → ⊥)
       → ((clear_from c s body).handshake ≡ (clear_from (alone c.handshake) s body).handshake) × ((clear_from c s body).started ≡ c.started)
@@ -200,18 +198,18 @@ module _ (c : Connection) (lent : List ℕ) (room : ℕ) where
   clear_on_lem S.Closed body n = open_from_lem body (alert_outcome false c.handshake (length lent) room)
   clear_on_lem S.Barred body n = open_from_lem body (alert_outcome false c.handshake (length lent) room)
 
-  abbrev there_from : List ℕ → Outcome → Connection
+  abbrev there_from : List ℕ → Result ⊤ Refusal → Connection
   there_from body o =
       (sent_to c (done (next_clear c.started body) (connection_of c.handshake (after_clear c.started) (with_record c.sent (sum_of (next_clear c.started body))))) o).connection
 
-  abbrev itself_from : List ℕ → Outcome → Connection
+  abbrev itself_from : List ℕ → Result ⊤ Refusal → Connection
   itself_from body o =
       (sent_to (alone c.started) (done (next_clear c.started body) (connection_of (after_clear c.started) none_started (with_record (alone c.started).sent (sum_of (next_clear c.started body))))) o).connection
 
-  there_from_lem : (body : List ℕ) (o : Outcome) → ((there_from body o).started ≡ (itself_from body o).handshake) × ((there_from body o).handshake ≡ c.handshake)
+  there_from_lem : (body : List ℕ) (o : Result ⊤ Refusal) → ((there_from body o).started ≡ (itself_from body o).handshake) × ((there_from body o).handshake ≡ c.handshake)
       × ((there_from body o).started.state ≡ c.started.state)
-  there_from_lem body O.Done = (refl, refl, refl)
-  there_from_lem body (O.Refused x) = (refl, refl, refl)
+  there_from_lem body (Ok tt) = (refl, refl, refl)
+  there_from_lem body (Err x) = (refl, refl, refl)
 
   clear_beside : (s : State) (body : List ℕ) → (s ≡ S.Open → ⊥)
       → ((clear_from c S.Open body).started ≡ (clear_from (alone c.started) s body).handshake) × ((clear_from c S.Open body).handshake ≡ c.handshake)
@@ -223,41 +221,41 @@ module _ (c : Connection) (lent : List ℕ) (room : ℕ) where
   clear_beside S.Closed body n = there_from_lem body (alert_outcome false c.started (length lent) room)
   clear_beside S.Barred body n = there_from_lem body (alert_outcome false c.started (length lent) room)
 
-  pub clear_left : (g : Graded) (s : Sorted) → c.handshake.state ≢ S.Open
+  pub clear_left : (g : Option Level) (s : Option Description) → c.handshake.state ≢ S.Open
       → ((alert_sent_as c false lent room g s).connection.handshake ≡ (alert_sent_as (alone c.handshake) false lent room g s).connection.handshake)
       × ((alert_sent_as c false lent room g s).connection.started ≡ c.started)
       × ((alert_sent_as c false lent room g s).connection.handshake.state ≡ c.handshake.state)
-  clear_left (G.Is l) (D.Assigned k) n = clear_on_lem c.handshake.state (alert_body l k lent) n
-  clear_left (G.Is l) D.Unassigned n = (refl, refl, refl)
-  clear_left G.Unassigned (D.Assigned k) n = (refl, refl, refl)
-  clear_left G.Unassigned D.Unassigned n = (refl, refl, refl)
+  clear_left (Some l) (Some k) n = clear_on_lem c.handshake.state (alert_body l k lent) n
+  clear_left (Some l) None n = (refl, refl, refl)
+  clear_left None (Some k) n = (refl, refl, refl)
+  clear_left None None n = (refl, refl, refl)
 
-  pub clear_left_beside : (g : Graded) (s : Sorted) → c.handshake.state ≡ S.Open → c.started.state ≢ S.Open
+  pub clear_left_beside : (g : Option Level) (s : Option Description) → c.handshake.state ≡ S.Open → c.started.state ≢ S.Open
       → ((alert_sent_as c false lent room g s).connection.started ≡ (alert_sent_as (alone c.started) false lent room g s).connection.handshake)
       × ((alert_sent_as c false lent room g s).connection.handshake ≡ c.handshake)
       × ((alert_sent_as c false lent room g s).connection.started.state ≡ c.started.state)
-  clear_left_beside (G.Is l) (D.Assigned k) o n =
+  clear_left_beside (Some l) (Some k) o n =
       let q = clear_beside c.started.state (alert_body l k lent) n in
       let e = ap (λ s. clear_from c s (alert_body l k lent)) o in
       (ap (λ x. x.started) e ∙ q.0, ap (λ x. x.handshake) e ∙ q.1, ap (λ x. x.started.state) e ∙ q.2)
-  clear_left_beside (G.Is l) D.Unassigned o n = (refl, refl, refl)
-  clear_left_beside G.Unassigned (D.Assigned k) o n = (refl, refl, refl)
-  clear_left_beside G.Unassigned D.Unassigned o n = (refl, refl, refl)
+  clear_left_beside (Some l) None o n = (refl, refl, refl)
+  clear_left_beside None (Some k) o n = (refl, refl, refl)
+  clear_left_beside None None o n = (refl, refl, refl)
 
 -- in Open a clear alert leaves the open handshake alone
 module _ (c : Connection) (o : c.handshake.state ≡ S.Open) (lent : List ℕ) (room : ℕ) where
-  clear_kept_by : (body : List ℕ) (out : Outcome)
+  clear_kept_by : (body : List ℕ) (out : Result ⊤ Refusal)
       → (sent_to c (done (next_clear c.started body) (connection_of c.handshake (after_clear c.started) (with_record c.sent (sum_of (next_clear c.started body))))) out).connection.handshake
       ≡ c.handshake
-  clear_kept_by body O.Done = refl
-  clear_kept_by body (O.Refused x) = refl
+  clear_kept_by body (Ok tt) = refl
+  clear_kept_by body (Err x) = refl
 
-  clear_kept_words : (g : Graded) (s : Sorted) → (alert_sent_as c false lent room g s).connection.handshake ≡ c.handshake
-  clear_kept_words (G.Is l) (D.Assigned k) =
+  clear_kept_words : (g : Option Level) (s : Option Description) → (alert_sent_as c false lent room g s).connection.handshake ≡ c.handshake
+  clear_kept_words (Some l) (Some k) =
       ap (λ s. (clear_from c lent room c s (alert_body l k lent)).handshake) o ∙ clear_kept_by (alert_body l k lent) (alert_outcome false c.started (length lent) room)
-  clear_kept_words (G.Is l) D.Unassigned = refl
-  clear_kept_words G.Unassigned (D.Assigned k) = refl
-  clear_kept_words G.Unassigned D.Unassigned = refl
+  clear_kept_words (Some l) None = refl
+  clear_kept_words None (Some k) = refl
+  clear_kept_words None None = refl
 
 pub clear_kept : (c : Connection) → c.handshake.state ≡ S.Open → (level description : ℕ) (lent : List ℕ) (room : ℕ)
     → (alert_sent c false level description lent room).connection.handshake ≡ c.handshake
@@ -314,17 +312,17 @@ act_next c closes n = closed_next c c.handshake.state
 act_next c starts n = started_next c c.handshake.state
 
 -- none is started: a clear alert is refused
-idle_refused : (b : Bool) (x : Sent) → (sent_to (alone none_started) x (pick b (O.Refused X.Argument) (O.Refused X.NotAllowed))).connection.handshake ≡ none_started
+idle_refused : (b : Bool) (x : Sent) → (sent_to (alone none_started) x (pick b (Err X.Argument) (Err X.NotAllowed))).connection.handshake ≡ none_started
 idle_refused true x = refl
 idle_refused false x = refl
 
-none_words : (lent : List ℕ) (room : ℕ) (g : Graded) (s : Sorted) → (alert_sent_as (alone none_started) false lent room g s).connection.handshake ≡ none_started
+none_words : (lent : List ℕ) (room : ℕ) (g : Option Level) (s : Option Description) → (alert_sent_as (alone none_started) false lent room g s).connection.handshake ≡ none_started
 unfolding alert_refused
-none_words lent room (G.Is l) (D.Assigned k) =
+none_words lent room (Some l) (Some k) =
     idle_refused (ltb 1400 (length lent)) (done (next_clear none_started (alert_body l k lent)) (after_send false (alone none_started) (next_clear none_started (alert_body l k lent))))
-none_words lent room (G.Is l) D.Unassigned = refl
-none_words lent room G.Unassigned (D.Assigned k) = refl
-none_words lent room G.Unassigned D.Unassigned = refl
+none_words lent room (Some l) None = refl
+none_words lent room None (Some k) = refl
+none_words lent room None None = refl
 
 none_next : (level description : ℕ) (lent out : List ℕ) → next none_started (alerting false level description lent out) ≡ none_started
 unfolding alert_sent

@@ -20,7 +20,7 @@ use Rattle.message.specs.Handshake.{fills}
 use Rattle.message.specs.Hello.{read_of, suites_end}
 use Rattle.message.specs.Keys.{specifier_end, identifier_end, entry_end, entries_from, key_list, keys_end}
 use Rattle.message.specs.declared.acceptance.Condition.TheVariants as N
-use Rattle.message.specs.declared.acceptance.Heard.TheVariants as H
+use Rattle.message.specs.declared.acceptance.Unheard.TheVariants as H
 use Rattle.connection.specs.Answer.{refusing}
 use Rattle.connection.specs.Asked.{asked_of, whom_of}
 use Rattle.connection.specs.Connection.{alone}
@@ -54,6 +54,7 @@ use Rattle.demands.proofs.Table.{row_is}
 use Rattle.demands.proofs.Traps.{w₇, single}
 use Rattle.demands.proofs.Cases.{h, run_with, with_sound, with_leaves, data_with, data_record, data_framed, data_protected, open_is, old_row, repeated_row, w₈₀, takes_80, old_7, takes_7, again_7, seven, eighty}
 use Rattle.demands.proofs.Why.{at_fault, at_record}
+use Rattle.std.specs.Prelude.{Err}
 
 -- the only record of a datagram, for `whom`, who refuses it
 only_reason : (c : Connection) (d : List ℕ) (r : Record) {w : Whom} → framing_of d ≡ framed (r ∷ []) → Asks c d r w → (x : Refusal)
@@ -93,7 +94,7 @@ strange_framed : framing_of strange_datagram ≡ framed (strange_record ∷ [])
 unfolding framing_of framing_from D.read_of D.read_as D.framed_of kind_of sound_kind content_of
 strange_framed = refl
 
-strange_heard : heard_of strange example_id ≡ H.Unacceptable N.Version
+strange_heard : heard_of strange example_id ≡ Err (H.Unacceptable N.Version)
 unfolding heard_of accepted_of read_of suites_end keys_end key_list entries_from entry_end identifier_end specifier_end fills long_end short_end field_end
 strange_heard = refl
 

@@ -9,8 +9,7 @@ use Rattle.digest.specs.Pick.{pick}
 use Rattle.record.specs.Window.{accept_of}
 use Rattle.record.specs.declared.reader.Record.{Record}
 use Rattle.record.specs.declared.reader.Fault.TheVariants as F
-use Rattle.record.specs.declared.window.Acceptance.{Acceptance}
-use Rattle.record.specs.declared.window.Acceptance.TheVariants as A
+use Rattle.record.specs.declared.window.NotNew.TheVariants as A
 use Rattle.connection.specs.Refusal.{refusal_number}
 use Rattle.connection.specs.Handshake.{newcomer_to, none_started}
 use Rattle.connection.specs.Connection.{connection_of}
@@ -29,11 +28,14 @@ use Rattle.demands.specs.Asked.{AskedHolds, Asks, asks_only, asks_its_hello, ask
 use Rattle.demands.specs.Refusals.{marked_as, refused_leaves, unless17, refused_in, RefusedRecordChangesNothing, RefusedRecordInConnection}
 use Rattle.demands.proofs.Asked.{asked_holds}
 use Rattle.demands.proofs.Changes.{refused_record}
+use Rattle.std.specs.Prelude.{Err, Ok, Result}
+use Rattle.record.specs.declared.window.NotNew.{NotNew}
+use Rattle.record.specs.declared.window.Window.{Window}
 
-marked_state : (h : Handshake) (a : Acceptance) → (marked_as h a).state ≡ h.state
-marked_state h (A.New w arrived) = refl
-marked_state h A.TooOld = refl
-marked_state h A.Repeated = refl
+marked_state : (h : Handshake) (a : Result (Window × ℕ) NotNew) → (marked_as h a).state ≡ h.state
+marked_state h (Ok (w, arrived)) = refl
+marked_state h (Err A.TooOld) = refl
+marked_state h (Err A.Repeated) = refl
 
 -- 17 closes, and no other refusal changes the state
 after17 : Refusal → State → State

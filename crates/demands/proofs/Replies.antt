@@ -9,7 +9,7 @@ use Rattle.digest.specs.Bytes.{laid_over}
 use Rattle.record.specs.declared.reader.Record.{Record}
 use Rattle.message.specs.Acceptance.{heard_of}
 use Rattle.message.specs.declared.acceptance.Plan.{Plan}
-use Rattle.message.specs.declared.acceptance.Heard.TheVariants as H
+use Rattle.message.specs.declared.acceptance.Unheard.TheVariants as H
 use Rattle.connection.specs.Answer.{judged}
 use Rattle.connection.specs.Calls.{session_of}
 use Rattle.connection.specs.Handshake.{kept_reply, planted}
@@ -43,13 +43,14 @@ use Rattle.demands.proofs.Lives.{lives_hold_at, asked_life}
 use Rattle.demands.proofs.Calls.{by_chain, call_is, chain_of}
 use Rattle.demands.proofs.Kept.{kept_all, kept_fresh, live, hears_live, greets_live}
 use Rattle.connection.specs.declared.sent.SentRecords.{SentRecords}
+use Rattle.std.specs.Prelude.{Ok}
 
 module _ (session : Session) {width : ℕ} (past : List Happened) (h : Handshake) (k : KeptAs session width past h) (sent : SentRecords) (random d : List ℕ) (r : Record) where
   abbrev Sent : Judged → Type 0
   Sent j =
       (bytes : List ℕ) × Sends session past random (fragment_of d r) bytes j.answer × (sent_of j ≡ bytes)
 
-  replied : (plan : Plan) → Greets h (seen_in d r) → heard_of (fragment_of d r) h.id ≡ H.Accepted plan
+  replied : (plan : Plan) → Greets h (seen_in d r) → heard_of (fragment_of d r) h.id ≡ Ok plan
       → Sent (judged (W.Reply (length (reply_to (planted h) random (fragment_of d r) plan))) (answered_with h random (fragment_of d r) plan))
   unfolding answered_with
   replied plan g e =

@@ -16,17 +16,12 @@ use Rattle.record.proofs.RoundTrip.{read_back}
 use Rattle.message.specs.Alert.{level_of, sorted_of}
 use Rattle.message.specs.declared.alert.Level.{Level}
 use Rattle.message.specs.declared.alert.Description.{Description}
-use Rattle.message.specs.declared.alert.Graded.{Graded}
-use Rattle.message.specs.declared.alert.Graded.TheVariants as G
-use Rattle.message.specs.declared.alert.Sorted.{Sorted}
-use Rattle.message.specs.declared.alert.Sorted.TheVariants as D
 use Rattle.connection.specs.Calls.{session_of}
 use Rattle.record.specs.Protection.{record_under}
 use Rattle.connection.specs.Send.{next_protected, next_clear, next_alert, alert_body, sender_of, clear_sender}
 use Rattle.connection.specs.declared.state.State.{State}
 use Rattle.connection.specs.declared.state.State.TheVariants as S
 use Rattle.connection.specs.declared.refusal.Refusal.TheVariants as X
-use Rattle.connection.specs.declared.calls.Outcome.TheVariants as O
 use Rattle.connection.specs.declared.handshake.Handshake.{Handshake}
 use Rattle.connection.specs.declared.handshake.Session.{Session}
 use Rattle.demands.specs.Runs.{send_data, send_alert, Step, step_of}
@@ -52,6 +47,7 @@ use Rattle.demands.proofs.Wire.{clear_read, clear_fragment, size_protected, prot
 use mathlib.Core.Logic.{inl, inr}
 use Rattle.record.specs.Window.{Held}
 use Rattle.connection.specs.declared.connection.Connection.{Connection}
+use Rattle.std.specs.Prelude.{Ok, Option, Some}
 
 protected_record : (k : Keys) (content : Content) (s : ℕ) (body : List ℕ) → s ≤ 65535
     → ProtectedRecord k content s body (protected_by (hmac (our_key k s)) (size_of k.mac) false content s body)
@@ -90,10 +86,10 @@ may_live protected S.Open e = refl
 may_live protected S.Closed e = true_false false e refl
 may_live protected S.Barred e = true_false false e refl
 
-one_level : (l v : Level) (g : Graded) → g ≡ G.Is l → g ≡ G.Is v → v ≡ l
+one_level : (l v : Level) (g : Option Level) → g ≡ Some l → g ≡ Some v → v ≡ l
 one_level l v g e f = cc
 
-one_description : (k m : Description) (s : Sorted) → s ≡ D.Assigned k → s ≡ D.Assigned m → m ≡ k
+one_description : (k m : Description) (s : Option Description) → s ≡ Some k → s ≡ Some m → m ≡ k
 one_description k m s e f = cc
 
 module _ (session : Session) {width : ℕ} (past : List Happened) (h : Handshake) (p : Progress session width past h) where
@@ -117,7 +113,7 @@ module _ (session : Session) {width : ℕ} (past : List Happened) (h : Handshake
   alert_bytes_lem false l k lent e n = clear_by (alert_body l k lent) (omega arith) n
 
 module _ (session : Session) {width : ℕ} (past : List Happened) (c : Connection) where
-  data_by : Progress session width past c.handshake → (bytes out : List ℕ) {s : Step} → CallRow c (send_data bytes out) s → outcome_in s.result ≡ O.Done
+  data_by : Progress session width past c.handshake → (bytes out : List ℕ) {s : Step} → CallRow c (send_data bytes out) s → outcome_in s.result ≡ Ok tt
       → ProtectedRecord (keys_in session past) C.Data (protected_next past) bytes (take (written_by s.result) s.output)
   data_by p bytes out (data_16 b) x = refused_done X.Argument x
   data_by p bytes out (data_7 g e) x = refused_done X.Ended x
@@ -130,8 +126,8 @@ module _ (session : Session) {width : ℕ} (past : List Happened) (c : Connectio
 
   -- by whoever sends, if it may
   alert_by_lem : (protected : Bool) → (may_alert protected (sender_of protected c).state ≡ true → Progress session width past (sender_of protected c))
-      → (level description : ℕ) (l : Level) (k : Description) (lent out : List ℕ) → level_of level ≡ G.Is l → sorted_of description ≡ D.Assigned k
-      → {s : Step} → CallRow c (send_alert protected level description lent out) s → outcome_in s.result ≡ O.Done
+      → (level description : ℕ) (l : Level) (k : Description) (lent out : List ℕ) → level_of level ≡ Some l → sorted_of description ≡ Some k
+      → {s : Step} → CallRow c (send_alert protected level description lent out) s → outcome_in s.result ≡ Ok tt
       → AlertRecord protected (keys_in session past) past (alert_body l k lent) (take (written_by s.result) s.output)
   alert_by_lem protected p level description l k lent out el ek (alert_16 b) x = refused_done X.Argument x
   alert_by_lem protected p level description l k lent out el ek (alert_7 g e) x = refused_done X.Ended x

@@ -14,10 +14,8 @@ use Rattle.record.specs.declared.reader.Record.{Record}
 use Rattle.message.specs.Acceptance.{heard_of}
 use Rattle.message.specs.Alert.{alert_of}
 use Rattle.message.specs.declared.acceptance.Plan.{Plan}
-use Rattle.message.specs.declared.acceptance.Heard.TheVariants as H
+use Rattle.message.specs.declared.acceptance.Unheard.TheVariants as H
 use Rattle.message.specs.declared.alert.Alert.{Alert}
-use Rattle.message.specs.declared.alert.Reading.{Reading}
-use Rattle.message.specs.declared.alert.Reading.TheVariants as R
 use Rattle.connection.specs.Calls.{session_of}
 use Rattle.connection.specs.Handshake.{planted}
 use Rattle.connection.specs.Asked.{whom_of, asked_of}
@@ -58,6 +56,7 @@ use Rattle.demands.proofs.Kept.{live, greets_live, kept_all, kept_fresh}
 use Rattle.demands.proofs.SentRecords.{record_sums, reply_sums, unmatched, matches_none}
 use Rattle.demands.proofs.Lives.{act_more, lived_fresh, asked_life}
 use Rattle.demands.proofs.InRuns.{told}
+use Rattle.std.specs.Prelude.{Ok, Option, Some}
 
 -- ---- the three records of a reply
 
@@ -107,7 +106,7 @@ Sums session c past = sums_of c.sent ≡ map sum_of (take records_kept (sent_sin
 module _ (session : Session) (l8 : length session.id ≡ 8) (h : Handshake) (s : SentRecords) (past : List Happened)
     (e : sums_of s ≡ map sum_of (take records_kept (sent_since session past))) (random d : List ℕ) (r : Record) (lr : length random ≡ 16)
     (planted_is : Greets h (seen_in d r) → planted h ≡ session) where
-  replied : (plan : Plan) → Greets h (seen_in d r) → heard_of (fragment_of d r) h.id ≡ H.Accepted plan
+  replied : (plan : Plan) → Greets h (seen_in d r) → heard_of (fragment_of d r) h.id ≡ Ok plan
       → sums_of (sent_after s (answered_with h random (fragment_of d r) plan).kept (W.Reply (length (reply_to (planted h) random (fragment_of d r) plan))))
       ≡ map sum_of (take records_kept (records_heard session random (fragment_of d r) (heard_of (fragment_of d r) session.id) ++ sent_since session past))
   replied plan g heard =
@@ -264,7 +263,7 @@ sent_is_what_happened id secret width l8 held acts x = sent_at id secret width l
 
 -- ---- 14
 
-one_alert : (a b : Alert) (x : Reading) → x ≡ R.WellFormed a → x ≡ R.WellFormed b → a ≡ b
+one_alert : (a b : Alert) (x : Option Alert) → x ≡ Some a → x ≡ Some b → a ≡ b
 one_alert a b x e f = cc
 
 pub checksum_in_runs : ChecksumInRuns

@@ -8,8 +8,7 @@ use Rattle.record.specs.declared.reader.Record.{Record}
 use Rattle.message.specs.Values.{Values}
 use Rattle.message.specs.Acceptance.{heard_of}
 use Rattle.message.specs.Blank.{blanked}
-use Rattle.message.specs.declared.acceptance.Heard.{Heard}
-use Rattle.message.specs.declared.acceptance.Heard.TheVariants as H
+use Rattle.message.specs.declared.acceptance.Unheard.TheVariants as H
 use Rattle.message.proofs.Blanks.{alike_sound, alike_heard, heard_alike}
 use Rattle.message.proofs.SetsSaid.{sets_as_written}
 use Rattle.connection.specs.Handshake.{planted}
@@ -23,20 +22,23 @@ use Rattle.demands.specs.Table.{Greets, row_reply, row_hello_malformed, row_unac
 use Rattle.demands.specs.Sets.{Brings, AnsweredAlike, Sets}
 use Rattle.demands.proofs.Table.{row_is}
 use Rattle.connection.specs.declared.sent.SentRecords.{SentRecords}
+use Rattle.std.specs.Prelude.{Err, Ok, Result}
+use Rattle.message.specs.declared.acceptance.Plan.{Plan}
+use Rattle.message.specs.declared.acceptance.Unheard.{Unheard}
 
 module _ (h : Handshake) (sent : SentRecords) (random d e : List ℕ) (r q : Record) (lr : length random ≡ 16) (li : length h.id ≡ 8)
     (g : Greets h (seen_in d r)) (k : Greets h (seen_in e q)) where
-  by_heard : (x : Heard) → heard_of (fragment_of d r) h.id ≡ x → heard_of (fragment_of e q) h.id ≡ x
+  by_heard : (x : Result Plan Unheard) → heard_of (fragment_of d r) h.id ≡ x → heard_of (fragment_of e q) h.id ≡ x
       → (judged_record h sent random d r).answer ≡ (judged_record h sent random e q).answer
-  by_heard (H.Accepted plan) a b =
+  by_heard (Ok plan) a b =
       ap (λ (j : Judged). j.answer) (row_is h sent random d r (row_reply plan g a))
       ∙ ap W.Reply
       (reply_size_lem (planted h) random (fragment_of d r) plan lr li ∙ sym (reply_size_lem (planted h) random (fragment_of e q) plan lr li))
       ∙ sym (ap (λ (j : Judged). j.answer) (row_is h sent random e q (row_reply plan k b)))
-  by_heard (H.Malformed fault) a b =
+  by_heard (Err (H.Malformed fault)) a b =
       ap (λ (j : Judged). j.answer) (row_is h sent random d r (row_hello_malformed fault g a))
       ∙ sym (ap (λ (j : Judged). j.answer) (row_is h sent random e q (row_hello_malformed fault k b)))
-  by_heard (H.Unacceptable condition) a b =
+  by_heard (Err (H.Unacceptable condition)) a b =
       ap (λ (j : Judged). j.answer) (row_is h sent random d r (row_unacceptable condition g a))
       ∙ sym (ap (λ (j : Judged). j.answer) (row_is h sent random e q (row_unacceptable condition k b)))
 

@@ -16,22 +16,17 @@ use Rattle.record.specs.Window.{accept_of, emptied}
 use Rattle.record.specs.declared.header.Content.{Content}
 use Rattle.record.specs.declared.header.Content.TheVariants as C
 use Rattle.record.specs.declared.window.Window.{Window}
-use Rattle.record.specs.declared.window.Acceptance.{Acceptance}
-use Rattle.record.specs.declared.window.Acceptance.TheVariants as A
+use Rattle.record.specs.declared.window.NotNew.TheVariants as A
 use Rattle.record.specs.declared.reader.Record.{Record}
 use Rattle.message.specs.Acceptance.{heard_of}
 use Rattle.message.specs.Alert.{alert_of}
 use Rattle.message.specs.Change.{is_change}
 use Rattle.message.specs.Finished.{judged_of}
-use Rattle.message.specs.declared.acceptance.Heard.{Heard}
-use Rattle.message.specs.declared.acceptance.Heard.TheVariants as H
+use Rattle.message.specs.declared.acceptance.Unheard.TheVariants as H
 use Rattle.message.specs.declared.alert.Alert.{Alert}
 use Rattle.message.specs.declared.alert.Level.{Level}
 use Rattle.message.specs.declared.alert.Level.TheVariants as L
-use Rattle.message.specs.declared.alert.Reading.{Reading}
-use Rattle.message.specs.declared.alert.Reading.TheVariants as R
-use Rattle.message.specs.declared.finished.Verified.{Verified}
-use Rattle.message.specs.declared.finished.Verified.TheVariants as F
+use Rattle.message.specs.declared.finished.Unverified.TheVariants as F
 use Rattle.connection.specs.State.{rule_of}
 use Rattle.connection.specs.Handshake.{with_state, with_window, kept_hello, kept_reply}
 use Rattle.connection.specs.Sent.{matches_of}
@@ -58,6 +53,11 @@ use Rattle.demands.proofs.States.{ended, live_over, awaits_live, awaits_closed}
 use Rattle.demands.proofs.Exactly.Reasons.{decide}
 use Rattle.demands.proofs.Rules.{kind_by, kind_by_lem, protected_kind, kind_protected, over_rule, open_rule, idle_rule, hears_rule, change_rule, alert_rule, guarded_rule, RuleHolds, rule_holds}
 use Rattle.connection.specs.declared.sent.SentRecords.{SentRecords}
+use Rattle.std.specs.Prelude.{Err, None, Ok, Option, Result, Some, ⊤}
+use Rattle.message.specs.declared.acceptance.Plan.{Plan}
+use Rattle.message.specs.declared.acceptance.Unheard.{Unheard}
+use Rattle.message.specs.declared.finished.Unverified.{Unverified}
+use Rattle.record.specs.declared.window.NotNew.{NotNew}
 
 module _ (h : Handshake) (sent : SentRecords) (random d : List ℕ) (r : Record) where
   abbrev q : Seen
@@ -102,10 +102,10 @@ module _ (h : Handshake) (sent : SentRecords) (random d : List ℕ) (r : Record)
   other_row o i n = row_not_allowed (live_over h.state (ap ended o)) (open_not o i) (λ x. n x.first x.same)
 
   -- hellos
-  heard_row : Greets h q → (x : Heard) → heard_of f h.id ≡ x → Row h sent random d r (heard_to h random f x)
-  heard_row g (H.Accepted plan) e = row_reply plan g e
-  heard_row g (H.Unacceptable condition) e = row_unacceptable condition g e
-  heard_row g (H.Malformed fault) e = row_hello_malformed fault g e
+  heard_row : Greets h q → (x : Result Plan Unheard) → heard_of f h.id ≡ x → Row h sent random d r (heard_to h random f x)
+  heard_row g (Ok plan) e = row_reply plan g e
+  heard_row g (Err (H.Unacceptable condition)) e = row_unacceptable condition g e
+  heard_row g (Err (H.Malformed fault)) e = row_hello_malformed fault g e
 
   greet_row : h.state ≡ S.Idle → IsHello q → (b : Bool) → eqb r.start 0 ≡ b
       → Row h sent random d r (pick b (greeted_by h random f) (refusing X.NotAllowed h))
@@ -147,22 +147,22 @@ module _ (h : Handshake) (sent : SentRecords) (random d : List ℕ) (r : Record)
   change_row s p c false b = row_change_malformed s p c b
 
   -- clear alerts
-  level_row : (a : Alert) → Hears h.state → r.protected ≡ false → r.content ≡ C.Alert → alert_of f ≡ R.WellFormed a
+  level_row : (a : Alert) → Hears h.state → r.protected ≡ false → r.content ≡ C.Alert → alert_of f ≡ Some a
       → matches_of sent a.checksum ≡ true → (l : Level) → a.level ≡ l → Row h sent random d r (by_level h l a.description)
   level_row a s p c w k L.Warning e = row_clear_warning a s p c w k e
   level_row a s p c w k L.Critical e = row_clear_critical a s p c w k e
   level_row a s p c w k L.Fatal e = row_clear_fatal a s p c w k e
 
-  checksum_row : (a : Alert) → Hears h.state → r.protected ≡ false → r.content ≡ C.Alert → alert_of f ≡ R.WellFormed a
+  checksum_row : (a : Alert) → Hears h.state → r.protected ≡ false → r.content ≡ C.Alert → alert_of f ≡ Some a
       → (b : Bool) → matches_of sent a.checksum ≡ b
       → Row h sent random d r (pick b (by_level h a.level a.description) (refusing X.Checksum h))
   checksum_row a s p c w true b = level_row a s p c w b a.level refl
   checksum_row a s p c w false b = row_checksum a s p c w b
 
-  hear_row : Hears h.state → r.protected ≡ false → r.content ≡ C.Alert → (x : Reading) → alert_of f ≡ x
+  hear_row : Hears h.state → r.protected ≡ false → r.content ≡ C.Alert → (x : Option Alert) → alert_of f ≡ x
       → Row h sent random d r (heard_by h sent x)
-  hear_row s p c R.Malformed e = row_clear_malformed s p c e
-  hear_row s p c (R.WellFormed a) e = checksum_row a s p c e (matches_of sent a.checksum) refl
+  hear_row s p c None e = row_clear_malformed s p c e
+  hear_row s p c (Some a) e = checksum_row a s p c e (matches_of sent a.checksum) refl
 
   -- protected records
   data_row : (w : Window) → New h d r (content_in h f) w → r.content ≡ C.Data
@@ -177,19 +177,19 @@ module _ (h : Handshake) (sent : SentRecords) (random d : List ℕ) (r : Record)
       positive z e = omega arith
 
   protected_level_row : (w : Window) (a : Alert) → New h d r (content_in h f) w → r.content ≡ C.Alert
-      → alert_of (content_in h f) ≡ R.WellFormed a → (l : Level) → a.level ≡ l
+      → alert_of (content_in h f) ≡ Some a → (l : Level) → a.level ≡ l
       → Row h sent random d r (protected_level (with_window h w) l a.description)
   protected_level_row w a n c e L.Warning l = row_warning (content_in h f) w a n c e l
   protected_level_row w a n c e L.Critical l = row_critical (content_in h f) w a n c e l
   protected_level_row w a n c e L.Fatal l = row_barred (content_in h f) w a n c e l
 
-  alert_row : (w : Window) → New h d r (content_in h f) w → r.content ≡ C.Alert → (x : Reading)
+  alert_row : (w : Window) → New h d r (content_in h f) w → r.content ≡ C.Alert → (x : Option Alert)
       → alert_of (content_in h f) ≡ x → Row h sent random d r (alerted_to (with_window h w) x)
-  alert_row w n c R.Malformed e =
+  alert_row w n c None e =
       row_malformed (content_in h f) w n (subst (λ x. MalformedAs x (content_in h f) h.expected) (sym c) e)
-  alert_row w n c (R.WellFormed a) e = protected_level_row w a n c e a.level refl
+  alert_row w n c (Some a) e = protected_level_row w a n c e a.level refl
 
-  right_row : (w : Window) → New h d r (content_in h f) w → r.content ≡ C.Handshake → judged_of (content_in h f) h.expected ≡ F.Right
+  right_row : (w : Window) → New h d r (content_in h f) w → r.content ≡ C.Handshake → judged_of (content_in h f) h.expected ≡ Ok tt
       → Row h sent random d r (finished_in (with_window h w) h.state)
   right_row w n c e = told n.guarded.kind
     where
@@ -198,12 +198,12 @@ module _ (h : Handshake) (sent : SentRecords) (random d : List ℕ) (r : Record)
       told (inl (s, k)) = subst (λ x. Row h sent random d r (finished_in (with_window h w) x)) (sym s) (row_open (content_in h f) w n s c e)
       told (inr s) = subst (λ x. Row h sent random d r (finished_in (with_window h w) x)) (sym s) (row_again (content_in h f) w n s c e)
 
-  finished_row : (w : Window) → New h d r (content_in h f) w → r.content ≡ C.Handshake → (x : Verified)
+  finished_row : (w : Window) → New h d r (content_in h f) w → r.content ≡ C.Handshake → (x : Result ⊤ Unverified)
       → judged_of (content_in h f) h.expected ≡ x → Row h sent random d r (verified_to (with_window h w) x)
-  finished_row w n c F.Right e =
+  finished_row w n c (Ok tt) e =
       right_row w n c e
-  finished_row w n c F.Wrong e = row_wrong_finished (content_in h f) w n c e
-  finished_row w n c F.Malformed e =
+  finished_row w n c (Err F.Wrong) e = row_wrong_finished (content_in h f) w n c e
+  finished_row w n c (Err F.Malformed) e =
       row_malformed (content_in h f) w n (subst (λ x. MalformedAs x (content_in h f) h.expected) (sym c) e)
 
   content_row : (c : Content) → r.content ≡ c → (w : Window) → New h d r (content_in h f) w
@@ -215,12 +215,12 @@ module _ (h : Handshake) (sent : SentRecords) (random d : List ℕ) (r : Record)
   content_row C.Handshake c w n = finished_row w n c (judged_of (content_in h f) h.expected) refl
   content_row C.Data c w n = data_row w n c (eqb (length (content_in h f)) 0) refl
 
-  window_row : Guarded h.state q → Protected (keys_of h) d r (content_in h f) → (x : Acceptance)
+  window_row : Guarded h.state q → Protected (keys_of h) d r (content_in h f) → (x : Result (Window × ℕ) NotNew)
       → accept_of h.protection.window r.number ≡ x
       → Row h sent random d r (windowed_to h (protected_kind r.content) r.number place (content_in h f) x)
-  window_row g s A.TooOld e = row_old (content_in h f) g s e
-  window_row g s A.Repeated e = row_repeated (content_in h f) g s e
-  window_row g s (A.New w n) e = content_row r.content refl w (record { guarded = g; coded = s; arrived = n; accepted = e })
+  window_row g s (Err A.TooOld) e = row_old (content_in h f) g s e
+  window_row g s (Err A.Repeated) e = row_repeated (content_in h f) g s e
+  window_row g s (Ok (w, n)) e = content_row r.content refl w (record { guarded = g; coded = s; arrived = n; accepted = e })
 
   genuine_row : Guarded h.state q → (b : Bool) → genuine_in h r.byte r.number f ≡ b
       → Row h sent random d r (pick b (windowed_to h (protected_kind r.content) r.number place (content_in h f) (accept_of h.protection.window r.number)) (refusing X.Forged h))
@@ -315,20 +315,20 @@ module _ (h : Handshake) (sent : SentRecords) (random d : List ℕ) (r : Record)
       ∙ first_is (greeted_by h random f) (refusing X.NotAllowed h) z
   greets_by i z (inr (hs, ne)) = heard_again hs i z ∙ not_kept ne
 
-  greets_is : Greets h q → (x : Heard) → heard_of f h.id ≡ x
+  greets_is : Greets h q → (x : Result Plan Unheard) → heard_of f h.id ≡ x
       → judged_record h sent random d r ≡ heard_to h random f x
   unfolding greeted_by
   greets_is g x e = greets_by g.hello g.first g.another ∙ ap (heard_to h random f) e
 
-  heard_as_lem : Hears h.state → r.protected ≡ false → r.content ≡ C.Alert → (x : Reading) → alert_of f ≡ x → judged_record h sent random d r ≡ heard_by h sent x
+  heard_as_lem : Hears h.state → r.protected ≡ false → r.content ≡ C.Alert → (x : Option Alert) → alert_of f ≡ x → judged_record h sent random d r ≡ heard_by h sent x
   unfolding ruled_by heard_alert
   heard_as_lem s p c x e =
       ruled_by_lem (alert_rule r.byte r.number f r.start h.state r.content r.protected one refl s p c) ∙ ap (heard_by h sent) e
 
-  heard_level : (a : Alert) → Hears h.state → r.protected ≡ false → r.content ≡ C.Alert → alert_of f ≡ R.WellFormed a
+  heard_level : (a : Alert) → Hears h.state → r.protected ≡ false → r.content ≡ C.Alert → alert_of f ≡ Some a
       → matches_of sent a.checksum ≡ true → (l : Level) → a.level ≡ l → judged_record h sent random d r ≡ by_level h l a.description
   heard_level a s p c e k l el =
-      heard_as_lem s p c (R.WellFormed a) e
+      heard_as_lem s p c (Some a) e
       ∙ ap (λ b. pick b (by_level h a.level a.description) (refusing X.Checksum h)) k
       ∙ ap (λ x. by_level h x a.description) el
 
@@ -347,7 +347,7 @@ module _ (h : Handshake) (sent : SentRecords) (random d : List ℕ) (r : Record)
       guarded_is g
       ∙ ap (λ b. pick b (windowed_to h (protected_kind r.content) r.number place (content_in h f) (accept_of h.protection.window r.number)) (refusing X.Forged h)) e
 
-  protected_is : (c : List ℕ) → Guarded h.state q → Protected (keys_of h) d r c → (x : Acceptance) → accept_of h.protection.window r.number ≡ x
+  protected_is : (c : List ℕ) → Guarded h.state q → Protected (keys_of h) d r c → (x : Result (Window × ℕ) NotNew) → accept_of h.protection.window r.number ≡ x
       → judged_record h sent random d r ≡ windowed_to h (protected_kind r.content) r.number place c x
   protected_is c g s x e =
       guarded_is g
@@ -357,7 +357,7 @@ module _ (h : Handshake) (sent : SentRecords) (random d : List ℕ) (r : Record)
   new_is : (c : List ℕ) (w : Window) → New h d r c w → (x : Content) → r.content ≡ x
       → judged_record h sent random d r ≡ content_by (with_window h w) (protected_kind x) r.number place c
   new_is c w n x e =
-      protected_is c n.guarded n.coded (A.New w n.arrived) n.accepted
+      protected_is c n.guarded n.coded (Ok (w, n.arrived)) n.accepted
       ∙ ap (λ y. content_by (with_window h w) (protected_kind y) r.number place c) e
 
   malformed_is : (c : List ℕ) (w : Window) → New h d r c w → (x : Content) → r.content ≡ x → MalformedAs x c h.expected
@@ -377,32 +377,32 @@ module _ (h : Handshake) (sent : SentRecords) (random d : List ℕ) (r : Record)
       new_is c w n C.Data e
       ∙ ap (λ b. pick b (refusing X.Malformed (with_window h w)) (judged (W.Data r.number place (length c)) (with_window h w))) (ne_eqb (length c) 0 (λ z. omega arith))
 
-  alert_is : (c : List ℕ) (w : Window) (a : Alert) → New h d r c w → r.content ≡ C.Alert → alert_of c ≡ R.WellFormed a → (l : Level) → a.level ≡ l
+  alert_is : (c : List ℕ) (w : Window) (a : Alert) → New h d r c w → r.content ≡ C.Alert → alert_of c ≡ Some a → (l : Level) → a.level ≡ l
       → judged_record h sent random d r ≡ protected_level (with_window h w) l a.description
   unfolding content_by alerted_by
   alert_is c w a n e m l el =
       new_is c w n C.Alert e ∙ ap (alerted_to (with_window h w)) m ∙ ap (λ x. protected_level (with_window h w) x a.description) el
 
-  abbrev verified_in : Window → State → Verified → Judged
-  verified_in w s F.Right = finished_in (with_window h w) s
-  verified_in w s F.Wrong = judged (W.Refused X.WrongFinished) (with_state (with_window h w) S.Closed)
-  verified_in w s F.Malformed = refusing X.Malformed (with_window h w)
+  abbrev verified_in : Window → State → Result ⊤ Unverified → Judged
+  verified_in w s (Ok tt) = finished_in (with_window h w) s
+  verified_in w s (Err F.Wrong) = judged (W.Refused X.WrongFinished) (with_state (with_window h w) S.Closed)
+  verified_in w s (Err F.Malformed) = refusing X.Malformed (with_window h w)
 
   not_right : Guarded h.state q → ((c : List ℕ) → Protected (keys_of h) d r c → ⊥) → (b : Bool) → genuine_in h r.byte r.number f ≡ b
       → genuine_in h r.byte r.number f ≡ false
   not_right g n true e = absurd (n (content_in h f) (right_protected (keys_of h) d r g.protection e))
   not_right g n false e = e
 
-  finished_is : (c : List ℕ) (w : Window) → New h d r c w → r.content ≡ C.Handshake → (x : Verified) → judged_of c h.expected ≡ x
+  finished_is : (c : List ℕ) (w : Window) → New h d r c w → r.content ≡ C.Handshake → (x : Result ⊤ Unverified) → judged_of c h.expected ≡ x
       → (s : State) → h.state ≡ s → judged_record h sent random d r ≡ verified_in w s x
   unfolding content_by verified_by
   finished_is c w n e x m s es =
       new_is c w n C.Handshake e ∙ ap (verified_to (with_window h w)) m ∙ stated x
     where
-      stated : (y : Verified) → verified_to (with_window h w) y ≡ verified_in w s y
-      stated F.Right = ap (finished_in (with_window h w)) es
-      stated F.Wrong = refl
-      stated F.Malformed = refl
+      stated : (y : Result ⊤ Unverified) → verified_to (with_window h w) y ≡ verified_in w s y
+      stated (Ok tt) = ap (finished_in (with_window h w)) es
+      stated (Err F.Wrong) = refl
+      stated (Err F.Malformed) = refl
 
   pub row_is : {j : Judged} → Row h sent random d r j → judged_record h sent random d r ≡ j
   unfolding ruled_by changed_by
@@ -411,9 +411,9 @@ module _ (h : Handshake) (sent : SentRecords) (random d : List ℕ) (r : Record)
   row_is (row_returned x) =
       ruled_by_lem (open_rule r.byte r.number f r.start h.state r.content r.protected one refl x.is_open x.hello)
       ∙ first_is (resent_by h f) (refusing X.NotAllowed h) x.first ∙ is_back x.same
-  row_is (row_reply plan g e) = greets_is g (H.Accepted plan) e
-  row_is (row_hello_malformed fault g e) = greets_is g (H.Malformed fault) e
-  row_is (row_unacceptable condition g e) = greets_is g (H.Unacceptable condition) e
+  row_is (row_reply plan g e) = greets_is g (Ok plan) e
+  row_is (row_hello_malformed fault g e) = greets_is g (Err (H.Malformed fault)) e
+  row_is (row_unacceptable condition g e) = greets_is g (Err (H.Unacceptable condition)) e
   row_is (row_resent s i z e) = heard_again s i z ∙ is_kept_lem e
   row_is (row_change s p c e) =
       ruled_by_lem (change_rule r.byte r.number f r.start h.state r.content r.protected one refl s p c)
@@ -421,24 +421,24 @@ module _ (h : Handshake) (sent : SentRecords) (random d : List ℕ) (r : Record)
   row_is (row_change_malformed s p c e) =
       ruled_by_lem (change_rule r.byte r.number f r.start h.state r.content r.protected one refl s p c)
       ∙ ap (λ b. pick b (judged W.Spec (with_state (with_window h (emptied h.protection.window)) S.Spec)) (refusing X.Malformed h)) e
-  row_is (row_clear_malformed s p c e) = heard_as_lem s p c R.Malformed e
+  row_is (row_clear_malformed s p c e) = heard_as_lem s p c None e
   row_is (row_checksum a s p c e n) =
-      heard_as_lem s p c (R.WellFormed a) e
+      heard_as_lem s p c (Some a) e
       ∙ ap (λ b. pick b (by_level h a.level a.description) (refusing X.Checksum h)) n
   row_is (row_clear_warning a s p c e k l) = heard_level a s p c e k L.Warning l
   row_is (row_clear_critical a s p c e k l) = heard_level a s p c e k L.Critical l
   row_is (row_clear_fatal a s p c e k l) = heard_level a s p c e k L.Fatal l
   row_is (row_forged g n) = forged_is g (not_right g n (genuine_in h r.byte r.number f) refl)
-  row_is (row_old c g s e) = protected_is c g s A.TooOld e
-  row_is (row_repeated c g s e) = protected_is c g s A.Repeated e
+  row_is (row_old c g s e) = protected_is c g s (Err A.TooOld) e
+  row_is (row_repeated c g s e) = protected_is c g s (Err A.Repeated) e
   row_is (row_malformed c w n m) = malformed_is c w n r.content refl m
   row_is (row_data c w n e m) = data_is c w n e m
   row_is (row_warning c w a n e m l) = alert_is c w a n e m L.Warning l
   row_is (row_critical c w a n e m l) = alert_is c w a n e m L.Critical l
   row_is (row_barred c w a n e m l) = alert_is c w a n e m L.Fatal l
-  row_is (row_open c w n s e m) = finished_is c w n e F.Right m S.Spec s
-  row_is (row_again c w n s e m) = finished_is c w n e F.Right m S.Open s
-  row_is (row_wrong_finished c w n e m) = finished_is c w n e F.Wrong m h.state refl
+  row_is (row_open c w n s e m) = finished_is c w n e (Ok tt) m S.Spec s
+  row_is (row_again c w n s e m) = finished_is c w n e (Ok tt) m S.Open s
+  row_is (row_wrong_finished c w n e m) = finished_is c w n e (Err F.Wrong) m h.state refl
 
 pub table_holds : TableHolds
 unfolding TableHolds

@@ -14,7 +14,7 @@ use Rattle.record.specs.declared.header.Content.{Content}
 use Rattle.record.specs.declared.header.Content.TheVariants as C
 use Rattle.record.specs.declared.reader.Record.{Record}
 use Rattle.record.specs.declared.window.Window.{Window}
-use Rattle.record.specs.declared.window.Acceptance.TheVariants as A
+use Rattle.record.specs.declared.window.NotNew.TheVariants as A
 use Rattle.record.proofs.Histories.{meaning, new_when, repeated_when}
 use Rattle.record.proofs.RoundTrip.{read_back}
 use Rattle.record.proofs.ProtectedBytes.{size_most}
@@ -31,7 +31,7 @@ use Rattle.connection.specs.declared.answer.Answer.TheVariants as W
 use Rattle.connection.specs.declared.answer.Judged.{Judged}
 use Rattle.connection.specs.declared.connection.Connection.{Connection}
 use Rattle.connection.specs.declared.handshake.Handshake.{Handshake}
-use Rattle.connection.specs.declared.receive.Taken.TheVariants as T
+use Rattle.connection.specs.declared.receive.Untaken.TheVariants as T
 use Rattle.demands.specs.Seen.{seen_in}
 use Rattle.demands.specs.Runs.{receive, received, step_of}
 use Rattle.record.specs.declared.keys.Keys.{Keys}
@@ -48,15 +48,16 @@ use Rattle.demands.proofs.Calls.{by_chain, call_is}
 use Rattle.demands.proofs.Refusals.{no_reply}
 use Rattle.demands.proofs.Wire.{front_framed, last_framed, sized, size_protected, protected_read, protected_framed, protected_fragment, long_size, long_read, long_fragment, behind}
 use Rattle.connection.specs.declared.sent.SentRecords.{SentRecords}
+use Rattle.std.specs.Prelude.{Err, Ok}
 
 -- the result of a receive, by its chain, where the first record gets no reply
 result_by : (c : Connection) (d random out : List ℕ) (r : Record) (rs : List Record) (x : Told) (answers : List Answer) (last : Connection)
     → length random ≡ 16 → 128 ≤ length out → framing_of d ≡ framed (r ∷ rs) → Tells c random d r x → reply_size x.answer ≡ 0
     → Chain random d x.connection rs answers last
-    → (step_of c (receive d random out)).result ≡ received (T.Records (suc (length rs))) (slots_of (x.answer ∷ answers)) 0
+    → (step_of c (receive d random out)).result ≡ received (Ok (suc (length rs))) (slots_of (x.answer ∷ answers)) 0
 result_by c d random out r rs x answers last e l f row z more =
     ap (λ s. s.result) (call_is c (by_chain c {out = out} e l f (chain_more row more)))
-    ∙ ap (λ y. received (T.Records (suc (length rs))) (slots_of (x.answer ∷ answers)) (length y))
+    ∙ ap (λ y. received (Ok (suc (length rs))) (slots_of (x.answer ∷ answers)) (length y))
     (no_reply c random d r rs (ap (λ y. reply_size y.answer) (tells_is c random d r row) ∙ z))
 
 left_by_lem : (c : Connection) (d random out : List ℕ) (r : Record) (rs : List Record) (x : Told) (answers : List Answer) (last : Connection)
@@ -89,15 +90,15 @@ w₇ width = window_of width (7 ∷ 0 ∷ [])
 unfoldable pub w₈ : ℕ → Window
 w₈ width = window_of width (8 ∷ 7 ∷ 0 ∷ [])
 
-takes_7 : (width : ℕ) → Held width → accept_of (w₀ width) 7 ≡ A.New (w₇ width) (arrived_of width (7 ∷ 0 ∷ []))
+takes_7 : (width : ℕ) → Held width → accept_of (w₀ width) 7 ≡ Ok (w₇ width, arrived_of width (7 ∷ 0 ∷ []))
 unfolding w₀ w₇ highest_of accepted
 takes_7 width held = meaning width held (0 ∷ []) 7 ∙ new_when width (0 ∷ []) 7 (omega (arith, held.0)) refl
 
-again_7 : (width : ℕ) → Held width → accept_of (w₇ width) 7 ≡ A.Repeated
+again_7 : (width : ℕ) → Held width → accept_of (w₇ width) 7 ≡ Err A.Repeated
 unfolding w₇ highest_of accepted
 again_7 width held = meaning width held (7 ∷ 0 ∷ []) 7 ∙ repeated_when width (7 ∷ 0 ∷ []) 7 (omega (arith, held.0)) refl
 
-takes_8 : (width : ℕ) → Held width → accept_of (w₇ width) 8 ≡ A.New (w₈ width) (arrived_of width (8 ∷ 7 ∷ 0 ∷ []))
+takes_8 : (width : ℕ) → Held width → accept_of (w₇ width) 8 ≡ Ok (w₈ width, arrived_of width (8 ∷ 7 ∷ 0 ∷ []))
 unfolding w₇ w₈ highest_of accepted
 takes_8 width held = meaning width held (7 ∷ 0 ∷ []) 8 ∙ new_when width (7 ∷ 0 ∷ []) 8 (omega (arith, held.0)) refl
 

@@ -20,11 +20,11 @@ use Rattle.record.specs.Datagram.{framed, faulty, after, ahead, placed_at, frami
 use Rattle.record.specs.declared.header.Content.{Content}
 use Rattle.record.specs.declared.reader.Record.{Record}
 use Rattle.record.specs.declared.reader.Fault.TheVariants as F
-use Rattle.record.specs.declared.reader.Reading.TheVariants as Q
 use Rattle.record.proofs.Fronts.{record_length}
 use Rattle.record.proofs.RoundTrip.{read_back, read_long, read_short, read_protected, fragment_back}
 use Rattle.record.proofs.ProtectedBytes.{protected_length, size_some, size_most}
 use Rattle.connection.specs.Judge.{fragment_of}
+use Rattle.std.specs.Prelude.{Ok}
 
 -- no record where no byte is left
 no_more : (room at : ℕ) (s : List ℕ) → length s ≡ 0 → framing_from room at s ≡ framed []
@@ -34,7 +34,7 @@ no_more (suc room) at s e =
     ap (λ b. pick b (framed []) (ahead at (read_of s) (λ r. framing_from room (at + r.used) (drop r.used s)))) (eq-eqb (length s) 0 e)
 
 -- a record at the front, and the rest
-pub front_framed : (room at : ℕ) (s tail : List ℕ) (r : Record) → read_of (s ++ tail) ≡ Q.Sound r → r.used ≡ length s → 1 ≤ length s
+pub front_framed : (room at : ℕ) (s tail : List ℕ) (r : Record) → read_of (s ++ tail) ≡ Ok r → r.used ≡ length s → 1 ≤ length s
     → framing_from (suc room) at (s ++ tail) ≡ after (placed_at r at ∷ []) (framing_from room (at + length s) tail)
 unfolding framing_from
 front_framed room at s tail r e u some =
@@ -48,7 +48,7 @@ front_framed room at s tail r e u some =
     not_zero n a b e l z = omega arith
 
 -- a record that fills what is left
-pub last_framed : (room at : ℕ) (s : List ℕ) (r : Record) → read_of s ≡ Q.Sound r → r.used ≡ length s → 1 ≤ length s
+pub last_framed : (room at : ℕ) (s : List ℕ) (r : Record) → read_of s ≡ Ok r → r.used ≡ length s → 1 ≤ length s
     → framing_from (suc room) at s ≡ framed (placed_at r at ∷ [])
 last_framed room at s r e u some =
     ap (framing_from (suc room) at) (sym (append-nil s))
@@ -63,7 +63,7 @@ sized s some most =
     ∙ ap (λ b. pick b (faulty F.Size 0) (framing_from 8 0 s)) (le-ltb 1400 (length s) most)
 
 -- one record that fills its datagram
-pub lone : (s : List ℕ) (r : Record) → read_of s ≡ Q.Sound r → r.used ≡ length s → 1 ≤ length s → length s ≤ 1400
+pub lone : (s : List ℕ) (r : Record) → read_of s ≡ Ok r → r.used ≡ length s → 1 ≤ length s → length s ≤ 1400
     → framing_of s ≡ framed (placed_at r 0 ∷ [])
 lone s r e u some most = sized s some most ∙ last_framed 7 0 s r e u some
 
@@ -73,7 +73,7 @@ module _ (content : Content) (number : ℕ) (inside : number ≤ 65535) where
     abbrev pub clear_back : Record
     clear_back = read_back false false content number (length body)
 
-    pub clear_read : read_of (record_of false false content number body) ≡ Q.Sound (read_back false false content number (length body))
+    pub clear_read : read_of (record_of false false content number body) ≡ Ok (read_back false false content number (length body))
     clear_read = read_short false content number body (omega arith) some
 
     pub clear_framed : length body ≤ 1397 → framing_of (record_of false false content number body) ≡ framed (read_back false false content number (length body) ∷ [])
@@ -94,7 +94,7 @@ module _ (content : Content) (number : ℕ) (inside : number ≤ 65535) where
         record_length false true content number (fragment_by (hmac k) (size_of mac) number (byte_for false true content) body)
         ∙ ap (λ n. 3 + n) (protected_length k mac number (byte_for false true content) body)
 
-    pub protected_read : read_of (protected_by (hmac k) (size_of mac) false content number body) ≡ Q.Sound (read_back false true content number (length body + size_of mac))
+    pub protected_read : read_of (protected_by (hmac k) (size_of mac) false content number body) ≡ Ok (read_back false true content number (length body + size_of mac))
     protected_read = read_protected k mac content number body (omega arith)
 
     pub protected_framed : length body + size_of mac ≤ 1397
@@ -119,13 +119,13 @@ module _ (content : Content) (number : ℕ) (inside : number ≤ 65535) where
         ∙ ap (λ n. 5 + n) (protected_length k mac number (byte_for true true content) body)
 
     pub long_read : (tail : List ℕ) → length body ≤ 1400
-        → read_of (protected_by (hmac k) (size_of mac) true content number body ++ tail) ≡ Q.Sound (read_back true true content number (length body + size_of mac))
+        → read_of (protected_by (hmac k) (size_of mac) true content number body ++ tail) ≡ Ok (read_back true true content number (length body + size_of mac))
     unfolding protected_by
     long_read tail most =
         let f : List ℕ = fragment_by (hmac k) (size_of mac) number (byte_for true true content) body in
         let size = protected_length k mac number (byte_for true true content) body in
         read_long true content number f tail (omega arith) (omega (arith, size, size_some mac)) (omega (arith, size, size_most mac))
-        ∙ ap (λ n. Q.Sound (read_back true true content number n)) size
+        ∙ ap (λ n. Ok (read_back true true content number n)) size
 
     pub long_fragment : (tail : List ℕ) → take (length body + size_of mac) (drop 5 (protected_by (hmac k) (size_of mac) true content number body ++ tail))
         ≡ fragment_by (hmac k) (size_of mac) number (byte_for true true content) body

@@ -20,7 +20,7 @@ use Rattle.record.specs.Datagram.{framed, framing_of}
 use Rattle.record.specs.declared.header.Content.TheVariants as C
 use Rattle.record.specs.declared.reader.Record.{Record}
 use Rattle.record.specs.declared.window.Window.{Window}
-use Rattle.record.specs.declared.window.Acceptance.TheVariants as A
+use Rattle.record.specs.declared.window.NotNew.TheVariants as A
 use Rattle.record.proofs.Histories.{meaning, fresh_means, new_when}
 use Rattle.record.proofs.RoundTrip.{read_back}
 use Rattle.record.proofs.ProtectedBytes.{size_most}
@@ -30,8 +30,7 @@ use Rattle.message.specs.Handshake.{fills, client_hello}
 use Rattle.message.specs.Change.{change_bytes, is_change}
 use Rattle.message.specs.Finished.{finished_of, client_verify, client_label, judged_of}
 use Rattle.message.specs.declared.acceptance.Plan.{Plan}
-use Rattle.message.specs.declared.acceptance.Heard.TheVariants as H
-use Rattle.message.specs.declared.hello.Reading.TheVariants as Q
+use Rattle.message.specs.declared.acceptance.Unheard.TheVariants as H
 use Rattle.message.specs.declared.hello.Field.TheVariants as E
 use Rattle.message.proofs.Hearing.{accepted_size}
 use Rattle.message.proofs.Written.{filled}
@@ -56,9 +55,8 @@ use Rattle.digest.specs.Pick.{pick}
 use Rattle.connection.specs.Send.{clear_sender}
 use Rattle.demands.proofs.Exactly.Sends.{exactly-alert}
 use lib.Dec.{lit≤}
-use Rattle.message.specs.declared.finished.Verified.TheVariants as F
+use Rattle.message.specs.declared.finished.Unverified.TheVariants as F
 use Rattle.connection.specs.declared.refusal.Refusal.TheVariants as X
-use Rattle.connection.specs.declared.calls.Outcome.TheVariants as O
 use Rattle.demands.specs.Exactly.Numbers.{is_among}
 use Rattle.demands.specs.Exactly.Sends.{AlertGoes, alert_number_of, alert_code_of}
 use Rattle.demands.specs.Seen.{seen_in}
@@ -81,6 +79,7 @@ use Rattle.connection.specs.declared.handshake.Kept.{Kept}
 use Rattle.connection.specs.declared.told.Told.{Told}
 use Rattle.connection.specs.declared.asked.Whom.TheVariants as Y
 use Rattle.demands.specs.Asked.{RightBeside, Tells, tells, asks_only, asks_new_hello, asks_clear, asks_right, asks_protected, left_only, left_greeted, left_started, left_replaced, left_dropped}
+use Rattle.std.specs.Prelude.{Err, Ok}
 
 -- ---- a datagram of one record
 
@@ -104,14 +103,14 @@ one_silent c d random out r x e l f row z =
 
 -- ---- an accepted hello begins with byte 1
 
-module _ (m id : List ℕ) (plan : Plan) (e : heard_of m id ≡ H.Accepted plan) where
+module _ (m id : List ℕ) (plan : Plan) (e : heard_of m id ≡ Ok plan) where
   by_fills : (b : Bool) → fills client_hello m ≡ b → get_or m 0 0 ≡ 1
   unfolding heard_of read_of
   by_fills true f = (filled client_hello m f).type
   by_fills false f =
-      let z : H.Malformed E.Header ≡ H.Accepted plan = sym (ap (heard_as m id) (unread f)) ∙ e in let n : ◌≡◌ {A = ℕ} 0 1 = cc in absurd (omega arith)
+      let z : Err (H.Malformed E.Header) ≡ Ok plan = sym (ap (heard_as m id) (unread f)) ∙ e in let n : ◌≡◌ {A = ℕ} 0 1 = cc in absurd (omega arith)
     where
-      unread : fills client_hello m ≡ false → read_of m ≡ Q.Malformed E.Header
+      unread : fills client_hello m ≡ false → read_of m ≡ Err E.Header
       unread f = rw f refl
 
   begins : get_or m 0 0 ≡ 1
@@ -131,12 +130,12 @@ expected_size session random m plan =
     verify_size session.secret client_label (sha1 (m ++ our_hello session random plan ++ our_finished session random m plan))
 
 -- the window takes the Finished, which has number 0, and the data behind it
-takes_0 : (width : ℕ) → Held width → accept_of (fresh_window width) 0 ≡ A.New (window_of width (0 ∷ [])) (arrived_of width (0 ∷ []))
+takes_0 : (width : ℕ) → Held width → accept_of (fresh_window width) 0 ≡ Ok (window_of width (0 ∷ []), arrived_of width (0 ∷ []))
 unfolding highest_of accepted
 takes_0 width held =
     ap (λ w. accept_of w 0) (fresh_means width) ∙ meaning width held [] 0 ∙ new_when width [] 0 (omega (arith, held.0)) refl
 
-takes_1 : (width : ℕ) → Held width → accept_of (window_of width (0 ∷ [])) 1 ≡ A.New (window_of width (1 ∷ 0 ∷ [])) (arrived_of width (1 ∷ 0 ∷ []))
+takes_1 : (width : ℕ) → Held width → accept_of (window_of width (0 ∷ [])) 1 ≡ Ok (window_of width (1 ∷ 0 ∷ []), arrived_of width (1 ∷ 0 ∷ []))
 unfolding highest_of accepted
 takes_1 width held = meaning width held (0 ∷ []) 1 ∙ new_when width (0 ∷ []) 1 (omega (arith, held.0)) refl
 
@@ -175,7 +174,7 @@ pub record Walk (id secret : List ℕ) (width : ℕ) (random bytes : List ℕ) :
   pub kept_is : kept_hello h₃ ≡ greeted
   pub planted_is : planted h₃ ≡ session_of id secret
 
-module _ (id secret : List ℕ) (width : ℕ) (held : Held width) (m random out bytes : List ℕ) (plan : Plan) (lr : length random ≡ 16) (lo : 128 ≤ length out) (e : heard_of m id ≡ H.Accepted plan) (some : 1 ≤ length bytes) (most : length bytes ≤ 1300) where
+module _ (id secret : List ℕ) (width : ℕ) (held : Held width) (m random out bytes : List ℕ) (plan : Plan) (lr : length random ≡ 16) (lo : 128 ≤ length out) (e : heard_of m id ≡ Ok plan) (some : 1 ≤ length bytes) (most : length bytes ≤ 1300) where
   abbrev session : Session
   session = session_of id secret
 
@@ -322,8 +321,8 @@ module _ (id secret : List ℕ) (width : ℕ) (held : Held width) (m random out 
     protected₅ =
         record { is_protected = refl; is_coded = protected_fragment C.Handshake 0 (omega arith) (unit_key k 0) plan.mac (finished_of wrong) }
 
-    judged₅ : judged_of (finished_of wrong) expected ≡ F.Wrong
-    judged₅ = finished_judged wrong lw expected ∙ ap (λ b. pick b F.Right F.Wrong) (differ_same wrong expected differs)
+    judged₅ : judged_of (finished_of wrong) expected ≡ Err F.Wrong
+    judged₅ = finished_judged wrong lw expected ∙ ap (λ b. pick b (Ok tt) (Err F.Wrong)) (differ_same wrong expected differs)
 
     row₅ : (s : SentRecords) → Row h₂ s random d₅ r₅ (judged (W.Refused X.WrongFinished) (with_state (with_window h₂ w₃) S.Closed))
     unfolding h₁ answered_with h₂ r₅ w₃
@@ -522,7 +521,7 @@ module _ (id secret : List ℕ) (width : ℕ) (held : Held width) (m random out 
     unfolding h₁ answered_with
     clear₁ = refl
 
-    goes₁ : (step_of e₁ (send_alert false 1 0 [] out)).result ≡ sent O.Done 9
+    goes₁ : (step_of e₁ (send_alert false 1 0 [] out)).result ≡ sent (Ok tt) 9
     unfolding is_among
     goes₁ =
         (exactly-alert.goes e₁ false 1 0 [] out).1

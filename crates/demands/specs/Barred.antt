@@ -1,28 +1,24 @@
 -- Demand 2: "A fatal alert accepted under its authentication code bars that connection's session from being resumed."
 -- 01: "Barred holds for this connection and all its starts."
-use Rattle.std.specs.Prelude.{◌≡◌, ◌≢◌, Bool, List, map, ℕ, ◌≤◌, length}
+use Rattle.std.specs.Prelude.{◌≡◌, ◌≢◌, Bool, List, map, ℕ, ◌≤◌, length, Err, Ok, Some}
 use Rattle.record.specs.Datagram.{framed, framing_of}
 use Rattle.record.specs.declared.reader.Record.{Record}
 use Rattle.record.specs.declared.header.Content.TheVariants as C
 use Rattle.record.specs.Window.{accept_of}
 use Rattle.record.specs.declared.window.Window.{Window}
-use Rattle.record.specs.declared.window.Acceptance.TheVariants as A
+use Rattle.record.specs.declared.window.NotNew.TheVariants as A
 use Rattle.message.specs.Alert.{alert_of, level_of, sorted_of}
 use Rattle.message.specs.declared.alert.Alert.{Alert}
 use Rattle.message.specs.declared.alert.Level.{Level}
 use Rattle.message.specs.declared.alert.Level.TheVariants as L
 use Rattle.message.specs.declared.alert.Description.{Description}
-use Rattle.message.specs.declared.alert.Graded.TheVariants as G
-use Rattle.message.specs.declared.alert.Sorted.TheVariants as D
-use Rattle.message.specs.declared.alert.Reading.TheVariants as R
 use Rattle.connection.specs.Receive.{slots_of}
 use Rattle.connection.specs.declared.state.State.TheVariants.{Barred}
 use Rattle.connection.specs.declared.refusal.Refusal.TheVariants as X
 use Rattle.connection.specs.declared.answer.Answer.{Answer}
 use Rattle.connection.specs.declared.answer.Answer.TheVariants as W
 use Rattle.connection.specs.declared.connection.Connection.{Connection}
-use Rattle.connection.specs.declared.calls.Outcome.TheVariants as O
-use Rattle.connection.specs.declared.receive.Taken.TheVariants as T
+use Rattle.connection.specs.declared.receive.Untaken.TheVariants as T
 use Rattle.connection.specs.declared.handshake.Handshake.{Handshake}
 use Rattle.demands.specs.Runs.{Call, receive, send_data, send_alert, close, start, received, sent, called, Gateway, step_of, final_of}
 use Rattle.demands.specs.Genuine.{Genuine, keys_of}
@@ -45,9 +41,9 @@ pub record FatalUnderCode (h : Handshake) (e : Event) : Type 0 where
   pub genuine : Genuine (keys_of h) d r c
   pub w : Window
   pub arrived : ℕ
-  pub new : accept_of h.protection.window r.number ≡ A.New w arrived
+  pub new : accept_of h.protection.window r.number ≡ Ok (w, arrived)
   pub alert : r.content ≡ C.Alert
-  pub well_formed : alert_of c ≡ R.WellFormed a
+  pub well_formed : alert_of c ≡ Some a
   pub fatal : a.level ≡ L.Fatal
 
 -- Barred is reached by a genuine, new fatal alert only
@@ -62,13 +58,13 @@ refused_all rs = map (λ r. W.Refused X.Ended) rs
 unfoldable pub AnswersSeven : Gateway → Connection → Type 0
 AnswersSeven g c =
     ((d random out : List ℕ) (rs : List Record) → length random ≡ 16 → 128 ≤ length out → framing_of d ≡ framed rs
-    → (g c (receive d random out)).result ≡ received (T.Records (length rs)) (slots_of (refused_all rs)) 0)
+    → (g c (receive d random out)).result ≡ received (Ok (length rs)) (slots_of (refused_all rs)) 0)
     × ((bytes out : List ℕ) → 1 ≤ length bytes → length bytes ≤ 1300
-    → (g c (send_data bytes out)).result ≡ sent (O.Refused X.Ended) 0)
+    → (g c (send_data bytes out)).result ≡ sent (Err X.Ended) 0)
     × ((protected : Bool) (level description : ℕ) (l : Level) (k : Description) (answered out : List ℕ)
-    → level_of level ≡ G.Is l → sorted_of description ≡ D.Assigned k → length answered ≤ 1400
-    → (g c (send_alert protected level description answered out)).result ≡ sent (O.Refused X.Ended) 0)
-    × ((g c close).result ≡ called (O.Refused X.Ended)) × ((g c start).result ≡ called (O.Refused X.Ended))
+    → level_of level ≡ Some l → sorted_of description ≡ Some k → length answered ≤ 1400
+    → (g c (send_alert protected level description answered out)).result ≡ sent (Err X.Ended) 0)
+    × ((g c close).result ≡ called (Err X.Ended)) × ((g c start).result ≡ called (Err X.Ended))
 
 -- from then on, in any run, the value does not change, nothing is written, and the calls are refused
 unfoldable pub BarredForGood : Type 0

@@ -2,7 +2,8 @@
 -- then framing from the front (per record 5, 3, 2, 4), then one answer per record." "Send: 16, 7, 8, 15, 6. Data is
 -- sent only in Open, protected alerts in Replied, Spec and Open, clear ones in Replied and Spec. Start again: 7, then
 -- 8 unless Closed. Close: 7."
-use Rattle.std.specs.Prelude.{◌≡◌, ◌↔◌, ◌⊎◌, ◌≢◌, Bool, true, false, List, [], ◌∷◌, ℕ, ◌+◌, ◌≤◌, ◌<◌, length}
+use Rattle.std.specs.Prelude.{◌≡◌, ◌↔◌, ◌⊎◌, ◌≢◌, Bool, true, false, List, [], ◌∷◌, ℕ, ◌+◌, ◌≤◌, ◌<◌, length, Err, None, Ok, Result, Some}
+use Rattle.connection.specs.declared.receive.Untaken.{Untaken}
 use Rattle.digest.specs.Bytes.{laid_over}
 use Rattle.digest.specs.Mac.{size_of}
 use Rattle.record.specs.Datagram.{framed, faulty, framing_of}
@@ -13,11 +14,9 @@ use Rattle.record.specs.declared.reader.Record.{Record}
 use Rattle.message.specs.Acceptance.{heard_of}
 use Rattle.message.specs.Alert.{level_of, sorted_of}
 use Rattle.message.specs.declared.acceptance.Plan.{Plan}
-use Rattle.message.specs.declared.acceptance.Heard.TheVariants as H
+use Rattle.message.specs.declared.acceptance.Unheard.TheVariants as H
 use Rattle.message.specs.declared.alert.Level.{Level}
 use Rattle.message.specs.declared.alert.Description.{Description}
-use Rattle.message.specs.declared.alert.Graded.TheVariants as G
-use Rattle.message.specs.declared.alert.Sorted.TheVariants as D
 use Rattle.connection.specs.Calls.{fresh_of, leaving}
 use Rattle.connection.specs.Handshake.{planted, kept_reply}
 use Rattle.connection.specs.Connection as I
@@ -34,9 +33,7 @@ use Rattle.connection.specs.declared.answer.Answer.{Answer}
 use Rattle.connection.specs.declared.answer.Answer.TheVariants as W
 use Rattle.connection.specs.declared.connection.Connection.{Connection}
 use Rattle.connection.specs.declared.calls.Called.{Called}
-use Rattle.connection.specs.declared.calls.Outcome.TheVariants as O
-use Rattle.connection.specs.declared.receive.Taken.{Taken}
-use Rattle.connection.specs.declared.receive.Taken.TheVariants as T
+use Rattle.connection.specs.declared.receive.Untaken.TheVariants as T
 use Rattle.connection.specs.declared.handshake.Handshake.{Handshake}
 use Rattle.demands.specs.Runs.{Call, receive, send_data, send_alert, close, start, received, sent, called, Step, step_of, fresh_one}
 use Rattle.connection.specs.declared.asked.Whom.{Whom}
@@ -57,7 +54,7 @@ pub data Chain (random d : List ℕ) : Connection → List Record → List Answe
 abbrev pub SendsBy : Handshake → List ℕ → List ℕ → Answer → List ℕ → Type 0
 SendsBy h random m W.Nothing bytes = bytes ≡ []
 SendsBy h random m (W.Reply size) bytes =
-    (plan : Plan) × (heard_of m h.id ≡ H.Accepted plan) × (bytes ≡ reply_to (planted h) random m plan)
+    (plan : Plan) × (heard_of m h.id ≡ Ok plan) × (bytes ≡ reply_to (planted h) random m plan)
 SendsBy h random m (W.Resent size) bytes = bytes ≡ kept_reply h
 SendsBy h random m W.Spec bytes = bytes ≡ []
 SendsBy h random m W.Open bytes = bytes ≡ []
@@ -77,30 +74,30 @@ FirstSends c random d (r ∷ rs) (a ∷ answers) bytes =
     (w : Whom) × Asks c d r w × SendsBy (asked_of c w) random (fragment_of d r) a bytes
 
 -- refused as a whole: "a refusal changes neither buffer nor connection"
-abbrev pub not_taken : Connection → List ℕ → Taken → Step
+abbrev pub not_taken : Connection → List ℕ → Result ℕ Untaken → Step
 not_taken c out taken = record { result = received taken (slots_of []) 0; output = out; connection = c }
 
 abbrev pub not_sent : Connection → List ℕ → Refusal → Step
-not_sent c out refusal = record { result = sent (O.Refused refusal) 0; output = out; connection = c }
+not_sent c out refusal = record { result = sent (Err refusal) 0; output = out; connection = c }
 
 abbrev pub not_called : Connection → Refusal → Step
-not_called c refusal = record { result = called (O.Refused refusal); output = []; connection = c }
+not_called c refusal = record { result = called (Err refusal); output = []; connection = c }
 
 -- "A success writes the counted bytes at the front and no others."
 abbrev pub taken : List ℕ → List Record → List Answer → List ℕ → Connection → Step
 taken out rs answers reply left =
     record {
-      result = received (T.Records (length rs)) (slots_of answers) (length reply);
+      result = received (Ok (length rs)) (slots_of answers) (length reply);
       output = laid_over out 0 reply;
       connection = left;
     }
 
 abbrev pub was_sent : List ℕ → List ℕ → Connection → Step
 was_sent out bytes left =
-    record { result = sent O.Done (length bytes); output = laid_over out 0 bytes; connection = left }
+    record { result = sent (Ok tt) (length bytes); output = laid_over out 0 bytes; connection = left }
 
 abbrev pub was_called : Connection → Step
-was_called left = record { result = called O.Done; output = []; connection = left }
+was_called left = record { result = called (Ok tt); output = []; connection = left }
 
 -- "protected alerts in Replied, Spec and Open, clear ones in Replied and Spec"
 abbrev pub may_alert : Bool → State → Bool
@@ -126,26 +123,26 @@ BadData bytes = (length bytes ≡ 0) ⊎ (1300 < length bytes)
 
 abbrev pub BadAlert : ℕ → ℕ → List ℕ → Type 0
 BadAlert level description answered =
-    (level_of level ≡ G.Unassigned) ⊎ ((sorted_of description ≡ D.Unassigned) ⊎ (1400 < length answered))
+    (level_of level ≡ None) ⊎ ((sorted_of description ≡ None) ⊎ (1400 < length answered))
 
 pub record GoodData (bytes : List ℕ) : Type 0 where
   pub some : 1 ≤ length bytes
   pub most : length bytes ≤ 1300
 
 pub record GoodAlert (level description : ℕ) (answered : List ℕ) (l : Level) (k : Description) : Type 0 where
-  pub level_is : level_of level ≡ G.Is l
-  pub description_is : sorted_of description ≡ D.Assigned k
+  pub level_is : level_of level ≡ Some l
+  pub description_is : sorted_of description ≡ Some k
   pub lent_most : length answered ≤ 1400
 
 pub data CallRow (c : Connection) : Call → Step → Type 0 where
   -- receive
   receive_16 : {d random out : List ℕ} → length random ≢ 16
-      → CallRow c (receive d random out) (not_taken c out (T.Refused X.Argument))
+      → CallRow c (receive d random out) (not_taken c out (Err (T.Refused X.Argument)))
   receive_6 : {d random out : List ℕ} → length random ≡ 16 → length out < 128
-      → CallRow c (receive d random out) (not_taken c out (T.Refused X.Room))
+      → CallRow c (receive d random out) (not_taken c out (Err (T.Refused X.Room)))
   receive_framing : {d random out : List ℕ} {fault : Fault} {at : ℕ} → length random ≡ 16 → 128 ≤ length out
       → framing_of d ≡ faulty fault at
-      → CallRow c (receive d random out) (not_taken c out (T.Misframed (X.Framing fault) at))
+      → CallRow c (receive d random out) (not_taken c out (Err (T.Misframed (X.Framing fault) at)))
   receive_records : {d random out : List ℕ} {rs : List Record} {answers : List Answer} {left : Connection} (reply : List ℕ)
       → length random ≡ 16 → 128 ≤ length out
       → framing_of d ≡ framed rs → Chain random d c rs answers left
@@ -205,9 +202,9 @@ pub data CallRow (c : Connection) : Call → Step → Type 0 where
 -- beside the refusal is blank and Barred.
 pub data FreshRow (id secret : List ℕ) (width : ℕ) : Called → Type 0 where
   fresh_16 : (length id ≢ 8) ⊎ (length secret ≢ 20) ⊎ (width < 32) ⊎ (64 < width)
-      → FreshRow id secret width (leaving (O.Refused X.Argument) I.blank_connection)
+      → FreshRow id secret width (leaving (Err X.Argument) I.blank_connection)
   fresh_done : length id ≡ 8 → length secret ≡ 20 → Held width
-      → FreshRow id secret width (leaving O.Done (fresh_one id secret width))
+      → FreshRow id secret width (leaving (Ok tt) (fresh_one id secret width))
 
 unfoldable pub FreshHolds : Type 0
 FreshHolds = (id secret : List ℕ) (width : ℕ) (s : Called) → (fresh_of id secret width ≡ s) ↔ FreshRow id secret width s

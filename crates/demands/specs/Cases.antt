@@ -1,6 +1,6 @@
 -- Cases that the worked handshake does not show, each met in a run from fresh: both MAC kinds, a forged record of full
 -- size, one that is too old, a repeated one, a late one from before a key refresh, and an alert that we send clear.
-use Rattle.std.specs.Prelude.{◌≡◌, true, false, List, [], ℕ, ◌≤◌, length}
+use Rattle.std.specs.Prelude.{◌≡◌, true, false, List, [], ℕ, ◌≤◌, length, Ok}
 use Rattle.digest.specs.Mac.{size_of}
 use Rattle.digest.specs.declared.mac.Mac.{Mac}
 use Rattle.digest.specs.declared.mac.Mac.TheVariants.{Sha80, Sha}
@@ -11,7 +11,6 @@ use Rattle.connection.specs.Send.{alert_sent}
 use Rattle.connection.specs.declared.answer.Answer.{Answer}
 use Rattle.connection.specs.declared.answer.Answer.TheVariants.{Data, Refused}
 use Rattle.connection.specs.declared.refusal.Refusal.TheVariants as X
-use Rattle.connection.specs.declared.calls.Outcome.TheVariants.{Done}
 use Rattle.connection.specs.declared.state.State.TheVariants.{Replied, Open}
 use Rattle.demands.specs.Genuine.{keys_of}
 use Rattle.demands.specs.Events.{Event, took, Sound, AllSound, after}
@@ -59,7 +58,7 @@ pub record SentClear : Type 0 where
   pub sound : AllSound es
   pub is_replied : (after example_fresh es).state ≡ Replied
   pub out : List ℕ
-  pub done : (alert_sent (alone (after example_fresh es)) false 1 0 [] (length out)).outcome ≡ Done
+  pub done : (alert_sent (alone (after example_fresh es)) false 1 0 [] (length out)).outcome ≡ Ok tt
 
 pub record Cases : Type 0 where
   pub sha_80 : OpenWith Sha80

@@ -2,12 +2,11 @@
 -- critical closes the connection, fatal closes it and, if protected, bars the session"; "Sending one, at any level,
 -- changes only our number and our last sent record"; "Start again leads from Closed to Idle and forgets the window
 -- and the kept hello. Close leads anywhere but Barred to Closed." 02, P6: "What closes .. the open one drops the started one too."
-use Rattle.std.specs.Prelude.{◌≡◌, Bool, true, false, List, ℕ, length, take}
+use Rattle.std.specs.Prelude.{◌≡◌, Bool, true, false, List, ℕ, length, take, Ok}
 use Rattle.record.specs.Window.{emptied}
 use Rattle.record.specs.declared.reader.Record.{Record}
 use Rattle.message.specs.Acceptance.{heard_of}
 use Rattle.message.specs.declared.acceptance.Plan.{Plan}
-use Rattle.message.specs.declared.acceptance.Heard.TheVariants.{Accepted}
 use Rattle.record.specs.Protection.{counted_on}
 use Rattle.connection.specs.Send.{clear_on, sender_of, put_back}
 use Rattle.connection.specs.Handshake.{with_state, with_protection, with_window, forgetting, barred, planted, none_started}
@@ -22,7 +21,6 @@ use Rattle.connection.specs.declared.state.State.TheVariants as S
 use Rattle.connection.specs.declared.answer.Answer.{Answer}
 use Rattle.connection.specs.declared.answer.Answer.TheVariants.{Nothing, Reply, Resent, Spec, Open, Again, Data, Warning, Critical, Fatal, Barred, Refused}
 use Rattle.connection.specs.declared.connection.Connection.{Connection}
-use Rattle.connection.specs.declared.calls.Outcome.TheVariants as O
 use Rattle.connection.specs.declared.handshake.Handshake.{Handshake}
 use Rattle.demands.specs.Refusals.{marked, refused_leaves}
 use Rattle.connection.specs.declared.sent.SentRecords.{SentRecords}
@@ -31,7 +29,7 @@ use Rattle.connection.specs.declared.sent.SentRecords.{SentRecords}
 abbrev pub Leaves : Handshake → List ℕ → List ℕ → Bool → ℕ → Handshake → Answer → Type 0
 Leaves h random m protected s then Nothing = ⊥
 Leaves h random m protected s then (Reply size) =
-    (plan : Plan) × (heard_of m h.id ≡ Accepted plan) × (then ≡ answered_with h random m plan)
+    (plan : Plan) × (heard_of m h.id ≡ Ok plan) × (then ≡ answered_with h random m plan)
     × (then.state ≡ S.Replied) × (then.protection.window ≡ h.protection.window) × (planted then ≡ planted h)
 Leaves h random m protected s then (Resent size) = then ≡ h
 Leaves h random m protected s then Spec = then ≡ with_state (with_window h (emptied h.protection.window)) S.Spec
@@ -64,14 +62,14 @@ after_sending protected c bytes =
 
 unfoldable pub DataChangesOnly : Type 0
 DataChangesOnly =
-    (c : Connection) (bytes out : List ℕ) → (data_sent c bytes (length out)).outcome ≡ O.Done
+    (c : Connection) (bytes out : List ℕ) → (data_sent c bytes (length out)).outcome ≡ Ok tt
     → (data_sent c bytes (length out)).connection
     ≡ after_sending true c (take (data_sent c bytes (length out)).written (data_output c bytes out))
 
 unfoldable pub AlertChangesOnly : Type 0
 AlertChangesOnly =
     (c : Connection) (protected : Bool) (level description : ℕ) (answered out : List ℕ)
-    → (alert_sent c protected level description answered (length out)).outcome ≡ O.Done
+    → (alert_sent c protected level description answered (length out)).outcome ≡ Ok tt
     → (alert_sent c protected level description answered (length out)).connection
     ≡ after_sending protected c
     (take (alert_sent c protected level description answered (length out)).written
@@ -79,10 +77,10 @@ AlertChangesOnly =
 
 unfoldable pub CloseChangesOnly : Type 0
 CloseChangesOnly =
-    (c : Connection) → (closed_of c).outcome ≡ O.Done
+    (c : Connection) → (closed_of c).outcome ≡ Ok tt
     → (closed_of c).connection ≡ connection_of (with_state c.handshake S.Closed) none_started c.sent
 
 unfoldable pub StartChangesOnly : Type 0
 StartChangesOnly =
-    (c : Connection) → (started_of c).outcome ≡ O.Done
+    (c : Connection) → (started_of c).outcome ≡ Ok tt
     → (started_of c).connection ≡ connection_of (with_state (forgetting c.handshake) S.Idle) none_started no_records

@@ -1,6 +1,8 @@
 -- Demand 3 by the bytes and our own calls: which numbers the unit's records have used up, and whether one of them, or we,
 -- closed.
-use Rattle.std.specs.Prelude.{◌≡◌, Bool, true, false, List, [], ◌∷◌, ℕ, ◌+◌, ◌-◌, ◌<◌, length, take}
+use Rattle.std.specs.Prelude.{◌≡◌, Bool, true, false, List, [], ◌∷◌, ℕ, ◌+◌, ◌-◌, ◌<◌, length, take, Err, None, Ok, Option, Result, Some, ⊤}
+use Rattle.message.specs.declared.alert.Alert.{Alert}
+use Rattle.message.specs.declared.finished.Unverified.{Unverified}
 use Rattle.digest.specs.Pick.{pick}
 use Rattle.digest.specs.Hmac.{hmac}
 use Rattle.digest.specs.Mac.{size_of}
@@ -14,10 +16,7 @@ use Rattle.message.specs.Alert.{alert_of}
 use Rattle.message.specs.Finished.{judged_of}
 use Rattle.message.specs.declared.alert.Level.{Level}
 use Rattle.message.specs.declared.alert.Level.TheVariants as L
-use Rattle.message.specs.declared.alert.Reading.{Reading}
-use Rattle.message.specs.declared.alert.Reading.TheVariants as R
-use Rattle.message.specs.declared.finished.Verified.{Verified}
-use Rattle.message.specs.declared.finished.Verified.TheVariants as F
+use Rattle.message.specs.declared.finished.Unverified.TheVariants as F
 use Rattle.connection.specs.Judge.{fragment_of}
 use Rattle.record.specs.declared.keys.Keys.{Keys}
 use Rattle.demands.specs.Genuine.{Genuine, unit_key}
@@ -48,14 +47,14 @@ level_shuts L.Warning = false
 level_shuts L.Critical = true
 level_shuts L.Fatal = true
 
-abbrev pub alert_shuts : Reading → Bool
-alert_shuts R.Malformed = false
-alert_shuts (R.WellFormed a) = level_shuts a.level
+abbrev pub alert_shuts : Option Alert → Bool
+alert_shuts None = false
+alert_shuts (Some a) = level_shuts a.level
 
-abbrev pub finished_shuts : Verified → Bool
-finished_shuts F.Right = false
-finished_shuts F.Wrong = true
-finished_shuts F.Malformed = false
+abbrev pub finished_shuts : Result ⊤ Unverified → Bool
+finished_shuts (Ok tt) = false
+finished_shuts (Err F.Wrong) = true
+finished_shuts (Err F.Malformed) = false
 
 abbrev pub content_shuts : Content → List ℕ → List ℕ → Bool
 content_shuts C.ChangeCipherSpec c expected = false

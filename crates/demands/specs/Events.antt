@@ -1,12 +1,11 @@
 -- The life of one handshake: the events that are handed to it, record by record. Which events of a connection these are: `Lives`.
-use Rattle.std.specs.Prelude.{◌≡◌, Bool, true, List, [], ◌∷◌, ℕ, length, take}
+use Rattle.std.specs.Prelude.{◌≡◌, Bool, true, List, [], ◌∷◌, ℕ, length, take, Err, Ok, Result, ⊤}
+use Rattle.connection.specs.declared.refusal.Refusal.{Refusal}
 use Rattle.record.specs.declared.reader.Record.{Record}
 use Rattle.connection.specs.Judge.{judged_record}
 use Rattle.connection.specs.Send.{data_sent, data_output, alert_sent, alert_output}
 use Rattle.connection.specs.Calls.{closed_of, started_of}
 use Rattle.connection.specs.declared.answer.Answer.{Answer}
-use Rattle.connection.specs.declared.calls.Outcome.{Outcome}
-use Rattle.connection.specs.declared.calls.Outcome.TheVariants.{Done, Refused}
 use Rattle.connection.specs.declared.handshake.Handshake.{Handshake}
 use Rattle.connection.specs.declared.send.Sent.{Sent}
 use Rattle.demands.specs.Genuine.{RecordOf}
@@ -56,9 +55,9 @@ pub data Happened : Type 0 where
   started : Happened
   refused : Happened
 
-abbrev pub if_done : Outcome → Happened → Happened
-if_done Done what = what
-if_done (Refused refusal) what = refused
+abbrev pub if_done : Result ⊤ Refusal → Happened → Happened
+if_done (Ok tt) what = what
+if_done (Err refusal) what = refused
 
 abbrev pub wrote_by : Sent → Bool → List ℕ → Happened
 wrote_by s protected out = if_done s.outcome (wrote protected (take s.written out))

@@ -1,7 +1,7 @@
 -- 02, P5, "Why was this report dropped?": what each reason says of the connection, the datagram, the random and the index. A reason of a
 -- record says why it is refused (`Exactly.Record.WhyRecord`), in the handshake that it is for and as the records before it left that,
 -- and what each of its facts is; a reason of the whole datagram likewise (`Exactly.Whole.WhyFaulty`).
-use Rattle.std.specs.Prelude.{◌≡◌, ◌↔◌, ◌⊎◌, ◌≢◌, true, false, List, [], ◌∷◌, ℕ, ◌+◌, ◌/◌, ◌%◌, ◌^◌, ◌≤◌, ◌<◌, length, get_or, take, drop}
+use Rattle.std.specs.Prelude.{◌≡◌, ◌↔◌, ◌⊎◌, ◌≢◌, true, false, List, [], ◌∷◌, ℕ, ◌+◌, ◌/◌, ◌%◌, ◌^◌, ◌≤◌, ◌<◌, length, get_or, take, drop, Err}
 use Rattle.digest.specs.Bytes.{word_at}
 use Rattle.digest.specs.Mac.{size_of}
 use Rattle.record.specs.Datagram.{framed, framing_of, blank}
@@ -19,7 +19,6 @@ use Rattle.message.specs.declared.acceptance.Condition.{Condition}
 use Rattle.message.specs.declared.acceptance.Condition.TheVariants as N
 use Rattle.message.specs.declared.hello.Field.{Field}
 use Rattle.message.specs.declared.hello.Field.TheVariants as L
-use Rattle.message.specs.declared.hello.Reading.TheVariants.{Malformed}
 use Rattle.connection.specs.Asked.{asked_of}
 use Rattle.connection.specs.declared.asked.Whom.{Whom}
 use Rattle.connection.specs.declared.connection.Connection.{Connection}
@@ -95,7 +94,7 @@ TriedWith k number key code = (key ≡ key_number k.refresh number) × (code ≡
 
 -- the first field at fault, reading from the front: "at most 256 bytes", then the header, then the fields in their order
 abbrev pub FirstAtFault : List ℕ → Field → Type 0
-FirstAtFault m field = ((256 < length m) × (field ≡ L.Size)) ⊎ ((length m ≤ 256) × (read_of m ≡ Malformed field))
+FirstAtFault m field = ((256 < length m) × (field ≡ L.Size)) ⊎ ((length m ≤ 256) × (read_of m ≡ Err field))
 
 -- "the first condition that failed for a hello"
 abbrev pub FirstUnmet : Values → List ℕ → Condition → Type 0

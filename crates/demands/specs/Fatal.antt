@@ -1,7 +1,7 @@
 -- Demand 2, over runs and their history: "A fatal alert accepted under its authentication code bars that connection's
 -- session from being resumed." A genuine, new, well-formed fatal alert bars, and nothing else does: genuine under the
 -- keys of the last new reply, new by the numbers accepted since the last change cipher spec that was taken.
-use Rattle.std.specs.Prelude.{◌≡◌, ◌⊎◌, ◌≢◌, true, false, List, [], ℕ, ◌+◌, ◌<◌}
+use Rattle.std.specs.Prelude.{◌≡◌, ◌⊎◌, ◌≢◌, true, false, List, [], ℕ, ◌+◌, ◌<◌, Some}
 use Rattle.record.specs.History.{accepted}
 use Rattle.record.specs.Window.{Held}
 use Rattle.record.specs.declared.header.Content.TheVariants as C
@@ -9,7 +9,6 @@ use Rattle.record.specs.declared.reader.Record.{Record}
 use Rattle.message.specs.Alert.{alert_of}
 use Rattle.message.specs.declared.alert.Alert.{Alert}
 use Rattle.message.specs.declared.alert.Level.TheVariants as L
-use Rattle.message.specs.declared.alert.Reading.TheVariants as R
 use Rattle.connection.specs.Calls.{session_of}
 use Rattle.connection.specs.Judge.{judged_record}
 use Rattle.connection.specs.declared.answer.Answer.TheVariants as W
@@ -32,7 +31,7 @@ pub record FatalAt (width : ℕ) (session : Session) (past : List Happened) (d :
     (a : Alert) : Type 0 where
   pub genuine : Genuine (keys_in session past) d r c
   pub alert : r.content ≡ C.Alert
-  pub well_formed : alert_of c ≡ R.WellFormed a
+  pub well_formed : alert_of c ≡ Some a
   pub fatal : a.level ≡ L.Fatal
   -- "whose number was not accepted before and is above the highest accepted less 32": less the width
   pub not_before : accepted (accepted_in past) r.number ≡ false

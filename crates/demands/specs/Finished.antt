@@ -1,9 +1,8 @@
 -- Demand 2: "Data is handed out only after the unit's Finished has been verified."
-use Rattle.std.specs.Prelude.{◌≡◌, true, false, List, [], ◌∷◌, ◌++◌, ℕ}
+use Rattle.std.specs.Prelude.{◌≡◌, true, false, List, [], ◌∷◌, ◌++◌, ℕ, Ok}
 use Rattle.message.specs.Acceptance.{heard_of}
 use Rattle.message.specs.Finished.{finished_of}
 use Rattle.message.specs.declared.acceptance.Plan.{Plan}
-use Rattle.message.specs.declared.acceptance.Heard.TheVariants.{Accepted}
 use Rattle.record.specs.declared.reader.Record.{Record}
 use Rattle.record.specs.declared.header.Content.TheVariants as C
 use Rattle.connection.specs.Calls.{session_of}
@@ -42,7 +41,7 @@ pub record Verified (session : Session) (past : List Happened) : Type 0 where
   pub ours : List ℕ
   pub plan : Plan
   pub replied : last_reply before ≡ greeting hello ours
-  pub heard : heard_of hello session.id ≡ Accepted plan
+  pub heard : heard_of hello session.id ≡ Ok plan
   pub handshake : r.content ≡ C.Handshake
   pub genuine : Genuine (keys_in session before) d r (finished_of (expected_of session ours hello plan))
 

@@ -3,7 +3,7 @@
 -- 3); one that answers each record alike (the table); one that does nothing (Finished must open); one that acts on
 -- the first record of a datagram and only acknowledges the rest (one answer per record, demand 2); an invented tally
 -- (the history rule)."
-use Rattle.std.specs.Prelude.{◌≡◌, ◌↔◌, ◌≢◌, true, List, [], ◌∷◌, ◌++◌, map, ℕ, ◌≤◌, length, take}
+use Rattle.std.specs.Prelude.{◌≡◌, ◌↔◌, ◌≢◌, true, List, [], ◌∷◌, ◌++◌, map, ℕ, ◌≤◌, length, take, Ok}
 use Rattle.digest.specs.Bytes.{laid_over}
 use Rattle.record.specs.Datagram.{framed, framing_of}
 use Rattle.record.specs.declared.reader.Record.{Record}
@@ -16,7 +16,7 @@ use Rattle.connection.specs.declared.refusal.Refusal.{Refusal}
 use Rattle.connection.specs.declared.answer.Answer.{Answer}
 use Rattle.connection.specs.declared.answer.Answer.TheVariants.{Refused}
 use Rattle.connection.specs.declared.connection.Connection.{Connection}
-use Rattle.connection.specs.declared.receive.Taken.TheVariants as T
+use Rattle.connection.specs.declared.receive.Untaken.TheVariants as T
 use Rattle.connection.specs.declared.tally.Tally.{Tally}
 use Rattle.demands.specs.Runs.{Call, receive, Result, received, Gateway, step_of, final_of}
 use Rattle.demands.specs.Calls.{Chain, FirstSends, CallRow}
@@ -38,7 +38,7 @@ AnswersByTable g =
     (c : Connection) (d random out : List ℕ) (rs : List Record) → length random ≡ 16 → 128 ≤ length out
     → framing_of d ≡ framed rs
     → (answers : List Answer) × (reply : List ℕ)
-    × ((g c (receive d random out)).result ≡ received (T.Records (length rs)) (slots_of answers) (length reply))
+    × ((g c (receive d random out)).result ≡ received (Ok (length rs)) (slots_of answers) (length reply))
     × Chain random d c rs answers (g c (receive d random out)).connection
     × ((g c (receive d random out)).output ≡ laid_over out 0 reply)
     × FirstSends c random d rs answers reply

@@ -1,12 +1,12 @@
 -- Refusals that turn on what happened before, in a life from fresh, by its history alone: 9 by the keys of the last new
 -- reply, 10 and 11 by the numbers accepted since the last change cipher spec that was taken, 17 by the very messages of the life.
 -- (14, by the records that the connection sent: `Lives.ChecksumInRuns`.) With `Table.TableHolds` and `Kept.KeptIsWhatHappened` behind it.
-use Rattle.std.specs.Prelude.{◌≡◌, ◌↔◌, true, List, [], ℕ, ◌+◌, ◌≤◌, ◌<◌}
+use Rattle.std.specs.Prelude.{◌≡◌, ◌↔◌, true, List, [], ℕ, ◌+◌, ◌≤◌, ◌<◌, Err}
 use Rattle.record.specs.History.{accepted}
 use Rattle.record.specs.declared.header.Content.TheVariants as C
 use Rattle.record.specs.declared.reader.Record.{Record}
 use Rattle.message.specs.Finished.{judged_of}
-use Rattle.message.specs.declared.finished.Verified.TheVariants as F
+use Rattle.message.specs.declared.finished.Unverified.TheVariants as F
 use Rattle.connection.specs.Calls.{session_of}
 use Rattle.connection.specs.Judge.{judged_record}
 use Rattle.connection.specs.declared.state.State.TheVariants.{Open}
@@ -62,7 +62,7 @@ WrongFinishedInRuns =
     → (judged_record (after (fresh_with id secret width) es) sent random d r).answer ≡ Refused X.WrongFinished
     → (c : List ℕ) × Genuine (keys_in (session_of id secret) (history (fresh_with id secret width) es [])) d r c
     × (r.content ≡ C.Handshake)
-    × (judged_of c (expected_in (session_of id secret) (history (fresh_with id secret width) es [])) ≡ F.Wrong)
+    × (judged_of c (expected_in (session_of id secret) (history (fresh_with id secret width) es [])) ≡ Err F.Wrong)
 
 -- demand 3, first half, from an open place of a run: genuine under the keys of the last new reply in the life of the open one
 unfoldable pub LeavesOutOfRuns : Type 0

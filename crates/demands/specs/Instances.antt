@@ -1,13 +1,11 @@
 -- No premise is empty: beside the statements that have premises, an instance that meets them.
-use Rattle.std.specs.Prelude.{◌≡◌, true, List, [], ℕ, length}
+use Rattle.std.specs.Prelude.{◌≡◌, true, List, [], ℕ, length, Ok}
 use Rattle.record.specs.Datagram.{framed, framing_of}
 use Rattle.record.specs.declared.reader.Record.{Record}
 use Rattle.message.specs.Acceptance.{heard_of}
-use Rattle.message.specs.declared.acceptance.Heard.TheVariants.{Accepted}
 use Rattle.connection.specs.Judge.{judged_record}
 use Rattle.connection.specs.Send.{data_sent, alert_sent}
 use Rattle.connection.specs.declared.state.State.TheVariants.{Open, Barred}
-use Rattle.connection.specs.declared.calls.Outcome.TheVariants.{Done}
 use Rattle.connection.specs.declared.handshake.Handshake.{Handshake}
 use Rattle.demands.specs.Runs.{fresh_with, fresh_one, step_of}
 use Rattle.demands.specs.Genuine.{keys_of}
@@ -39,8 +37,8 @@ pub record OpenRun : Type 0 where
   -- sends that are done there, protected
   pub bytes : List ℕ
   pub out : List ℕ
-  pub data_done : (data_sent (alone (after example_fresh es)) bytes (length out)).outcome ≡ Done
-  pub alert_done : (alert_sent (alone (after example_fresh es)) true 1 0 [] (length out)).outcome ≡ Done
+  pub data_done : (data_sent (alone (after example_fresh es)) bytes (length out)).outcome ≡ Ok tt
+  pub alert_done : (alert_sent (alone (after example_fresh es)) true 1 0 [] (length out)).outcome ≡ Ok tt
   -- a soundly framed datagram without a genuine record
   pub noise : List ℕ
   pub noise_records : List Record
@@ -61,6 +59,6 @@ pub record RebootRun : Type 0 where
       (session_of example_id example_secret) sha_hello example_random example_out example_data sha_plan
 
 pub record Instances : Type 0 where
-  pub hello : heard_of example_hello example_id ≡ Accepted example_plan
+  pub hello : heard_of example_hello example_id ≡ Ok example_plan
   pub run : OpenRun
   pub reboot : RebootRun

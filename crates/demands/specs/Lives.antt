@@ -1,13 +1,12 @@
 -- 02, P6: a connection holds an open handshake and at most one started one. Each act of a run is handed to one of them. So each has a
 -- life of its own, the events that it was given, and is what that life leaves of a fresh handshake; what is said of every life
 -- (`Kept`, `Finished`, `InRuns`, `Fatal`) is said of both.
-use Rattle.std.specs.Prelude.{◌≡◌, ◌↔◌, ◌⊎◌, ◌≢◌, Bool, true, false, List, [], ◌∷◌, ◌++◌, map, ℕ, length, take}
+use Rattle.std.specs.Prelude.{◌≡◌, ◌↔◌, ◌⊎◌, ◌≢◌, Bool, true, false, List, [], ◌∷◌, ◌++◌, map, ℕ, length, take, Some}
 use Rattle.record.specs.Window.{Held}
 use Rattle.record.specs.declared.header.Content.TheVariants as C
 use Rattle.record.specs.declared.reader.Record.{Record}
 use Rattle.message.specs.Alert.{alert_of}
 use Rattle.message.specs.declared.alert.Alert.{Alert}
-use Rattle.message.specs.declared.alert.Reading.TheVariants as R
 use Rattle.connection.specs.Calls.{session_of}
 use Rattle.connection.specs.Handshake.{none_started}
 use Rattle.connection.specs.Asked.{under_way, whom_of}
@@ -172,6 +171,6 @@ unfoldable pub ChecksumInRuns : Type 0
 ChecksumInRuns =
     (id secret : List ℕ) (width : ℕ) → length id ≡ 8 → Held width → (acts : List Act) → SoundActs acts
     → (h : Handshake) → Hears h.state → (random d : List ℕ) (r : Record) (a : Alert)
-    → r.protected ≡ false → r.content ≡ C.Alert → alert_of (fragment_of d r) ≡ R.WellFormed a
+    → r.protected ≡ false → r.content ≡ C.Alert → alert_of (fragment_of d r) ≡ Some a
     → ((judged_record h (behind (fresh_one id secret width) acts).sent random d r).answer ≡ Refused X.Checksum)
     ↔ MatchesNone a.checksum (sent_since (session_of id secret) (history_of (fresh_one id secret width) acts []))

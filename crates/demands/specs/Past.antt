@@ -1,12 +1,13 @@
 -- What a history says: the last new reply, what was written since, and which numbers were accepted. It is read off
 -- what happened, never off what the connection keeps. Histories have the latest first.
-use Rattle.std.specs.Prelude.{Bool, true, false, ◌≢◌, List, [], ◌∷◌, ◌++◌, ℕ, ◌+◌, ◌<◌, eqb, length, get_or, replicate}
+use Rattle.std.specs.Prelude.{Bool, true, false, ◌≢◌, List, [], ◌∷◌, ◌++◌, ℕ, ◌+◌, ◌<◌, eqb, length, get_or, replicate, Err, Ok, Result}
+use Rattle.message.specs.declared.acceptance.Plan.{Plan}
+use Rattle.message.specs.declared.acceptance.Unheard.{Unheard}
 use Rattle.digest.specs.Pick.{pick}
 use Rattle.digest.specs.declared.mac.Mac.{Mac}
 use Rattle.digest.specs.declared.mac.Mac.TheVariants.{Sha80}
 use Rattle.message.specs.Acceptance.{heard_of}
-use Rattle.message.specs.declared.acceptance.Heard.{Heard}
-use Rattle.message.specs.declared.acceptance.Heard.TheVariants as H
+use Rattle.message.specs.declared.acceptance.Unheard.TheVariants as H
 use Rattle.connection.specs.Answer.{answer_number}
 use Rattle.connection.specs.Judge.{fragment_of}
 use Rattle.connection.specs.Reply.{client_random, expected_of, reply_to, last_of, our_hello, hello_record, change_record}
@@ -110,8 +111,8 @@ agreed_of h =
 
 -- what a new reply fixes, of the session and the two hellos alone: randoms, MAC kind, refresh, and the contents that
 -- the unit's Finished must have
-abbrev pub agreed_as : Session → List ℕ → List ℕ → Heard → Agreed
-agreed_as session random m (H.Accepted plan) =
+abbrev pub agreed_as : Session → List ℕ → List ℕ → Result Plan Unheard → Agreed
+agreed_as session random m (Ok plan) =
     record {
       server = random;
       client = client_random m;
@@ -119,8 +120,8 @@ agreed_as session random m (H.Accepted plan) =
       refresh = plan.refresh;
       expected = expected_of session random m plan;
     }
-agreed_as session random m (H.Unacceptable condition) = nothing_agreed Sha80 0
-agreed_as session random m (H.Malformed fault) = nothing_agreed Sha80 0
+agreed_as session random m (Err (H.Unacceptable condition)) = nothing_agreed Sha80 0
+agreed_as session random m (Err (H.Malformed fault)) = nothing_agreed Sha80 0
 
 abbrev pub agreed_for : Session → Greeting → Agreed
 agreed_for session none = nothing_agreed Sha80 0
@@ -149,10 +150,10 @@ abbrev pub hello_as : Greeting → List ℕ
 hello_as none = []
 hello_as (greeting m random) = m
 
-abbrev pub reply_heard : Session → List ℕ → List ℕ → Heard → List ℕ
-reply_heard session random m (H.Accepted plan) = reply_to session random m plan
-reply_heard session random m (H.Unacceptable condition) = []
-reply_heard session random m (H.Malformed fault) = []
+abbrev pub reply_heard : Session → List ℕ → List ℕ → Result Plan Unheard → List ℕ
+reply_heard session random m (Ok plan) = reply_to session random m plan
+reply_heard session random m (Err (H.Unacceptable condition)) = []
+reply_heard session random m (Err (H.Malformed fault)) = []
 
 abbrev pub reply_for : Session → Greeting → List ℕ
 reply_for session none = []
@@ -180,11 +181,11 @@ next_clear_number (started ∷ past) = next_clear_number past
 next_clear_number (refused ∷ past) = next_clear_number past
 
 -- the three records of a new reply, the latest first: Finished, change cipher spec, ServerHello
-abbrev pub records_heard : Session → List ℕ → List ℕ → Heard → List (List ℕ)
-records_heard session random m (H.Accepted plan) =
+abbrev pub records_heard : Session → List ℕ → List ℕ → Result Plan Unheard → List (List ℕ)
+records_heard session random m (Ok plan) =
     last_of session random m plan ∷ change_record ∷ hello_record (our_hello session random plan) ∷ []
-records_heard session random m (H.Unacceptable condition) = []
-records_heard session random m (H.Malformed fault) = []
+records_heard session random m (Err (H.Unacceptable condition)) = []
+records_heard session random m (Err (H.Malformed fault)) = []
 
 -- the "records that we sent since the last start", the latest first, a resent reply not counted
 unfoldable pub sent_since : Session → List Happened → List (List ℕ)

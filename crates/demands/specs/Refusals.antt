@@ -1,12 +1,14 @@
 -- Demand 1: "A refused call writes nothing into the output we lend, and the connection is as before, except where the
 -- list names the change." 01: "A refusal changes neither buffer nor connection, except that 12 under protection and
 -- 17 mark the number, and 17 also closes."
-use Rattle.std.specs.Prelude.{◌≡◌, Bool, true, false, List, [], ◌∷◌, ℕ, ◌≤◌, eqb}
+use Rattle.std.specs.Prelude.{◌≡◌, Bool, true, false, List, [], ◌∷◌, ℕ, ◌≤◌, eqb, Err, Ok, ⊤}
+use Rattle.connection.specs.declared.receive.Untaken.{Untaken}
+use Rattle.record.specs.declared.window.NotNew.{NotNew}
+use Rattle.record.specs.declared.window.Window.{Window}
 use Rattle.record.specs.Window.{accept_of}
 use Rattle.record.specs.Datagram.{framed, framing_of}
 use Rattle.record.specs.declared.reader.Record.{Record}
-use Rattle.record.specs.declared.window.Acceptance.{Acceptance}
-use Rattle.record.specs.declared.window.Acceptance.TheVariants as A
+use Rattle.record.specs.declared.window.NotNew.TheVariants as A
 use Rattle.connection.specs.Answer.{reply_size}
 use Rattle.connection.specs.Refusal.{refusal_number}
 use Rattle.digest.specs.Pick.{pick}
@@ -22,10 +24,7 @@ use Rattle.connection.specs.declared.answer.Answer.TheVariants as W
 use Rattle.connection.specs.declared.asked.Whom.{Whom}
 use Rattle.connection.specs.declared.asked.Whom.TheVariants as K
 use Rattle.connection.specs.declared.connection.Connection.{Connection}
-use Rattle.connection.specs.declared.calls.Outcome.{Outcome}
-use Rattle.connection.specs.declared.calls.Outcome.TheVariants as O
-use Rattle.connection.specs.declared.receive.Taken.{Taken}
-use Rattle.connection.specs.declared.receive.Taken.TheVariants as T
+use Rattle.connection.specs.declared.receive.Untaken.TheVariants as T
 use Rattle.connection.specs.declared.handshake.Handshake.{Handshake}
 use Rattle.demands.specs.Runs.{Call, receive, send_data, send_alert, close, start, Result, received, sent, called, Gateway, step_of}
 use Rattle.connection.specs.declared.sent.SentRecords.{SentRecords}
@@ -39,14 +38,14 @@ lent_by close = []
 lent_by start = []
 
 -- a call that is refused as a whole
-abbrev pub NotTaken : Taken → Type 0
-NotTaken (T.Records count) = ⊥
-NotTaken (T.Refused refusal) = Unit
-NotTaken (T.Misframed refusal at) = Unit
+abbrev pub NotTaken : Result ℕ Untaken → Type 0
+NotTaken (Ok count) = ⊥
+NotTaken (Err (T.Refused refusal)) = Unit
+NotTaken (Err (T.Misframed refusal at)) = Unit
 
-abbrev pub NotDone : Outcome → Type 0
-NotDone O.Done = ⊥
-NotDone (O.Refused refusal) = Unit
+abbrev pub NotDone : Result ⊤ Refusal → Type 0
+NotDone (Ok tt) = ⊥
+NotDone (Err refusal) = Unit
 
 abbrev pub IsRefused : Result → Type 0
 IsRefused (received taken answers written) = NotTaken taken
@@ -60,10 +59,10 @@ written_by (sent outcome written) = written
 written_by (called outcome) = 0
 
 -- the handshake with the mark of a number, where it is new
-abbrev pub marked_as : Handshake → Acceptance → Handshake
-marked_as h (A.New w arrived) = with_window h w
-marked_as h A.TooOld = h
-marked_as h A.Repeated = h
+abbrev pub marked_as : Handshake → Result (Window × ℕ) NotNew → Handshake
+marked_as h (Ok (w, arrived)) = with_window h w
+marked_as h (Err A.TooOld) = h
+marked_as h (Err A.Repeated) = h
 
 abbrev pub marked : Handshake → ℕ → Handshake
 marked h s = marked_as h (accept_of h.protection.window s)

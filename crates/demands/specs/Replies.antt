@@ -1,12 +1,11 @@
 -- What is written of a reply. 01: "Idle | clear ClientHello | reply", "Replied, Spec | the same ClientHello message |
 -- the same reply bytes", "A success writes the counted bytes at the front and no others."
-use Rattle.std.specs.Prelude.{◌≡◌, List, [], ◌∷◌, ℕ, ◌≤◌, length}
+use Rattle.std.specs.Prelude.{◌≡◌, List, [], ◌∷◌, ℕ, ◌≤◌, length, Ok}
 use Rattle.digest.specs.Bytes.{laid_over}
 use Rattle.record.specs.Datagram.{framed, framing_of}
 use Rattle.record.specs.declared.reader.Record.{Record}
 use Rattle.message.specs.Acceptance.{heard_of}
 use Rattle.message.specs.declared.acceptance.Plan.{Plan}
-use Rattle.message.specs.declared.acceptance.Heard.TheVariants.{Accepted}
 use Rattle.connection.specs.Calls.{session_of}
 use Rattle.connection.specs.Judge.{fragment_of}
 use Rattle.connection.specs.Asked.{whom_of}
@@ -29,7 +28,7 @@ use Rattle.demands.specs.Refusals.{written_by}
 abbrev pub Sends : Session → List Happened → List ℕ → List ℕ → List ℕ → Answer → Type 0
 Sends session past random m bytes Nothing = bytes ≡ []
 Sends session past random m bytes (Reply size) =
-    (plan : Plan) × (heard_of m session.id ≡ Accepted plan) × (bytes ≡ reply_to session random m plan)
+    (plan : Plan) × (heard_of m session.id ≡ Ok plan) × (bytes ≡ reply_to session random m plan)
     × (length bytes ≡ size)
 Sends session past random m bytes (Resent size) = (bytes ≡ reply_for session (kept_greeting past)) × (length bytes ≡ size)
 Sends session past random m bytes Spec = bytes ≡ []

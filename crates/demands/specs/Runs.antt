@@ -1,6 +1,8 @@
 -- Runs of calls. A step is what one call gives, by the definitions that the contracts of layer 4 cite; a run is a
 -- list of calls, each on the connection that the one before left.
-use Rattle.std.specs.Prelude.{Bool, List, [], ◌∷◌, ℕ, length}
+use Rattle.std.specs.Prelude.{Bool, List, [], ◌∷◌, ℕ, length, Result, ⊤}
+use Rattle.connection.specs.declared.receive.Untaken.{Untaken}
+use Rattle.connection.specs.declared.refusal.Refusal.{Refusal}
 use Rattle.connection.specs.Receive.{received_of, output_of}
 use Rattle.connection.specs.Send.{data_sent, data_output, alert_sent, alert_output}
 use Rattle.connection.specs.Handshake.{new_handshake}
@@ -9,8 +11,6 @@ use Rattle.connection.specs.Calls.{closed_of, started_of, session_of}
 use Rattle.connection.specs.declared.answer.Slot.{Slot}
 use Rattle.connection.specs.declared.connection.Connection.{Connection}
 use Rattle.connection.specs.declared.calls.Called.{Called}
-use Rattle.connection.specs.declared.calls.Outcome.{Outcome}
-use Rattle.connection.specs.declared.receive.Taken.{Taken}
 use Rattle.connection.specs.declared.receive.Received.{Received}
 use Rattle.connection.specs.declared.send.Sent.{Sent}
 use Rattle.connection.specs.declared.handshake.Handshake.{Handshake}
@@ -27,9 +27,9 @@ pub data Call : Type 0 where
 
 -- what comes back
 pub data Result : Type 0 where
-  received : (taken : Taken) (answers : List Slot) (written : ℕ) → Result
-  sent : (outcome : Outcome) (written : ℕ) → Result
-  called : (outcome : Outcome) → Result
+  received : (taken : Result ℕ Untaken) (answers : List Slot) (written : ℕ) → Result
+  sent : (outcome : Result ⊤ Refusal) (written : ℕ) → Result
+  called : (outcome : Result ⊤ Refusal) → Result
 
 -- what comes back, what the lent output then holds, and the connection
 pub record Step : Type 0 where

@@ -1,6 +1,6 @@
 -- What we send. 01: "After each new reply our data and protected alerts count on from 1, clear alerts from 2, each as
 -- a datagram of one record without a length." "Sending never passes 65,535."
-use Rattle.std.specs.Prelude.{◌≡◌, Bool, true, false, List, [], ℕ, ◌≤◌, length, take, drop}
+use Rattle.std.specs.Prelude.{◌≡◌, Bool, true, false, List, [], ℕ, ◌≤◌, length, take, drop, Ok, Some}
 use Rattle.digest.specs.Hmac.{hmac}
 use Rattle.digest.specs.Mac.{size_of}
 use Rattle.record.specs.Reader.{read_of}
@@ -8,7 +8,6 @@ use Rattle.record.specs.Keys.{secret_for}
 use Rattle.record.specs.declared.keys.Sense.TheVariants.{FromShore}
 use Rattle.record.specs.Code.{fragment_by}
 use Rattle.record.specs.declared.reader.Record.{Record}
-use Rattle.record.specs.declared.reader.Reading.TheVariants as Q
 use Rattle.record.specs.declared.header.Content.{Content}
 use Rattle.record.specs.declared.header.Content.TheVariants as C
 use Rattle.connection.specs.Calls.{session_of}
@@ -16,9 +15,6 @@ use Rattle.connection.specs.Send.{data_sent, data_output, alert_sent, alert_outp
 use Rattle.message.specs.Alert.{level_of, sorted_of}
 use Rattle.message.specs.declared.alert.Level.{Level}
 use Rattle.message.specs.declared.alert.Description.{Description}
-use Rattle.message.specs.declared.alert.Graded.TheVariants as G
-use Rattle.message.specs.declared.alert.Sorted.TheVariants as D
-use Rattle.connection.specs.declared.calls.Outcome.TheVariants as O
 use Rattle.record.specs.declared.keys.Keys.{Keys}
 use Rattle.demands.specs.Events.{Happened, history}
 use Rattle.demands.specs.Acts.{Act, SoundActs, behind}
@@ -35,7 +31,7 @@ our_key k s = secret_for k FromShore s
 -- for the number
 pub record ProtectedRecord (k : Keys) (content : Content) (s : ℕ) (body bytes : List ℕ) : Type 0 where
   pub r : Record
-  pub reads : read_of bytes ≡ Q.Sound r
+  pub reads : read_of bytes ≡ Ok r
   pub protection : r.protected ≡ true
   pub content_is : r.content ≡ content
   pub number_is : r.number ≡ s
@@ -46,7 +42,7 @@ pub record ProtectedRecord (k : Keys) (content : Content) (s : ℕ) (body bytes 
 
 pub record ClearRecord (s : ℕ) (body bytes : List ℕ) : Type 0 where
   pub r : Record
-  pub reads : read_of bytes ≡ Q.Sound r
+  pub reads : read_of bytes ≡ Ok r
   pub protection : r.protected ≡ false
   pub content_is : r.content ≡ C.Alert
   pub number_is : r.number ≡ s
@@ -61,7 +57,7 @@ DataSentRight =
     (id secret : List ℕ) (width : ℕ) → Held width → (acts : List Act) → SoundActs acts → (bytes out : List ℕ)
     → let c = behind (fresh_one id secret width) acts in
     let past = history (fresh_with id secret width) (lives_of (fresh_one id secret width) no_lives acts).own [] in
-    (data_sent c bytes (length out)).outcome ≡ O.Done
+    (data_sent c bytes (length out)).outcome ≡ Ok tt
     → ProtectedRecord (keys_in (session_of id secret) past) C.Data (protected_next past) bytes
     (take (data_sent c bytes (length out)).written (data_output c bytes out))
 
@@ -74,11 +70,11 @@ unfoldable pub AlertSentRight : Type 0
 AlertSentRight =
     (id secret : List ℕ) (width : ℕ) → Held width → (acts : List Act) → SoundActs acts
     → (protected : Bool) (level description : ℕ) (l : Level) (k : Description) (answered out : List ℕ)
-    → level_of level ≡ G.Is l → sorted_of description ≡ D.Assigned k
+    → level_of level ≡ Some l → sorted_of description ≡ Some k
     → let c = behind (fresh_one id secret width) acts in
     let lives = lives_of (fresh_one id secret width) no_lives acts in
     let past = history (fresh_with id secret width) (sender_life lives protected c.handshake.state) [] in
-    (alert_sent c protected level description answered (length out)).outcome ≡ O.Done
+    (alert_sent c protected level description answered (length out)).outcome ≡ Ok tt
     → AlertRecord protected (keys_in (session_of id secret) past) past (alert_body l k answered)
     (take (alert_sent c protected level description answered (length out)).written
     (alert_output c protected level description answered out))

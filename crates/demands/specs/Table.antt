@@ -1,12 +1,12 @@
 -- The state table of 01, "Handshake", and the refusals of a record, "Refusal numbers", of one handshake: each row as a rule
 -- from its state and the bytes of a record to its answer and to what it leaves. "Per record: 7; then place and state (8);
 -- then code and window; then content 12, then 13, 14 or 17." Which handshake of a connection a record is for: `Asked`.
-use Rattle.std.specs.Prelude.{◌≡◌, ◌↔◌, ◌⊎◌, ◌≢◌, true, false, List, ℕ, ◌+◌, ◌<◌, length, get_or}
+use Rattle.std.specs.Prelude.{◌≡◌, ◌↔◌, ◌⊎◌, ◌≢◌, true, false, List, ℕ, ◌+◌, ◌<◌, length, get_or, Err, None, Ok, Some}
 use Rattle.record.specs.Window.{accept_of, emptied}
 use Rattle.record.specs.declared.header.Content.{Content}
 use Rattle.record.specs.declared.header.Content.TheVariants as C
 use Rattle.record.specs.declared.window.Window.{Window}
-use Rattle.record.specs.declared.window.Acceptance.TheVariants as A
+use Rattle.record.specs.declared.window.NotNew.TheVariants as A
 use Rattle.record.specs.declared.reader.Record.{Record}
 use Rattle.message.specs.Acceptance.{heard_of}
 use Rattle.message.specs.Alert.{alert_of}
@@ -14,12 +14,11 @@ use Rattle.message.specs.Change.{is_change}
 use Rattle.message.specs.Finished.{judged_of}
 use Rattle.message.specs.declared.acceptance.Plan.{Plan}
 use Rattle.message.specs.declared.acceptance.Condition.{Condition}
-use Rattle.message.specs.declared.acceptance.Heard.TheVariants as H
+use Rattle.message.specs.declared.acceptance.Unheard.TheVariants as H
 use Rattle.message.specs.declared.hello.Field.{Field}
 use Rattle.message.specs.declared.alert.Alert.{Alert}
 use Rattle.message.specs.declared.alert.Level.TheVariants as L
-use Rattle.message.specs.declared.alert.Reading.TheVariants as R
-use Rattle.message.specs.declared.finished.Verified.TheVariants as F
+use Rattle.message.specs.declared.finished.Unverified.TheVariants as F
 use Rattle.connection.specs.Handshake.{with_state, with_window, barred, kept_hello, kept_reply, planted}
 use Rattle.connection.specs.Sent.{matches_of}
 use Rattle.connection.specs.Answer.{judged, refusing}
@@ -81,14 +80,14 @@ pub record New (h : Handshake) (d : List ℕ) (r : Record) (c : List ℕ) (w : W
   pub guarded : Guarded h.state (seen_in d r)
   pub coded : Protected (keys_of h) d r c
   pub arrived : ℕ
-  pub accepted : accept_of h.protection.window r.number ≡ A.New w arrived
+  pub accepted : accept_of h.protection.window r.number ≡ Ok (w, arrived)
 
 -- 12 under protection: "empty data", an alert or a Finished that is none, "change cipher spec or a message other than
 -- Finished under protection"
 abbrev pub MalformedAs : Content → List ℕ → List ℕ → Type 0
 MalformedAs C.ChangeCipherSpec c expected = Unit
-MalformedAs C.Alert c expected = alert_of c ≡ R.Malformed
-MalformedAs C.Handshake c expected = judged_of c expected ≡ F.Malformed
+MalformedAs C.Alert c expected = alert_of c ≡ None
+MalformedAs C.Handshake c expected = judged_of c expected ≡ Err F.Malformed
 MalformedAs C.Data c expected = length c ≡ 0
 
 -- The rows: the record r of the datagram d, in the handshake h, with our random and the records that we sent, gives this
@@ -101,15 +100,15 @@ pub data Row (h : Handshake) (sent : SentRecords) (random d : List ℕ) (r : Rec
       → Row h sent random d r (refusing X.NotAllowed h)
   -- "Idle | clear ClientHello | reply; Replied" and "Replied, Spec | another acceptable ClientHello | new reply;
   -- Replied"
-  row_reply : (plan : Plan) → Greets h (seen_in d r) → heard_of (fragment_of d r) h.id ≡ H.Accepted plan
+  row_reply : (plan : Plan) → Greets h (seen_in d r) → heard_of (fragment_of d r) h.id ≡ Ok plan
       → Row h sent random d r
       (judged (W.Reply (length (reply_to (planted h) random (fragment_of d r) plan)))
       (answered_with h random (fragment_of d r) plan))
   -- 12 and 13 of a hello
-  row_hello_malformed : (fault : Field) → Greets h (seen_in d r) → heard_of (fragment_of d r) h.id ≡ H.Malformed fault
+  row_hello_malformed : (fault : Field) → Greets h (seen_in d r) → heard_of (fragment_of d r) h.id ≡ Err (H.Malformed fault)
       → Row h sent random d r (refusing X.Malformed h)
   row_unacceptable : (condition : Condition) → Greets h (seen_in d r)
-      → heard_of (fragment_of d r) h.id ≡ H.Unacceptable condition
+      → heard_of (fragment_of d r) h.id ≡ Err (H.Unacceptable condition)
       → Row h sent random d r (refusing X.Unacceptable h)
   -- "Replied, Spec | the same ClientHello message | the same reply bytes; no change"
   row_resent : Hears h.state → IsHello (seen_in d r) → r.start ≡ 0 → fragment_of d r ≡ kept_hello h
@@ -126,28 +125,28 @@ pub data Row (h : Handshake) (sent : SentRecords) (random d : List ℕ) (r : Rec
       → Row h sent random d r (refusing X.Malformed h)
   -- "Replied, Spec | clear alert | by level"; 12, then 14: "clear alert with another checksum"
   row_clear_malformed : Hears h.state → r.protected ≡ false → r.content ≡ C.Alert
-      → alert_of (fragment_of d r) ≡ R.Malformed
+      → alert_of (fragment_of d r) ≡ None
       → Row h sent random d r (refusing X.Malformed h)
   row_checksum : (a : Alert) → Hears h.state → r.protected ≡ false → r.content ≡ C.Alert
-      → alert_of (fragment_of d r) ≡ R.WellFormed a → matches_of sent a.checksum ≡ false
+      → alert_of (fragment_of d r) ≡ Some a → matches_of sent a.checksum ≡ false
       → Row h sent random d r (refusing X.Checksum h)
   row_clear_warning : (a : Alert) → Hears h.state → r.protected ≡ false → r.content ≡ C.Alert
-      → alert_of (fragment_of d r) ≡ R.WellFormed a → matches_of sent a.checksum ≡ true → a.level ≡ L.Warning
+      → alert_of (fragment_of d r) ≡ Some a → matches_of sent a.checksum ≡ true → a.level ≡ L.Warning
       → Row h sent random d r (judged (W.Warning a.description) h)
   row_clear_critical : (a : Alert) → Hears h.state → r.protected ≡ false → r.content ≡ C.Alert
-      → alert_of (fragment_of d r) ≡ R.WellFormed a → matches_of sent a.checksum ≡ true → a.level ≡ L.Critical
+      → alert_of (fragment_of d r) ≡ Some a → matches_of sent a.checksum ≡ true → a.level ≡ L.Critical
       → Row h sent random d r (judged (W.Critical a.description) (with_state h Closed))
   row_clear_fatal : (a : Alert) → Hears h.state → r.protected ≡ false → r.content ≡ C.Alert
-      → alert_of (fragment_of d r) ≡ R.WellFormed a → matches_of sent a.checksum ≡ true → a.level ≡ L.Fatal
+      → alert_of (fragment_of d r) ≡ Some a → matches_of sent a.checksum ≡ true → a.level ≡ L.Fatal
       → Row h sent random d r (judged (W.Fatal a.description) (with_state h Closed))
   -- 9: "code not right"; 10: "too old"; 11: "repeated"
   row_forged : Guarded h.state (seen_in d r) → ((c : List ℕ) → Protected (keys_of h) d r c → ⊥)
       → Row h sent random d r (refusing X.Forged h)
   row_old : (c : List ℕ) → Guarded h.state (seen_in d r) → Protected (keys_of h) d r c
-      → accept_of h.protection.window r.number ≡ A.TooOld
+      → accept_of h.protection.window r.number ≡ Err A.TooOld
       → Row h sent random d r (refusing X.TooOld h)
   row_repeated : (c : List ℕ) → Guarded h.state (seen_in d r) → Protected (keys_of h) d r c
-      → accept_of h.protection.window r.number ≡ A.Repeated
+      → accept_of h.protection.window r.number ≡ Err A.Repeated
       → Row h sent random d r (refusing X.Repeated h)
   -- "A genuine new record marks its number even if its content is then refused."
   row_malformed : (c : List ℕ) (w : Window) → New h d r c w → MalformedAs r.content c h.expected
@@ -157,25 +156,25 @@ pub data Row (h : Handshake) (sent : SentRecords) (random d : List ℕ) (r : Rec
       → Row h sent random d r (judged (W.Data r.number (r.start + r.head) (length c)) (with_window h w))
   -- "Spec, Open | protected alert | by level"
   row_warning : (c : List ℕ) (w : Window) (a : Alert) → New h d r c w → r.content ≡ C.Alert
-      → alert_of c ≡ R.WellFormed a → a.level ≡ L.Warning
+      → alert_of c ≡ Some a → a.level ≡ L.Warning
       → Row h sent random d r (judged (W.Warning a.description) (with_window h w))
   row_critical : (c : List ℕ) (w : Window) (a : Alert) → New h d r c w → r.content ≡ C.Alert
-      → alert_of c ≡ R.WellFormed a → a.level ≡ L.Critical
+      → alert_of c ≡ Some a → a.level ≡ L.Critical
       → Row h sent random d r (judged (W.Critical a.description) (with_state (with_window h w) Closed))
   row_barred : (c : List ℕ) (w : Window) (a : Alert) → New h d r c w → r.content ≡ C.Alert
-      → alert_of c ≡ R.WellFormed a → a.level ≡ L.Fatal
+      → alert_of c ≡ Some a → a.level ≡ L.Fatal
       → Row h sent random d r (judged (W.Barred a.description) (barred (with_window h w)))
   -- "Spec | protected Finished, right contents | Open"
   row_open : (c : List ℕ) (w : Window) → New h d r c w → h.state ≡ Spec → r.content ≡ C.Handshake
-      → judged_of c h.expected ≡ F.Right
+      → judged_of c h.expected ≡ Ok tt
       → Row h sent random d r (judged W.Open (with_state (with_window h w) Open))
   -- "Open | protected Finished under a new number, right contents | "again", Open kept"
   row_again : (c : List ℕ) (w : Window) → New h d r c w → h.state ≡ Open → r.content ≡ C.Handshake
-      → judged_of c h.expected ≡ F.Right
+      → judged_of c h.expected ≡ Ok tt
       → Row h sent random d r (judged W.Again (with_window h w))
   -- 17: "genuine Finished with wrong contents", which also closes
   row_wrong_finished : (c : List ℕ) (w : Window) → New h d r c w → r.content ≡ C.Handshake
-      → judged_of c h.expected ≡ F.Wrong
+      → judged_of c h.expected ≡ Err F.Wrong
       → Row h sent random d r (judged (W.Refused X.WrongFinished) (with_state (with_window h w) Closed))
 
 -- The table holds, and nothing else does: a record is answered so exactly if there is a row that says so.

@@ -1,7 +1,7 @@
 -- Small cases of demand 3 that are easy to get wrong. A genuine record refused 12 is accepted all the same; two
 -- records of one number in one datagram; a closing record in the midst of a datagram. Each from the Open connection
 -- of a worked handshake, with any acceptable hello.
-use Rattle.std.specs.Prelude.{◌≡◌, true, false, List, [], ◌∷◌, ◌++◌, ℕ, ◌≤◌, ◌<◌, length}
+use Rattle.std.specs.Prelude.{◌≡◌, true, false, List, [], ◌∷◌, ◌++◌, ℕ, ◌≤◌, ◌<◌, length, Ok}
 use Rattle.digest.specs.Hmac.{hmac}
 use Rattle.digest.specs.Mac.{size_of}
 use Rattle.record.specs.Code.{protected_by}
@@ -15,7 +15,7 @@ use Rattle.connection.specs.declared.state.State.TheVariants.{Open}
 use Rattle.connection.specs.declared.answer.Answer.TheVariants as W
 use Rattle.connection.specs.declared.refusal.Refusal.TheVariants as X
 use Rattle.connection.specs.declared.connection.Connection.{Connection}
-use Rattle.connection.specs.declared.receive.Taken.TheVariants as T
+use Rattle.connection.specs.declared.receive.Untaken.TheVariants as T
 use Rattle.demands.specs.Runs.{receive, received, Gateway}
 use Rattle.record.specs.declared.keys.Keys.{Keys}
 use Rattle.demands.specs.Genuine.{unit_key, keys_of}
@@ -42,10 +42,10 @@ EmptyThenData g =
     (c : Connection) → JustOpen c → (random out bytes : List ℕ) → length random ≡ 16 → 128 ≤ length out
     → length bytes ≤ 1300
     → ((g c (receive (last_protected (keys_of c.handshake) C.Data 7 []) random out)).result
-    ≡ received (T.Records 1) (slots_of (W.Refused X.Malformed ∷ [])) 0)
+    ≡ received (Ok 1) (slots_of (W.Refused X.Malformed ∷ [])) 0)
     × ((g (g c (receive (last_protected (keys_of c.handshake) C.Data 7 []) random out)).connection
     (receive (last_protected (keys_of c.handshake) C.Data 7 bytes) random out)).result
-    ≡ received (T.Records 1) (slots_of (W.Refused X.Repeated ∷ [])) 0)
+    ≡ received (Ok 1) (slots_of (W.Refused X.Repeated ∷ [])) 0)
 
 -- two records of one number in one datagram: data, 11
 abbrev pub twice : Keys → List ℕ → List ℕ → List ℕ
@@ -57,7 +57,7 @@ TwiceInOne g =
     → 1 ≤ length one → length one ≤ 600
     → length two ≤ 600
     → (g c (receive (twice (keys_of c.handshake) one two) random out)).result
-    ≡ received (T.Records 2) (slots_of (W.Data 7 5 (length one) ∷ W.Refused X.Repeated ∷ [])) 0
+    ≡ received (Ok 2) (slots_of (W.Data 7 5 (length one) ∷ W.Refused X.Repeated ∷ [])) 0
 
 -- data, critical, data in one datagram: data, critical, 7
 abbrev pub with_alert : Keys → List ℕ → List ℕ → List ℕ → List ℕ
@@ -70,4 +70,4 @@ ClosedBetween g =
     → 1 ≤ length one → length one ≤ 600 → length two ≤ 600 → checksum < 4294967296
     → (g c
     (receive (with_alert (keys_of c.handshake) one (alert_bytes Critical description checksum) two) random out)).result
-    ≡ received (T.Records 3) (slots_of (W.Data 7 5 (length one) ∷ W.Critical description ∷ W.Refused X.Ended ∷ [])) 0
+    ≡ received (Ok 3) (slots_of (W.Data 7 5 (length one) ∷ W.Critical description ∷ W.Refused X.Ended ∷ [])) 0

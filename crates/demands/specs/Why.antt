@@ -1,12 +1,12 @@
 -- 02, P5, "Why was this report dropped?": the tool "names a refusal exactly when receiving would give it, the facts shown are true, and
 -- they are enough to bring that refusal about. Asking changes nothing."
-use Rattle.std.specs.Prelude.{◌≡◌, ◌↔◌, ◌⊎◌, ◌≢◌, List, [], ◌∷◌, ℕ, ◌<◌, length}
+use Rattle.std.specs.Prelude.{◌≡◌, ◌↔◌, ◌⊎◌, ◌≢◌, List, [], ◌∷◌, ℕ, ◌<◌, length, Err, Ok}
+use Rattle.connection.specs.declared.receive.Untaken.{Untaken}
 use Rattle.record.specs.Window.{Held}
 use Rattle.connection.specs.Answer.{answer_number}
 use Rattle.connection.specs.Receive.{taken_number}
 use Rattle.connection.specs.declared.connection.Connection.{Connection}
-use Rattle.connection.specs.declared.receive.Taken.{Taken}
-use Rattle.connection.specs.declared.receive.Taken.TheVariants as T
+use Rattle.connection.specs.declared.receive.Untaken.TheVariants as T
 use Rattle.record.specs.declared.reader.Fault.{Fault}
 use Rattle.why.specs.Reason.{reason_number}
 use Rattle.why.specs.Why.{why_of}
@@ -20,10 +20,10 @@ use Rattle.demands.specs.Exactly.Answers.{answer_given, place_of}
 use Rattle.demands.specs.Facts.{KnownEdition, PastLast, WholeFacts, RecordFacts, ShownWith, Place}
 
 -- the number that a receive gives at an index: of the whole datagram, or of that answer; 0 where it is no refusal
-abbrev pub number_at : Taken → ℕ → ℕ
-number_at (T.Records count) own = own
-number_at (T.Refused refusal) own = taken_number (T.Refused refusal)
-number_at (T.Misframed refusal at) own = taken_number (T.Misframed refusal at)
+abbrev pub number_at : Result ℕ Untaken → ℕ → ℕ
+number_at (Ok count) own = own
+number_at (Err (T.Refused refusal)) own = taken_number (Err (T.Refused refusal))
+number_at (Err (T.Misframed refusal at)) own = taken_number (Err (T.Misframed refusal at))
 
 abbrev pub number_given : Result → ℕ → ℕ
 number_given (received taken answers written) i = number_at taken (answer_number (answer_given (received taken answers written) i))

@@ -1,7 +1,7 @@
 -- It works: for every session, width, acceptable hello and random there is the reply; then change cipher spec, the Finished
 -- that the definitions give, and data of at least one byte are answered spec, open, data. So that no premise of the
 -- other statements is empty.
-use Rattle.std.specs.Prelude.{◌≡◌, ◌≢◌, false, List, [], ◌∷◌, ℕ, ◌≤◌, length}
+use Rattle.std.specs.Prelude.{◌≡◌, ◌≢◌, false, List, [], ◌∷◌, ℕ, ◌≤◌, length, Ok}
 use Rattle.digest.specs.Bytes.{laid_over}
 use Rattle.digest.specs.Hmac.{hmac}
 use Rattle.digest.specs.Mac.{size_of}
@@ -13,7 +13,6 @@ use Rattle.message.specs.Acceptance.{heard_of}
 use Rattle.message.specs.Change.{change_bytes}
 use Rattle.message.specs.Finished.{finished_of}
 use Rattle.message.specs.declared.acceptance.Plan.{Plan}
-use Rattle.message.specs.declared.acceptance.Heard.TheVariants.{Accepted}
 use Rattle.connection.specs.Answer.{handed_of}
 use Rattle.connection.specs.Calls.{session_of}
 use Rattle.connection.specs.Receive.{slots_of}
@@ -21,14 +20,13 @@ use Rattle.connection.specs.Reply.{reply_to, expected_of, client_random}
 use Rattle.connection.specs.declared.answer.Answer.{Answer}
 use Rattle.connection.specs.declared.answer.Answer.TheVariants as W
 use Rattle.connection.specs.declared.connection.Connection.{Connection}
-use Rattle.connection.specs.declared.receive.Taken.TheVariants as T
+use Rattle.connection.specs.declared.receive.Untaken.TheVariants as T
 use Rattle.demands.specs.Runs.{receive, send_alert, Result, received, sent, Gateway}
 use Rattle.record.specs.declared.keys.Keys.{Keys}
 use Rattle.demands.specs.Genuine.{unit_key, keys_of}
 use Rattle.demands.specs.Runs.{fresh_with}
 use Rattle.record.specs.Window.{Held}
 use Rattle.connection.specs.Connection.{alone, connection_of}
-use Rattle.connection.specs.declared.calls.Outcome.TheVariants.{Done}
 use Rattle.connection.specs.declared.refusal.Refusal.TheVariants as X
 use Rattle.connection.specs.Handshake.{planted, kept_hello, kept_reply, none_started}
 use Rattle.connection.specs.declared.state.State.TheVariants.{Open}
@@ -48,7 +46,7 @@ keys_after secret random m plan =
 
 -- one record, one answer, so many bytes written
 abbrev pub one_answer : Answer → ℕ → Result
-one_answer a written = received (T.Records 1) (slots_of (a ∷ [])) written
+one_answer a written = received (Ok 1) (slots_of (a ∷ [])) written
 
 pub record Worked (g : Gateway) (id secret : List ℕ) (width : ℕ) (m random out bytes : List ℕ) (plan : Plan) : Type 0 where
   pub c₁ : Connection
@@ -76,7 +74,7 @@ pub record Worked (g : Gateway) (id secret : List ℕ) (width : ℕ) (m random o
 unfoldable pub Works : Gateway → Type 0
 Works g =
     (id secret : List ℕ) (width : ℕ) → Held width → (m random out bytes : List ℕ) (plan : Plan) → length random ≡ 16 → 128 ≤ length out
-    → heard_of m id ≡ Accepted plan → 1 ≤ length bytes → length bytes ≤ 1300
+    → heard_of m id ≡ Ok plan → 1 ≤ length bytes → length bytes ≤ 1300
     → Worked g id secret width m random out bytes plan
 
 -- A unit that rebooted (02, P6): on every open connection of a session, another acceptable hello gets its reply, and then change cipher
@@ -104,7 +102,7 @@ pub record Rebooted (g : Gateway) (secret : List ℕ) (c : Connection) (session 
       ≡ record { result = one_answer (W.Data 1 3 (length bytes)) 0; output = out; connection = c₄ }
   pub open_kept : (c₁.handshake ≡ c.handshake) × (c₂.handshake ≡ c.handshake)
   -- meanwhile, in Open: "clear alerts on the started one"
-  pub alert_goes : (g c₁ (send_alert false 1 0 [] out)).result ≡ sent Done 9
+  pub alert_goes : (g c₁ (send_alert false 1 0 [] out)).result ≡ sent (Ok tt) 9
   -- "17 under the started keys, drops just that"
   pub wrong_drops : (wrong : List ℕ) → length wrong ≡ 12 → wrong ≢ expected_of session random m plan
       → g c₂ (receive (protected_datagram (keys_after secret random m plan) C.Handshake 0 (finished_of wrong)) random out)
@@ -122,5 +120,5 @@ Reboots g =
     → planted c.handshake ≡ session_of id secret → c.handshake.protection.window.width ≡ width
     → (m random out bytes : List ℕ) (plan : Plan) → length random ≡ 16 → 128 ≤ length out
     → m ≢ kept_hello c.handshake → (Hears c.started.state → m ≢ kept_hello c.started)
-    → heard_of m id ≡ Accepted plan → 1 ≤ length bytes → length bytes ≤ 1300
+    → heard_of m id ≡ Ok plan → 1 ≤ length bytes → length bytes ≤ 1300
     → Rebooted g secret c (session_of id secret) m random out bytes plan

@@ -22,7 +22,7 @@ use Rattle.record.specs.Datagram.{framed, framing_of}
 use Rattle.record.specs.declared.header.Content.TheVariants as C
 use Rattle.record.specs.declared.keys.Sense.TheVariants.{FromShore, FromUnit}
 use Rattle.record.specs.declared.window.Window.{Window}
-use Rattle.record.specs.declared.window.Acceptance.TheVariants as A
+use Rattle.record.specs.declared.window.NotNew.TheVariants as A
 use Rattle.record.specs.declared.protection.Protection.{Protection}
 use Rattle.record.specs.declared.protection.Opening.{Opening}
 use Rattle.record.specs.declared.reader.Record.{Record}
@@ -32,13 +32,12 @@ use Rattle.message.specs.Change.{is_change, change_bytes}
 use Rattle.message.specs.Finished.{judged_of}
 use Rattle.message.specs.Request.{is_request}
 use Rattle.message.specs.declared.acceptance.Plan.{Plan}
-use Rattle.message.specs.declared.agreement.Agreement.TheVariants as G
-use Rattle.message.specs.declared.finished.Verified.TheVariants as F
+use Rattle.message.specs.declared.agreement.Disagreed.TheVariants as G
+use Rattle.message.specs.declared.finished.Unverified.TheVariants as F
 use Rattle.connection.specs.Judge.{fragment_of}
 use Rattle.connection.specs.Sent.{sum_of}
-use Rattle.connection.specs.declared.calls.Outcome.TheVariants.{Done}
 use Rattle.connection.specs.declared.refusal.Refusal.TheVariants.{Room, Argument, Malformed}
-use Rattle.connection.specs.declared.receive.Taken.TheVariants.{Records, Refused}
+use Rattle.connection.specs.declared.receive.Untaken.TheVariants.{Refused}
 use Rattle.demands.proofs.Refusals.{laid_front}
 use Rattle.digest.specs.Bytes.{laid_over}
 use Rattle.unit.specs.Answer.{opens_to}
@@ -62,6 +61,7 @@ use Rattle.unit.specs.declared.answer.Answer.TheVariants as W
 use Rattle.unit.specs.declared.step.Move.TheVariants as M
 use Rattle.unit.specs.declared.agree.Judged.{Judged}
 use Rattle.unit.specs.declared.unit.Unit.{Unit as ShipsUnit}
+use Rattle.std.specs.Prelude.{Err, Ok}
 
 -- data and alerts go both ways: Opening, and Open
 abbrev pub Talks : State → Type 0
@@ -71,7 +71,7 @@ Talks s = (s ≡ S.Opening) ⊎ (s ≡ S.Open)
 
 -- its content is the front of its fragment
 pub unprotects : (p : Protection) (expected : List ℕ) (state : State) (kind : Kind) (byte number at : ℕ) (f c : List ℕ) (w : Window) (n : ℕ)
-    → CodedUnder p.keys FromShore number byte f c → accept_of p.window number ≡ A.New w n
+    → CodedUnder p.keys FromShore number byte f c → accept_of p.window number ≡ Ok (w, n)
     → unprotected_by p expected state kind byte number at f ≡ content_by w p.keys.mac expected state kind number at c
 unfolding unprotected_by fragment_by
 unprotects p expected state kind byte number at f c w n coded new =
@@ -84,7 +84,7 @@ unprotects p expected state kind byte number at f c w n coded new =
 module _ (u : ShipsUnit) (d : List ℕ) (r : Record) where
   -- a row that opens a record, by the kind of it
   opens_by : (kind : Kind) → kind_in d r ≡ kind → rule_of u.state kind ≡ T.Unprotect → (c : List ℕ) (w : Window) (n : ℕ)
-      → CodedUnder u.protection.keys FromShore r.number r.byte (fragment_of d r) c → accept_of u.protection.window r.number ≡ A.New w n
+      → CodedUnder u.protection.keys FromShore r.number r.byte (fragment_of d r) c → accept_of u.protection.window r.number ≡ Ok (w, n)
       → judged_record u d r ≡ stepped_by u (content_by w u.protection.keys.mac u.expected u.state kind r.number (r.start + r.head) c)
   unfolding judged_record ruled_by step_by
   opens_by kind ek er c w n coded new =
@@ -102,7 +102,7 @@ module _ (u : ShipsUnit) (d : List ℕ) (r : Record) where
 
   -- data
   pub data_taken : Talks u.state → r.content ≡ C.Data → r.protected ≡ true → (c : List ℕ) (w : Window) (n : ℕ)
-      → CodedUnder u.protection.keys FromShore r.number r.byte (fragment_of d r) c → accept_of u.protection.window r.number ≡ A.New w n
+      → CodedUnder u.protection.keys FromShore r.number r.byte (fragment_of d r) c → accept_of u.protection.window r.number ≡ Ok (w, n)
       → 1 ≤ length c
       → judged_record u d r ≡ judged (W.Data r.number (r.start + r.head) (length c)) (with_state (with_window u w) S.Open)
   unfolding content_by left_by
@@ -113,8 +113,8 @@ module _ (u : ShipsUnit) (d : List ℕ) (r : Record) where
 
   -- the Finished that opens
   pub finished_taken : u.state ≡ S.Spec → r.content ≡ C.Handshake → r.protected ≡ true → (c : List ℕ) (w : Window) (n : ℕ)
-      → CodedUnder u.protection.keys FromShore r.number r.byte (fragment_of d r) c → accept_of u.protection.window r.number ≡ A.New w n
-      → is_request c ≡ false → judged_of c u.expected ≡ F.Right
+      → CodedUnder u.protection.keys FromShore r.number r.byte (fragment_of d r) c → accept_of u.protection.window r.number ≡ Ok (w, n)
+      → is_request c ≡ false → judged_of c u.expected ≡ Ok tt
       → judged_record u d r ≡ judged (W.Open (flight_size u.protection.keys.mac)) (opened (with_window u w))
   unfolding content_by handshake_by verified_by left_by
   finished_taken spec ec ep c w n coded new other right =
@@ -126,7 +126,7 @@ module _ (u : ShipsUnit) (d : List ℕ) (r : Record) where
 
   -- a ServerHello that answers the offer
   pub hello_taken : rule_of u.state K.ClearHello ≡ T.Agree → r.content ≡ C.Handshake → r.protected ≡ false → r.start ≡ 0
-      → (m : List ℕ) → fragment_of d r ≡ m → get_or m 0 0 ≡ 2 → (plan : Plan) → agreement_of m u.id u.offer ≡ G.Agreed plan
+      → (m : List ℕ) → fragment_of d r ≡ m → get_or m 0 0 ≡ 2 → (plan : Plan) → agreement_of m u.id u.offer ≡ Ok plan
       → judged_record u d r ≡ judged W.Hello (agreed_with u m plan)
   unfolding judged_record ruled_by agreed_by
   hello_taken rule ec ep es m em first plan agreed =
@@ -173,7 +173,7 @@ module _ (u : ShipsUnit) (d out : List ℕ) (rs : List Record) (answers : List A
 
   pub record Took : Type 0 where
     pub gives : received_of u d (length out)
-        ≡ record { taken = Records (length rs); answers = slots_of answers; written = length flying; unit = left }
+        ≡ record { taken = Ok (length rs); answers = slots_of answers; written = length flying; unit = left }
     pub writes : output_of u d out ≡ laid_over out 0 flying
 
   pub took : Took
@@ -184,8 +184,8 @@ module _ (u : ShipsUnit) (d out : List ℕ) (rs : List Record) (answers : List A
       let flight_is : flight_in u d rs ≡ flying = ap₂ (λ (x : List Answer) (y : ShipsUnit). take (opens_to 0 x) y.flight) q.0 q.1 in
       record {
         gives =
-            ap₂ (λ b x. pick b (whole_of u (Refused Room)) (framed_to u d x)) wide f
-            ∙ (λ i. record { taken = Records (length rs); answers = slots_of (q.0 i); written = length (flight_is i); unit = q.1 i });
+            ap₂ (λ b x. pick b (whole_of u (Err (Refused Room))) (framed_to u d x)) wide f
+            ∙ (λ i. record { taken = Ok (length rs); answers = slots_of (q.0 i); written = length (flight_is i); unit = q.1 i });
         writes = ap₂ (λ b x. pick b out (laid_over out 0 (sent_of u d x))) wide f ∙ ap (laid_over out 0) flight_is;
       }
 
@@ -197,14 +197,14 @@ module _ (u : ShipsUnit) (bytes out : List ℕ) (some : 1 ≤ length bytes) (mos
   next = next_record u.protection FromUnit C.Data bytes
 
   pub record Sent : Type 0 where
-    pub done : (data_sent u bytes (length out)).outcome ≡ Done
+    pub done : (data_sent u bytes (length out)).outcome ≡ Ok tt
     pub leaves : (data_sent u bytes (length out)).unit ≡ with_sent u (counted_on u.protection) (sum_of next)
     pub datagram : take (data_sent u bytes (length out)).written (data_output u bytes out) ≡ next
 
-  allowed : may_protect u.state ≡ Done
+  allowed : may_protect u.state ≡ Ok tt
   allowed = by talks
     where
-      by : Talks u.state → may_protect u.state ≡ Done
+      by : Talks u.state → may_protect u.state ≡ Ok tt
       by (inl e) = ap may_protect e
       by (inr e) = ap may_protect e
 

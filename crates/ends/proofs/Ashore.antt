@@ -13,22 +13,22 @@ use Rattle.connection.specs.Receive.{received_of, output_of, first_reply, slots_
 use Rattle.connection.specs.Send.{data_sent, data_output, next_protected, after_send}
 use Rattle.connection.specs.declared.answer.Answer.{Answer}
 use Rattle.connection.specs.declared.answer.Slot.{Slot}
-use Rattle.connection.specs.declared.calls.Outcome.{Outcome}
-use Rattle.connection.specs.declared.calls.Outcome.TheVariants as O
 use Rattle.connection.specs.declared.connection.Connection.{Connection}
-use Rattle.connection.specs.declared.receive.Taken.{Taken}
-use Rattle.connection.specs.declared.receive.Taken.TheVariants as T
+use Rattle.connection.specs.declared.receive.Untaken.TheVariants as T
 use Rattle.connection.specs.declared.state.State.TheVariants as S
 use Rattle.demands.specs.Runs.{Result, received, sent, called, Step, step_of}
 use Rattle.demands.specs.Calls.{Chain, GoodData, data_sent_lem}
 use Rattle.demands.proofs.Calls.{by_chain, call_is}
 use Rattle.demands.proofs.Refusals.{laid_front}
+use Rattle.std.specs.Prelude.{Ok, ⊤}
+use Rattle.connection.specs.declared.receive.Untaken.{Untaken}
+use Rattle.connection.specs.declared.refusal.Refusal.{Refusal}
 
 -- what stands in a result
-abbrev taken_in : Result → Taken
+abbrev taken_in : Result → Result ℕ Untaken
 taken_in (received taken answers written) = taken
-taken_in (sent outcome written) = T.Records 0
-taken_in (called outcome) = T.Records 0
+taken_in (sent outcome written) = Ok 0
+taken_in (called outcome) = Ok 0
 
 abbrev slots_in : Result → List Slot
 slots_in (received taken answers written) = answers
@@ -40,8 +40,8 @@ written_in (received taken answers written) = written
 written_in (sent outcome written) = written
 written_in (called outcome) = 0
 
-abbrev outcome_in : Result → Outcome
-outcome_in (received taken answers written) = O.Done
+abbrev outcome_in : Result → Result ⊤ Refusal
+outcome_in (received taken answers written) = Ok tt
 outcome_in (sent outcome written) = outcome
 outcome_in (called outcome) = outcome
 
@@ -51,7 +51,7 @@ module _ (c : Connection) (d random out : List ℕ) (rs : List Record) (answers 
     (lo : 128 ≤ length out) (f : framing_of d ≡ framed rs) (chain : Chain random d c rs answers left) where
   pub record Took : Type 0 where
     pub gives : received_of c d random (length out)
-        ≡ record { taken = T.Records (length rs); answers = slots_of answers; written = length (first_reply c random d rs); connection = left }
+        ≡ record { taken = Ok (length rs); answers = slots_of answers; written = length (first_reply c random d rs); connection = left }
     pub writes : output_of c d random out ≡ laid_over out 0 (first_reply c random d rs)
 
   pub took : Took
@@ -71,7 +71,7 @@ module _ (c : Connection) (bytes out : List ℕ) (good : GoodData bytes) (is_ope
   next = next_protected c.handshake C.Data bytes
 
   pub record Sent : Type 0 where
-    pub done : (data_sent c bytes (length out)).outcome ≡ O.Done
+    pub done : (data_sent c bytes (length out)).outcome ≡ Ok tt
     pub leaves : (data_sent c bytes (length out)).connection ≡ after_send true c next
     pub datagram : take (data_sent c bytes (length out)).written (data_output c bytes out) ≡ next
 

@@ -23,16 +23,11 @@ use Rattle.record.proofs.Histories.{decide}
 use Rattle.record.proofs.Protecting.{wrote_when, output_when}
 use Rattle.message.specs.Alert.{level_of, sorted_of}
 use Rattle.message.specs.declared.alert.Description.{Description}
-use Rattle.message.specs.declared.alert.Graded.{Graded}
-use Rattle.message.specs.declared.alert.Graded.TheVariants as G
 use Rattle.message.specs.declared.alert.Level.{Level}
-use Rattle.message.specs.declared.alert.Sorted.{Sorted}
-use Rattle.message.specs.declared.alert.Sorted.TheVariants as D
 use Rattle.connection.specs.Answer.{handed_of}
 use Rattle.connection.specs.Send.{alert_body}
 use Rattle.connection.specs.Sent.{sum_of}
-use Rattle.connection.specs.declared.calls.Outcome.TheVariants as O
-use Rattle.connection.specs.declared.receive.Taken.TheVariants as T
+use Rattle.connection.specs.declared.receive.Untaken.TheVariants as T
 use Rattle.connection.specs.declared.refusal.Refusal.{Refusal}
 use Rattle.connection.specs.declared.refusal.Refusal.TheVariants as X
 use Rattle.unit.specs.Answer.{as_ashore, slot}
@@ -67,6 +62,7 @@ use Rattle.demands.proofs.Ship.HandedOut.{along_all, data_facts, due_exactly, du
 use Rattle.demands.proofs.Ship.Table.{row_of, row_is}
 use Rattle.ends.specs.Link.{GenuineFor, Handed, handed, number_in, handed_as, out_aboard}
 use Rattle.ends.proofs.Courses.{DueFor, Taken, nothing, hands, passes, step_for, stays_shut}
+use Rattle.std.specs.Prelude.{Err, None, Ok, Option, Some}
 
 -- ---- what the answers of a datagram hand out
 
@@ -205,15 +201,15 @@ module _ (u : Ship) (d out : List ℕ) (lo : 128 ≤ length out) where
   unfolding received_of run_of
   framed_out rs f =
       let e : received_of u d (length out) ≡ run_of u d rs
-      = ap (λ a. pick a (whole_of u (T.Refused X.Room)) (framed_to u d (framing_of d))) (le-ltb (length out) 128 lo) ∙ ap (framed_to u d) f in
+      = ap (λ a. pick a (whole_of u (Err (T.Refused X.Room))) (framed_to u d (framing_of d))) (le-ltb (length out) 128 lo) ∙ ap (framed_to u d) f in
       (ap (λ (x : Received). out_aboard d x.answers) e ∙ out_answers_lem d (answers_of u d rs), ap (λ (x : Received). x.unit) e)
 
   pub faulty_out : (fault : Fault) (at : ℕ) → framing_of d ≡ faulty fault at
       → (out_aboard d (received_of u d (length out)).answers ≡ []) × ((received_of u d (length out)).unit ≡ u)
   unfolding received_of whole_of out_answers
   faulty_out fault at f =
-      let e : received_of u d (length out) ≡ whole_of u (T.Misframed (X.Framing fault) at)
-      = ap (λ a. pick a (whole_of u (T.Refused X.Room)) (framed_to u d (framing_of d))) (le-ltb (length out) 128 lo) ∙ ap (framed_to u d) f in
+      let e : received_of u d (length out) ≡ whole_of u (Err (T.Misframed (X.Framing fault) at))
+      = ap (λ a. pick a (whole_of u (Err (T.Refused X.Room))) (framed_to u d (framing_of d))) (le-ltb (length out) 128 lo) ∙ ap (framed_to u d) f in
       (ap (λ (x : Received). out_aboard d x.answers) e ∙ out_answers_lem d [], ap (λ (x : Received). x.unit) e)
 
 -- ---- sends
@@ -248,11 +244,11 @@ module _ (u : Ship) (content : Content) (body out : List ℕ) where
       roomless a b = rw (a, b) refl
 
 -- by the state: in Opening and Open protected records go out, clear alerts do not
-up_protects : (s : State) → Up s → may_protect s ≡ O.Done
+up_protects : (s : State) → Up s → may_protect s ≡ Ok tt
 up_protects s (inl e) = ap may_protect e
 up_protects s (inr e) = ap may_protect e
 
-up_not_clear : (s : State) → Up s → may_clear s ≡ O.Refused X.NotAllowed
+up_not_clear : (s : State) → Up s → may_clear s ≡ Err X.NotAllowed
 up_not_clear s (inl e) = ap may_clear e
 up_not_clear s (inr e) = ap may_clear e
 
@@ -260,7 +256,7 @@ module _ (u : Ship) (o : Up u.state) (bytes out : List ℕ) where
   pub data DataSide : Type 0 where
     data_refused_lem : (x : Refusal) → data_sent u bytes (length out) ≡ unsent u x → DataSide
     data_done : 1 ≤ length bytes → length bytes ≤ 1300 → u.protection.protected ≤ 65535
-        → (data_sent u bytes (length out)).outcome ≡ O.Done
+        → (data_sent u bytes (length out)).outcome ≡ Ok tt
         → take (data_sent u bytes (length out)).written (data_output u bytes out) ≡ next_record u.protection FromUnit C.Data bytes
         → (data_sent u bytes (length out)).unit ≡ with_sent u (counted_on u.protection) (sum_of (next_record u.protection FromUnit C.Data bytes)) → DataSide
 
@@ -301,32 +297,32 @@ module _ (u : Ship) (o : Up u.state) (bytes out : List ℕ) where
 module _ (u : Ship) (o : Up u.state) (level description : ℕ) (answered out : List ℕ) where
   pub data AlertSide : Type 0 where
     alert_refused_lem : (x : Refusal) → alert_sent u true level description answered (length out) ≡ unsent u x → AlertSide
-    alert_done : (l : Level) (m : Description) → level_of level ≡ G.Is l → u.protection.protected ≤ 65535
-        → (alert_sent u true level description answered (length out)).outcome ≡ O.Done
+    alert_done : (l : Level) (m : Description) → level_of level ≡ Some l → u.protection.protected ≤ 65535
+        → (alert_sent u true level description answered (length out)).outcome ≡ Ok tt
         → take (alert_sent u true level description answered (length out)).written (alert_output u true level description answered out)
         ≡ next_record u.protection FromUnit C.Alert (alert_body l m answered)
         → (alert_sent u true level description answered (length out)).unit
         ≡ with_sent u (counted_on u.protection) (sum_of (next_record u.protection FromUnit C.Alert (alert_body l m answered))) → AlertSide
 
-  abbrev goes : Graded → Sorted → Sent
+  abbrev goes : Option Level → Option Description → Sent
   goes g s = alert_sent_as u true answered (length out) g s
 
-  sent_as_lem : (l : Level) (m : Description) → level_of level ≡ G.Is l → sorted_of description ≡ D.Assigned m → ltb 1400 (length answered) ≡ false
+  sent_as_lem : (l : Level) (m : Description) → level_of level ≡ Some l → sorted_of description ≡ Some m → ltb 1400 (length answered) ≡ false
       → alert_sent u true level description answered (length out) ≡ protected_sent u C.Alert (alert_body l m answered) (length out)
   unfolding alert_sent alert_sent_by
   sent_as_lem l m el em b = ap₂ goes el em ∙ rw (b, up_protects u.state o) refl
 
-  output_as : (l : Level) (m : Description) → level_of level ≡ G.Is l → sorted_of description ≡ D.Assigned m → ltb 1400 (length answered) ≡ false
+  output_as : (l : Level) (m : Description) → level_of level ≡ Some l → sorted_of description ≡ Some m → ltb 1400 (length answered) ≡ false
       → alert_output u true level description answered out ≡ output_by u.protection FromUnit C.Alert (alert_body l m answered) out
   unfolding alert_output alert_output_by
   output_as l m el em b = ap₂ (alert_output_as u true answered out) el em ∙ rw (b, up_protects u.state o) refl
 
-  too_lent : (l : Level) (m : Description) → level_of level ≡ G.Is l → sorted_of description ≡ D.Assigned m → ltb 1400 (length answered) ≡ true
+  too_lent : (l : Level) (m : Description) → level_of level ≡ Some l → sorted_of description ≡ Some m → ltb 1400 (length answered) ≡ true
       → alert_sent u true level description answered (length out) ≡ unsent u X.Argument
   unfolding alert_sent
   too_lent l m el em b = ap₂ goes el em ∙ rw b refl
 
-  alert_by_lem : (l : Level) (m : Description) → level_of level ≡ G.Is l → sorted_of description ≡ D.Assigned m → ltb 1400 (length answered) ≡ false
+  alert_by_lem : (l : Level) (m : Description) → level_of level ≡ Some l → sorted_of description ≡ Some m → ltb 1400 (length answered) ≡ false
       → ProtectedSide u C.Alert (alert_body l m answered) out → AlertSide
   alert_by_lem l m el em b (not_out x e) = alert_refused_lem x (sent_as_lem l m el em b ∙ e)
   alert_by_lem l m el em b (goes_out few e f) =
@@ -336,32 +332,32 @@ module _ (u : Ship) (o : Up u.state) (level description : ℕ) (answered out : L
       (ap₂ take (ap (λ (s : Sent). s.written) is) (output_as l m el em b ∙ f) ∙ laid_front out next)
       (ap (λ (s : Sent). s.unit) is)
 
-  by_words : (g : Graded) → level_of level ≡ g → (s : Sorted) → sorted_of description ≡ s → AlertSide
+  by_words : (g : Option Level) → level_of level ≡ g → (s : Option Description) → sorted_of description ≡ s → AlertSide
   unfolding alert_sent
-  by_words (G.Is l) el (D.Assigned m) em =
+  by_words (Some l) el (Some m) em =
       decide (ltb 1400 (length answered)) (λ b. alert_refused_lem X.Argument (too_lent l m el em b))
       (λ b. alert_by_lem l m el em b (protected_side u C.Alert (alert_body l m answered) out))
-  by_words (G.Is l) el D.Unassigned em = alert_refused_lem X.Argument (ap₂ goes el em)
-  by_words G.Unassigned el (D.Assigned m) em = alert_refused_lem X.Argument (ap₂ goes el em)
-  by_words G.Unassigned el D.Unassigned em = alert_refused_lem X.Argument (ap₂ goes el em)
+  by_words (Some l) el None em = alert_refused_lem X.Argument (ap₂ goes el em)
+  by_words None el (Some m) em = alert_refused_lem X.Argument (ap₂ goes el em)
+  by_words None el None em = alert_refused_lem X.Argument (ap₂ goes el em)
 
   pub alert_side : AlertSide
   alert_side = by_words (level_of level) refl (sorted_of description) refl
 
   -- a clear one does not go out
-  clear_words : (g : Graded) (s : Sorted) → (alert_sent_as u false answered (length out) g s).unit ≡ u
+  clear_words : (g : Option Level) (s : Option Description) → (alert_sent_as u false answered (length out) g s).unit ≡ u
   unfolding alert_sent_by
-  clear_words (G.Is l) (D.Assigned m) =
+  clear_words (Some l) (Some m) =
       decide (ltb 1400 (length answered)) (λ b. lent_long b) (λ b. not_lent b)
     where
-      lent_long : ltb 1400 (length answered) ≡ true → (alert_sent_as u false answered (length out) (G.Is l) (D.Assigned m)).unit ≡ u
+      lent_long : ltb 1400 (length answered) ≡ true → (alert_sent_as u false answered (length out) (Some l) (Some m)).unit ≡ u
       lent_long b = rw b refl
 
-      not_lent : ltb 1400 (length answered) ≡ false → (alert_sent_as u false answered (length out) (G.Is l) (D.Assigned m)).unit ≡ u
+      not_lent : ltb 1400 (length answered) ≡ false → (alert_sent_as u false answered (length out) (Some l) (Some m)).unit ≡ u
       not_lent b = rw (b, up_not_clear u.state o) refl
-  clear_words (G.Is l) D.Unassigned = refl
-  clear_words G.Unassigned (D.Assigned m) = refl
-  clear_words G.Unassigned D.Unassigned = refl
+  clear_words (Some l) None = refl
+  clear_words None (Some m) = refl
+  clear_words None None = refl
 
   pub clear_same : (alert_sent u false level description answered (length out)).unit ≡ u
   unfolding alert_sent

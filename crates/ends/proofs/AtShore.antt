@@ -16,7 +16,6 @@ use Rattle.record.specs.declared.reader.Record.{Record}
 use Rattle.record.proofs.Histories.{decide}
 use Rattle.message.specs.Alert.{level_of}
 use Rattle.message.specs.declared.alert.Description.{Description}
-use Rattle.message.specs.declared.alert.Graded.TheVariants as G
 use Rattle.message.specs.declared.alert.Level.{Level}
 use Rattle.connection.specs.Answer.{handed_of}
 use Rattle.connection.specs.Receive.{end_of, answers_of, slot, slots_of, received_of, whole_of, framed_to}
@@ -26,12 +25,10 @@ use Rattle.connection.specs.declared.answer.Answer.{Answer}
 use Rattle.connection.specs.declared.answer.Answer.TheVariants as W
 use Rattle.connection.specs.declared.answer.Judged.{Judged}
 use Rattle.connection.specs.declared.answer.Slot.{Slot}
-use Rattle.connection.specs.declared.calls.Outcome.{Outcome}
-use Rattle.connection.specs.declared.calls.Outcome.TheVariants as O
 use Rattle.connection.specs.declared.connection.Connection.{Connection}
 use Rattle.connection.specs.declared.handshake.Handshake.{Handshake}
 use Rattle.connection.specs.declared.receive.Received.{Received}
-use Rattle.connection.specs.declared.receive.Taken.TheVariants as T
+use Rattle.connection.specs.declared.receive.Untaken.TheVariants as T
 use Rattle.connection.specs.declared.refusal.Refusal.{Refusal}
 use Rattle.connection.specs.declared.refusal.Refusal.TheVariants as X
 use Rattle.connection.specs.declared.sent.SentRecords.{SentRecords}
@@ -58,6 +55,7 @@ use Rattle.demands.proofs.Table.{row_of, row_is}
 use Rattle.ends.specs.Link.{GenuineFor, Handed, handed, number_in, handed_as, out_ashore}
 use Rattle.ends.proofs.Ashore as Calls
 use Rattle.ends.proofs.Courses.{DueFor, Taken, nothing, hands, passes, step_for, stays_shut}
+use Rattle.std.specs.Prelude.{Err, Ok, Some, ⊤}
 
 -- ---- what the answers of a datagram hand out
 
@@ -218,15 +216,15 @@ module _ (c : Connection) (d random out : List ℕ) (lr : length random ≡ 16) 
       → (out_ashore d (received_of c d random (length out)).answers ≡ []) × ((received_of c d random (length out)).connection ≡ c)
   unfolding received_of whole_of out_answers
   faulty_out fault at f =
-      let e : received_of c d random (length out) ≡ whole_of c (T.Misframed (X.Framing fault) at)
-      = ap₂ (λ a b. pick a (pick b (whole_of c (T.Refused X.Room)) (framed_to c random d (framing_of d))) (whole_of c (T.Refused X.Argument)))
+      let e : received_of c d random (length out) ≡ whole_of c (Err (T.Misframed (X.Framing fault) at))
+      = ap₂ (λ a b. pick a (pick b (whole_of c (Err (T.Refused X.Room))) (framed_to c random d (framing_of d))) (whole_of c (Err (T.Refused X.Argument))))
       (eq-eqb (length random) 16 lr) (le-ltb (length out) 128 lo) ∙ ap (framed_to c random d) f in
       (ap (λ (x : Received). out_ashore d x.answers) e ∙ out_answers_lem d [], ap (λ (x : Received). x.connection) e)
 
 -- ---- sends
 
-abbrev outcome_in : Result → Outcome
-outcome_in (received taken answers written) = O.Done
+abbrev outcome_in : Result → Result ⊤ Refusal
+outcome_in (received taken answers written) = Ok tt
 outcome_in (sent outcome written) = outcome
 outcome_in (called outcome) = outcome
 
@@ -237,7 +235,7 @@ written_in (called outcome) = 0
 
 module _ (c : Connection) (bytes out : List ℕ) where
   pub data DataSide : Type 0 where
-    data_refused_lem : (x : Refusal) → (data_sent c bytes (length out)).outcome ≡ O.Refused x → (data_sent c bytes (length out)).connection ≡ c → DataSide
+    data_refused_lem : (x : Refusal) → (data_sent c bytes (length out)).outcome ≡ Err x → (data_sent c bytes (length out)).connection ≡ c → DataSide
     data_done : GoodData bytes → c.handshake.state ≡ S.Open → c.handshake.protection.protected ≤ 65535
         → 3 + length bytes + size_of c.handshake.protection.keys.mac ≤ length out → DataSide
 
@@ -255,10 +253,10 @@ module _ (c : Connection) (bytes out : List ℕ) where
 
 module _ (c : Connection) (level description : ℕ) (answered out : List ℕ) where
   pub data AlertSide : Type 0 where
-    alert_refused_lem : (x : Refusal) → (alert_sent c true level description answered (length out)).outcome ≡ O.Refused x
+    alert_refused_lem : (x : Refusal) → (alert_sent c true level description answered (length out)).outcome ≡ Err x
         → (alert_sent c true level description answered (length out)).connection ≡ c → AlertSide
-    alert_done : (l : Level) (m : Description) → level_of level ≡ G.Is l → c.handshake.protection.protected ≤ 65535
-        → (alert_sent c true level description answered (length out)).outcome ≡ O.Done
+    alert_done : (l : Level) (m : Description) → level_of level ≡ Some l → c.handshake.protection.protected ≤ 65535
+        → (alert_sent c true level description answered (length out)).outcome ≡ Ok tt
         → take (alert_sent c true level description answered (length out)).written (alert_output c true level description answered out)
         ≡ next_protected c.handshake C.Alert (alert_body l m answered)
         → (alert_sent c true level description answered (length out)).connection

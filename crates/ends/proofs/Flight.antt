@@ -17,7 +17,6 @@ use Rattle.record.specs.declared.header.Content.TheVariants as C
 use Rattle.record.specs.declared.keys.Keys.{Keys}
 use Rattle.record.specs.declared.keys.Sense.{Sense}
 use Rattle.record.specs.declared.reader.Record.{Record}
-use Rattle.record.specs.declared.reader.Reading.TheVariants as Q
 use Rattle.record.proofs.RoundTrip.{read_back, read_long, read_protected, fragment_back}
 use Rattle.record.proofs.ProtectedBytes.{size_most}
 use Rattle.record.proofs.Protecting.{record_under_length}
@@ -26,10 +25,11 @@ use Rattle.connection.specs.Judge.{fragment_of}
 use Rattle.connection.specs.Reply.{hello_record, change_record}
 use Rattle.connection.proofs.Replying.{hello_size_lem, change_size}
 use Rattle.demands.proofs.Wire.{front_framed, last_framed, sized, behind, protected_fragment}
+use Rattle.std.specs.Prelude.{Ok}
 
 -- ---- the records, read at the front
 
-change_read : (tail : List ℕ) → read_of (change_record ++ tail) ≡ Q.Sound (read_back true false C.ChangeCipherSpec 1 1)
+change_read : (tail : List ℕ) → read_of (change_record ++ tail) ≡ Ok (read_back true false C.ChangeCipherSpec 1 1)
 unfolding change_record
 change_read tail = read_long false C.ChangeCipherSpec 1 change_bytes tail (omega arith) (omega arith) (omega arith)
 
@@ -37,10 +37,10 @@ change_fragment : (tail : List ℕ) → take 1 (drop 5 (change_record ++ tail)) 
 unfolding change_record
 change_fragment tail = fragment_back true false C.ChangeCipherSpec 1 change_bytes tail
 
-hello_read : (m tail : List ℕ) → length m ≡ 35 → read_of (hello_record m ++ tail) ≡ Q.Sound (read_back true false C.Handshake 0 35)
+hello_read : (m tail : List ℕ) → length m ≡ 35 → read_of (hello_record m ++ tail) ≡ Ok (read_back true false C.Handshake 0 35)
 unfolding hello_record
 hello_read m tail l =
-    read_long false C.Handshake 0 m tail (omega arith) (omega (arith, l)) (omega (arith, l)) ∙ ap (λ n. Q.Sound (read_back true false C.Handshake 0 n)) l
+    read_long false C.Handshake 0 m tail (omega arith) (omega (arith, l)) (omega (arith, l)) ∙ ap (λ n. Ok (read_back true false C.Handshake 0 n)) l
 
 hello_fragment : (m tail : List ℕ) → length m ≡ 35 → take 35 (drop 5 (hello_record m ++ tail)) ≡ m
 unfolding hello_record
@@ -51,11 +51,11 @@ module _ (k : Keys) (sense : Sense) (body : List ℕ) (l : length body ≡ 15) w
   abbrev pub finished_as : List ℕ
   finished_as = record_under k sense C.Handshake 0 body
 
-  finished_read : read_of finished_as ≡ Q.Sound (read_back false true C.Handshake 0 (15 + size_of k.mac))
+  finished_read : read_of finished_as ≡ Ok (read_back false true C.Handshake 0 (15 + size_of k.mac))
   unfolding record_under
   finished_read =
       read_protected (secret_for k sense 0) k.mac C.Handshake 0 body (omega arith)
-      ∙ ap (λ n. Q.Sound (read_back false true C.Handshake 0 (n + size_of k.mac))) l
+      ∙ ap (λ n. Ok (read_back false true C.Handshake 0 (n + size_of k.mac))) l
 
   pub finished_size : length finished_as ≡ 18 + size_of k.mac
   finished_size = record_under_length k sense C.Handshake 0 body ∙ omega (arith, l)

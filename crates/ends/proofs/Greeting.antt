@@ -28,11 +28,10 @@ use Rattle.message.specs.Server.{server_hello_of}
 use Rattle.message.specs.ServerHello.{ServerValues, server_allowed}
 use Rattle.message.specs.Values.{Values, hello_of, fields_allowed, allowed}
 use Rattle.message.specs.declared.acceptance.Plan.{Plan}
-use Rattle.message.specs.declared.acceptance.Heard.TheVariants as H
-use Rattle.message.specs.declared.agreement.Agreement.TheVariants as G
+use Rattle.message.specs.declared.acceptance.Unheard.TheVariants as H
+use Rattle.message.specs.declared.agreement.Disagreed.TheVariants as G
 use Rattle.message.specs.declared.offer.Kinds.{Kinds as Offered}
 use Rattle.message.specs.declared.offer.Kinds.TheVariants as K
-use Rattle.message.specs.declared.offer.Named.TheVariants.{Are}
 use Rattle.message.specs.declared.offer.Offer.{Offer}
 use Rattle.message.proofs.Saying.{heard_only}
 use Rattle.message.proofs.ServerHellos.{server_hellos_as_written}
@@ -40,6 +39,7 @@ use Rattle.connection.specs.Reply.{client_random}
 use Rattle.unit.specs.Agree.{server_random}
 use Rattle.unit.proofs.Greeting.{suites, hello_most}
 use Rattle.ends.specs.InOrder.{Kinds, sha80, sha, sha80_first, sha_first}
+use Rattle.std.specs.Prelude.{Ok, Some}
 
 -- ---- the kinds offered, and the first of them
 
@@ -49,7 +49,7 @@ offered_in sha = K.Sha
 offered_in sha80_first = K.Sha80First
 offered_in sha_first = K.ShaFirst
 
-pub named : {l : List ℕ} (k : Kinds l) → kinds_named l ≡ Are (offered_in k)
+pub named : {l : List ℕ} (k : Kinds l) → kinds_named l ≡ Some (offered_in k)
 unfolding kinds_named same_bytes offered_in
 named sha80 = refl
 named sha = refl
@@ -105,10 +105,10 @@ module _ (random id : List ℕ) (offer : Offer) (lr : length random ≡ 16) (li 
       )
       refl
 
-  pub hello_heard : heard_of (offer_hello random id offer) id ≡ H.Accepted plan_for
+  pub hello_heard : heard_of (offer_hello random id offer) id ≡ Ok plan_for
   hello_heard =
       ap (λ m. heard_of m id) (sym said_is)
-      ∙ heard_only said_values id said_allowed (H.Accepted plan_for)
+      ∙ heard_only said_values id said_allowed (Ok plan_for)
       (record {
         known = record { version = refl; session = refl };
         pair = first_pair offer.kinds;
@@ -135,12 +135,12 @@ module _ (random id : List ℕ) (offer : Offer) (lr : length random ≡ 16) (li 
     answered_allowed : server_allowed answered_values ≡ true
     answered_allowed = rw (eq-eqb (length server) 16 ls) (le-leb (length id) 8 (omega (arith, li)))
 
-    terms_met : agreed_with answered_values id offer ≡ G.Agreed plan_for
+    terms_met : agreed_with answered_values id offer ≡ Ok plan_for
     unfolding agreed_of
     terms_met =
         rw (same_self id, chosen_listed offer.kinds, le-ltb offer.refresh offer.refresh (omega arith)) refl
 
-    pub answer_agreed : agreement_of answer_of id offer ≡ G.Agreed plan_for
+    pub answer_agreed : agreement_of answer_of id offer ≡ Ok plan_for
     unfolding agreement_of
     answer_agreed =
         let w = server_hellos_as_written.written answered_values answered_allowed in

@@ -25,7 +25,7 @@ use Rattle.record.specs.declared.header.Content.TheVariants as C
 use Rattle.record.specs.declared.keys.Keys.{Keys}
 use Rattle.record.specs.declared.keys.Sense.TheVariants.{FromUnit, FromShore}
 use Rattle.record.specs.declared.reader.Record.{Record}
-use Rattle.record.specs.declared.window.Acceptance.TheVariants as A
+use Rattle.record.specs.declared.window.NotNew.TheVariants as A
 use Rattle.record.proofs.Fronts.{record_length}
 use Rattle.record.proofs.Histories.{meaning, fresh_means, new_when}
 use Rattle.record.proofs.RoundTrip.{read_back}
@@ -38,9 +38,9 @@ use Rattle.message.specs.Request.{is_request}
 use Rattle.message.specs.Server.{server_hello_of}
 use Rattle.message.specs.declared.acceptance.Plan.{Plan}
 use Rattle.message.specs.Agreement.{agreement_of}
-use Rattle.message.specs.declared.acceptance.Heard.TheVariants as H
-use Rattle.message.specs.declared.agreement.Agreement.TheVariants as G
-use Rattle.message.specs.declared.finished.Verified.TheVariants as F
+use Rattle.message.specs.declared.acceptance.Unheard.TheVariants as H
+use Rattle.message.specs.declared.agreement.Disagreed.TheVariants as G
+use Rattle.message.specs.declared.finished.Unverified.TheVariants as F
 use Rattle.message.specs.declared.offer.Offer.{Offer}
 use Rattle.message.proofs.FinishedLaws.{finished_right, finished_size as fifteen}
 use Rattle.message.proofs.Replies.{length_server}
@@ -54,11 +54,10 @@ use Rattle.connection.specs.Reply.{our_hello, our_finished, expected_of, hello_r
 use Rattle.connection.specs.Sent.{no_records, sum_of}
 use Rattle.connection.specs.Told.{sent_after}
 use Rattle.connection.specs.declared.answer.Answer.TheVariants as W
-use Rattle.connection.specs.declared.calls.Outcome.TheVariants as O
 use Rattle.connection.specs.declared.connection.Connection.{Connection}
 use Rattle.connection.specs.declared.handshake.Handshake.{Handshake}
 use Rattle.connection.specs.declared.handshake.Session.{Session}
-use Rattle.connection.specs.declared.receive.Taken.TheVariants as T
+use Rattle.connection.specs.declared.receive.Untaken.TheVariants as T
 use Rattle.connection.specs.declared.refusal.Refusal.TheVariants as X
 use Rattle.connection.specs.declared.sent.SentRecords.{SentRecords}
 use Rattle.connection.specs.declared.state.State.TheVariants as S
@@ -94,6 +93,7 @@ use Rattle.ends.proofs.Aboard as Ship
 use Rattle.ends.proofs.Aboard.{hello_taken, change_taken, finished_taken, chained_end, chained_more}
 use Rattle.ends.proofs.Ashore as Shore
 use Rattle.ends.proofs.Reports.{Together, all_handed}
+use Rattle.std.specs.Prelude.{Ok}
 
 -- the keys of number 0 are those of key number 0
 pub key_zero : (k : ℕ) → key_number k 0 ≡ 0
@@ -105,7 +105,7 @@ key_zero k = by (leb k 15)
     by false = refl
 
 -- a fresh window takes number 0
-takes_first : (width : ℕ) → Held width → accept_of (fresh_window width) 0 ≡ A.New (window_of width (0 ∷ [])) (arrived_of width (0 ∷ []))
+takes_first : (width : ℕ) → Held width → accept_of (fresh_window width) 0 ≡ Ok (window_of width (0 ∷ []), arrived_of width (0 ∷ []))
 unfolding highest_of accepted
 takes_first width held =
     ap (λ w. accept_of w 0) (fresh_means width) ∙ meaning width held [] 0 ∙ new_when width [] 0 (omega (arith, held.0)) refl
@@ -154,7 +154,7 @@ module _ (s : Setting) (ls : ListedSetting s) where
   u₁ : ShipsUnit
   u₁ = B.greeted u₀ s.client offer (sum_of hello)
 
-  planted_aboard : AboardCalls.fresh_of s.id s.secret s.unit_width ≡ AboardCalls.leaving O.Done u₀
+  planted_aboard : AboardCalls.fresh_of s.id s.secret s.unit_width ≡ AboardCalls.leaving (Ok tt) u₀
   unfolding AboardCalls.fresh_of
   planted_aboard =
       rw (
@@ -229,7 +229,7 @@ module _ (s : Setting) (ls : ListedSetting s) where
   unfolding r₁
   is_hello_lem = record { clear = refl; handshake = refl; begins = ap (λ f. get_or f 0 0) hello_fragment ∙ begins }
 
-  heard : heard_of m s.id ≡ H.Accepted plan
+  heard : heard_of m s.id ≡ Ok plan
   unfolding m
   heard = hello_heard s.client s.id offer ls.client_size ls.id_size
 
@@ -257,10 +257,10 @@ module _ (s : Setting) (ls : ListedSetting s) where
     came₁ = Shore.took c₀ hello s.server out (r₁ ∷ []) (W.Reply (length reply) ∷ []) c₁ ls.server_size room hello_framed (chain_more told₁ chain_end)
 
     pub replies : Ashore.received_of c₀ hello s.server (length out)
-        ≡ record { taken = T.Records 1; answers = Ashore.slots_of (W.Reply (length reply) ∷ []); written = length reply; connection = c₁ }
+        ≡ record { taken = Ok 1; answers = Ashore.slots_of (W.Reply (length reply) ∷ []); written = length reply; connection = c₁ }
     replies =
         came₁.gives
-        ∙ λ i. record { taken = T.Records 1; answers = Ashore.slots_of (W.Reply (length reply) ∷ []); written = length (sends₁ i); connection = c₁ }
+        ∙ λ i. record { taken = Ok 1; answers = Ashore.slots_of (W.Reply (length reply) ∷ []); written = length (sends₁ i); connection = c₁ }
 
     reply_written : Ashore.output_of c₀ hello s.server out ≡ laid_over out 0 reply
     reply_written = came₁.writes ∙ ap (laid_over out 0) sends₁
@@ -307,11 +307,11 @@ module _ (s : Setting) (ls : ListedSetting s) where
   unfolding u_spec u_agreed agreed_with
   spec_keys = keys_aboard
 
-  takes_0 : accept_of u_spec.protection.window 0 ≡ A.New (window_of s.unit_width (0 ∷ [])) (arrived_of s.unit_width (0 ∷ []))
+  takes_0 : accept_of u_spec.protection.window 0 ≡ Ok (window_of s.unit_width (0 ∷ []), arrived_of s.unit_width (0 ∷ []))
   unfolding u_spec u_agreed agreed_with u₁
   takes_0 = takes_first s.unit_width ls.unit_held
 
-  right : judged_of theirs u_spec.expected ≡ F.Right
+  right : judged_of theirs u_spec.expected ≡ Ok tt
   unfolding u_spec u_agreed agreed_with u₁ theirs shore_verify m
   right = finished_right (server_verify s.secret m sh) (server_size s.secret m sh)
 
@@ -322,7 +322,7 @@ module _ (s : Setting) (ls : ListedSetting s) where
   unfolding sh
   begins_2 = refl
 
-  agreed : agreement_of sh s.id offer ≡ G.Agreed plan
+  agreed : agreement_of sh s.id offer ≡ Ok plan
   unfolding sh
   agreed = answer_agreed s.client s.id offer ls.client_size ls.id_size s.server ls.server_size
 
@@ -381,11 +381,11 @@ module _ (s : Setting) (ls : ListedSetting s) where
     came₂ = Ship.took u₁ d out rs₂ (Y.Hello ∷ Y.Spec ∷ Y.Open opens_size ∷ []) u₂ room (replied_framed k FromShore theirs theirs_size sh sh_size) chain₂
 
     opens : Aboard.received_of u₁ reply (length out)
-        ≡ record { taken = T.Records 3; answers = Aboard.slots_of (Y.Hello ∷ Y.Spec ∷ Y.Open (length flight) ∷ []); written = length flight; unit = u₂ }
+        ≡ record { taken = Ok 3; answers = Aboard.slots_of (Y.Hello ∷ Y.Spec ∷ Y.Open (length flight) ∷ []); written = length flight; unit = u₂ }
     opens =
         ap (λ x. Aboard.received_of u₁ x (length out)) reply_is
         ∙ came₂.gives
-        ∙ λ i. record { taken = T.Records 3; answers = Aboard.slots_of (Y.Hello ∷ Y.Spec ∷ Y.Open (opens_is i) ∷ []); written = length (flying_is i); unit = u₂ }
+        ∙ λ i. record { taken = Ok 3; answers = Aboard.slots_of (Y.Hello ∷ Y.Spec ∷ Y.Open (opens_is i) ∷ []); written = length (flying_is i); unit = u₂ }
 
     flight_written : Aboard.output_of u₁ reply out ≡ laid_over out 0 flight
     flight_written = ap (λ x. Aboard.output_of u₁ x out) reply_is ∙ came₂.writes ∙ ap (laid_over out 0) flying_is
@@ -431,11 +431,11 @@ module _ (s : Setting) (ls : ListedSetting s) where
             (flown_finished k FromUnit ours ours_size);
       }
 
-  takes_0_ashore : accept_of h₂.protection.window 0 ≡ A.New (window_of s.shore_width (0 ∷ [])) (arrived_of s.shore_width (0 ∷ []))
+  takes_0_ashore : accept_of h₂.protection.window 0 ≡ Ok (window_of s.shore_width (0 ∷ []), arrived_of s.shore_width (0 ∷ []))
   unfolding h₂ h₁ answered_with
   takes_0_ashore = takes_first s.shore_width ls.shore_held
 
-  right_ashore : judged_of ours h₂.expected ≡ F.Right
+  right_ashore : judged_of ours h₂.expected ≡ Ok tt
   unfolding ours h₂ h₁ answered_with
   right_ashore = finished_right (expected_of session s.server m plan) (expected_size session s.server m plan)
 
@@ -468,10 +468,10 @@ module _ (s : Setting) (ls : ListedSetting s) where
         (ap (λ (t : Told). reply_size t.answer) (tells_is c₁ random flight (change_first k FromUnit ours ours_size) (told₂ random)))
 
     pub opens_ashore : Ashore.received_of c₁ flight random (length out)
-        ≡ record { taken = T.Records 2; answers = Ashore.slots_of (W.Spec ∷ W.Open ∷ []); written = 0; connection = c₂ }
+        ≡ record { taken = Ok 2; answers = Ashore.slots_of (W.Spec ∷ W.Open ∷ []); written = 0; connection = c₂ }
     opens_ashore =
         came₃.gives
-        ∙ λ i. record { taken = T.Records 2; answers = Ashore.slots_of (W.Spec ∷ W.Open ∷ []); written = length (silent i); connection = c₂ }
+        ∙ λ i. record { taken = Ok 2; answers = Ashore.slots_of (W.Spec ∷ W.Open ∷ []); written = length (silent i); connection = c₂ }
 
     nothing_written : Ashore.output_of c₁ flight random out ≡ out
     nothing_written = came₃.writes ∙ ap (laid_over out 0) silent ∙ laid_nothing out

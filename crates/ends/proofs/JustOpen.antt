@@ -17,7 +17,7 @@ use Rattle.record.specs.declared.keys.Sense.{Sense}
 use Rattle.record.specs.declared.keys.Sense.TheVariants.{FromUnit, FromShore}
 use Rattle.record.specs.declared.reader.Record.{Record}
 use Rattle.record.specs.declared.window.Window.{Window}
-use Rattle.record.specs.declared.window.Acceptance.TheVariants as A
+use Rattle.record.specs.declared.window.NotNew.TheVariants as A
 use Rattle.record.proofs.Histories.{accepted_le, accepted_here, meaning, repeated_when, repeated_means}
 use Rattle.digest.specs.Hmac.{hmac}
 use Rattle.digest.specs.Mac.{size_of, server_expansion}
@@ -56,6 +56,7 @@ use Rattle.ends.proofs.Flight.{finished_at, change_first, flown, flown_framed, r
 use Rattle.ends.proofs.Greeting.{server_size}
 use Rattle.ends.proofs.InOrder as P
 use Rattle.ends.proofs.Reports.{Together}
+use Rattle.std.specs.Prelude.{Err}
 
 -- ---- windows that are equal say the same of a number
 
@@ -69,8 +70,8 @@ module _ (width : ℕ) (held : Held width) (numbers : List ℕ) (same : window_o
 
   pub has_0 : accepted numbers 0 ≡ true
   has_0 =
-      let repeated : judged_of width (0 ∷ []) 0 ≡ A.Repeated = repeated_when width (0 ∷ []) 0 (omega (arith, highest_0, held.0)) (accepted_here 0 []) in
-      let e : judged_of width numbers 0 ≡ A.Repeated
+      let repeated : judged_of width (0 ∷ []) 0 ≡ (Err A.Repeated) = repeated_when width (0 ∷ []) 0 (omega (arith, highest_0, held.0)) (accepted_here 0 []) in
+      let e : judged_of width numbers 0 ≡ Err A.Repeated
       = sym (meaning width held numbers 0) ∙ ap (λ (w : Window). accept_of w 0) same ∙ meaning width held (0 ∷ []) 0 ∙ repeated in
       (repeated_means width numbers 0 e).1
 

@@ -28,7 +28,7 @@ use Rattle.connection.specs.Receive as Ashore
 use Rattle.connection.specs.declared.answer.Answer.TheVariants as W
 use Rattle.connection.specs.declared.connection.Connection.{Connection}
 use Rattle.connection.specs.declared.receive.Received.{Received}
-use Rattle.connection.specs.declared.receive.Taken.TheVariants as T
+use Rattle.connection.specs.declared.receive.Untaken.TheVariants as T
 use Rattle.connection.specs.declared.refusal.Refusal.TheVariants as X
 use Rattle.connection.specs.declared.state.State.TheVariants as S
 use Rattle.demands.specs.Asked.{RightBeside, tells, asks_protected, left_open, left_ended}
@@ -53,6 +53,7 @@ use Rattle.ends.proofs.JustOpen as J
 use Rattle.ends.proofs.OneMeeting.{same_hello, same_reply, same_flight, same_unit, same_shore}
 use Rattle.ends.proofs.OnWire.{lone, wired_framed, wired_genuine}
 use Rattle.ends.proofs.Reports.{takes as takes-above, reported_part}
+use Rattle.std.specs.Prelude.{Ok}
 
 -- ---- an open shore and one protected record of the unit
 
@@ -108,7 +109,7 @@ module _ (k : Keys) (c : Connection) (is_open : c.handshake.state ≡ S.Open) (k
 
     pub data_gives : Ashore.received_of c (d C.Data n few bytes most) random (length out)
         ≡ record {
-          taken = T.Records 1;
+          taken = Ok 1;
           answers = Ashore.slots_of (W.Data n 3 (length bytes) ∷ []);
           written = length (Ashore.first_reply c random (d C.Data n few bytes most) (r C.Data n few bytes most ∷ []));
           connection = left;

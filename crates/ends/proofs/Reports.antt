@@ -23,7 +23,7 @@ use Rattle.record.specs.declared.keys.Sense.TheVariants.{FromUnit, FromShore}
 use Rattle.record.specs.declared.protection.Protection.{Protection}
 use Rattle.record.specs.declared.reader.Record.{Record}
 use Rattle.record.specs.declared.window.Window.{Window}
-use Rattle.record.specs.declared.window.Acceptance.TheVariants as A
+use Rattle.record.specs.declared.window.NotNew.TheVariants as A
 use Rattle.record.proofs.Histories.{meaning, new_when, above}
 use Rattle.record.proofs.RoundTrip.{read_back}
 use Rattle.record.proofs.ProtectedBytes.{size_most}
@@ -38,7 +38,6 @@ use Rattle.connection.specs.Send.{next_protected}
 use Rattle.connection.specs.declared.answer.Answer.TheVariants as W
 use Rattle.connection.specs.declared.connection.Connection.{Connection}
 use Rattle.connection.specs.declared.handshake.Handshake.{Handshake}
-use Rattle.connection.specs.declared.calls.Outcome.TheVariants as O
 use Rattle.connection.specs.declared.state.State.TheVariants as S
 use Rattle.connection.specs.declared.receive.Received.{Received}
 use Rattle.unit.specs.Receive as Aboard
@@ -56,6 +55,7 @@ use Rattle.ends.specs.Sides.{Ends, ends_of, handed_ashore, handed_aboard, Turn, 
 use Rattle.ends.proofs.Aboard as Ship
 use Rattle.ends.proofs.Aboard.{Talks, data_taken, chained_end, chained_more}
 use Rattle.ends.proofs.Ashore as Shore
+use Rattle.std.specs.Prelude.{Ok}
 
 -- ---- a data record on the wire
 
@@ -89,7 +89,7 @@ module _ (k : Keys) (sense : Sense) (n : ℕ) (few : n ≤ 65535) (bytes : List 
 
 -- a number above all that were accepted is new
 pub takes : (width : ℕ) → Held width → (h : List ℕ) (s : ℕ) → highest_of h < s
-    → accept_of (window_of width h) s ≡ A.New (window_of width (s ∷ h)) (arrived_of width (s ∷ h))
+    → accept_of (window_of width h) s ≡ Ok (window_of width (s ∷ h), arrived_of width (s ∷ h))
 takes width held h s l = meaning width held h s ∙ new_when width h s (omega (arith, held.0)) (above h s l)
 
 highest_next : (s : ℕ) (h : List ℕ) → highest_of h < s → highest_of (s ∷ h) < s + 1
@@ -112,7 +112,7 @@ pub record Together (unit_width shore_width : ℕ) (e : Ends) : Type 0 where
 
 -- what a turn gives
 pub record Handed (unit_width shore_width : ℕ) (e : Ends) (t : Turn) : Type 0 where
-  pub sent : send_of e t ≡ O.Done
+  pub sent : send_of e t ≡ Ok tt
   pub handed : handed_in e t ≡ report_in t ∷ []
   pub together : Together unit_width shore_width (turned e t)
   pub keys_kept : (turned e t).unit.protection.keys ≡ e.unit.protection.keys

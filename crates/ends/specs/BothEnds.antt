@@ -1,5 +1,5 @@
 -- 02, P14, "Both ends on one bad link": the statement.
-use Rattle.std.specs.Prelude.{◌≡◌, ◌≢◌, true, false, List, [], ◌∷◌, ℕ, ◌≤◌, ◌<◌, length}
+use Rattle.std.specs.Prelude.{◌≡◌, ◌≢◌, true, false, List, [], ◌∷◌, ℕ, ◌≤◌, ◌<◌, length, Some}
 use Rattle.record.specs.History.{accepted}
 use Rattle.record.specs.Window.{Held}
 use Rattle.record.specs.declared.header.Content.TheVariants as C
@@ -8,7 +8,6 @@ use Rattle.record.specs.declared.keys.Sense.{Sense}
 use Rattle.record.specs.declared.keys.Sense.TheVariants.{FromUnit, FromShore}
 use Rattle.record.specs.declared.reader.Record.{Record}
 use Rattle.message.specs.Alert.{alert_of, level_of}
-use Rattle.message.specs.declared.alert.Graded.TheVariants as G
 use Rattle.message.specs.declared.alert.Level.{Level}
 use Rattle.message.specs.declared.alert.Level.TheVariants as L
 use Rattle.message.specs.declared.acceptance.Plan.{Plan}
@@ -70,7 +69,7 @@ pub record JustOpen (k : Keys) (e : Ends) (by_unit by_shore : List (List ℕ)) :
 
 -- "no alert above warning"
 abbrev pub Warns : ℕ → Type 0
-Warns level = (l : Level) → level_of level ≡ G.Is l → l ≡ L.Warning
+Warns level = (l : Level) → level_of level ≡ Some l → l ≡ L.Warning
 
 -- "calls with arguments and room as listed, no close, no alert above warning"
 abbrev pub Keeps : Doing → Type 0

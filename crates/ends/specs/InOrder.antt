@@ -1,13 +1,11 @@
 -- 02, P7: "Prove that, with one session planted in both, each end accepts the other's handshake and data when all arrives in order."
-use Rattle.std.specs.Prelude.{◌≡◌, List, [], ◌∷◌, ℕ, ◌≤◌, length}
+use Rattle.std.specs.Prelude.{◌≡◌, List, [], ◌∷◌, ℕ, ◌≤◌, length, Ok}
 use Rattle.digest.specs.Bytes.{laid_over}
 use Rattle.record.specs.Window.{Held}
 use Rattle.connection.specs.Calls as AshoreCalls
 use Rattle.connection.specs.Receive as Ashore
 use Rattle.connection.specs.declared.answer.Answer.TheVariants as A
-use Rattle.connection.specs.declared.calls.Outcome.TheVariants as O
 use Rattle.connection.specs.declared.connection.Connection.{Connection}
-use Rattle.connection.specs.declared.receive.Taken.TheVariants.{Records}
 use Rattle.unit.specs.Calls as AboardCalls
 use Rattle.unit.specs.Hello as AboardHello
 use Rattle.unit.specs.Receive as Aboard
@@ -73,8 +71,8 @@ pub record Met (s : Setting) (r : Rooms) : Type 0 where
   pub reply : List ℕ
   pub flight : List ℕ
   -- "one session planted in both"
-  pub planted_aboard : AboardCalls.fresh_of s.id s.secret s.unit_width ≡ AboardCalls.leaving O.Done u₀
-  pub planted_ashore : AshoreCalls.fresh_of s.id s.secret s.shore_width ≡ AshoreCalls.leaving O.Done c₀
+  pub planted_aboard : AboardCalls.fresh_of s.id s.secret s.unit_width ≡ AboardCalls.leaving (Ok tt) u₀
+  pub planted_ashore : AshoreCalls.fresh_of s.id s.secret s.shore_width ≡ AshoreCalls.leaving (Ok tt) c₀
   -- "write the ClientHello"
   pub greets : AboardHello.hello_sent u₀ s.client s.kinds s.refresh (length r.for_hello)
       ≡ AboardSends.done_with (length hello) u₁
@@ -82,7 +80,7 @@ pub record Met (s : Setting) (r : Rooms) : Type 0 where
   -- the shore replies
   pub replies : Ashore.received_of c₀ hello s.server (length r.for_reply)
       ≡ record {
-        taken = Records 1;
+        taken = Ok 1;
         answers = Ashore.slots_of (A.Reply (length reply) ∷ []);
         written = length reply;
         connection = c₁;
@@ -91,7 +89,7 @@ pub record Met (s : Setting) (r : Rooms) : Type 0 where
   -- "read the reply, verify our Finished, write change cipher spec and Finished"
   pub opens : Aboard.received_of u₁ reply (length r.for_flight)
       ≡ record {
-        taken = Records 3;
+        taken = Ok 3;
         answers = Aboard.slots_of (B.Hello ∷ B.Spec ∷ B.Open (length flight) ∷ []);
         written = length flight;
         unit = u₂;
@@ -100,7 +98,7 @@ pub record Met (s : Setting) (r : Rooms) : Type 0 where
   -- the shore takes change cipher spec and Finished, and is open too
   pub opens_ashore : Ashore.received_of c₁ flight r.random (length r.for_none)
       ≡ record {
-        taken = Records 2;
+        taken = Ok 2;
         answers = Ashore.slots_of (A.Spec ∷ A.Open ∷ []);
         written = 0;
         connection = c₂;

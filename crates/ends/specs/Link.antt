@@ -1,6 +1,7 @@
 -- 02, P14, "Both ends on one bad link": a run of both ends and a channel between them. Two courses, one for each sense of travel: what
 -- the one end sends is what the other hands out.
-use Rattle.std.specs.Prelude.{◌≡◌, ◌⊎◌, ◌≢◌, true, false, List, [], ◌∷◌, ◌++◌, ℕ, ◌+◌, ◌<◌, length, take}
+use Rattle.std.specs.Prelude.{◌≡◌, ◌⊎◌, ◌≢◌, true, false, List, [], ◌∷◌, ◌++◌, ℕ, ◌+◌, ◌<◌, length, take, Err, Ok, Result, ⊤}
+use Rattle.connection.specs.declared.refusal.Refusal.{Refusal}
 use Rattle.digest.specs.Pick.{pick}
 use Rattle.digest.specs.Hmac.{hmac}
 use Rattle.digest.specs.Mac.{size_of}
@@ -19,8 +20,6 @@ use Rattle.connection.specs.Send as AshoreSends
 use Rattle.connection.specs.declared.answer.Answer.{Answer}
 use Rattle.connection.specs.declared.answer.Answer.TheVariants as A
 use Rattle.connection.specs.declared.answer.Slot.{Slot as SlotAshore}
-use Rattle.connection.specs.declared.calls.Outcome.{Outcome}
-use Rattle.connection.specs.declared.calls.Outcome.TheVariants as O
 use Rattle.unit.specs.Answer.{as_ashore}
 use Rattle.unit.specs.Receive as Aboard
 use Rattle.unit.specs.Send as AboardSends
@@ -111,9 +110,9 @@ unfoldable pub out_aboard : List ℕ → List SlotAboard → List Handed
 out_aboard d [] = []
 out_aboard d (s ∷ slots) = handed_as d (as_ashore s.answer) ++ out_aboard d slots
 
-abbrev pub if_done : Outcome → Entry → List Entry
-if_done O.Done entry = entry ∷ []
-if_done (O.Refused refusal) entry = []
+abbrev pub if_done : Result ⊤ Refusal → Entry → List Entry
+if_done (Ok tt) entry = entry ∷ []
+if_done (Err refusal) entry = []
 
 -- the unit's reports and protected alerts, and the datagrams that come to the shore
 abbrev pub from_unit : Ends → Doing → List Entry

@@ -1,13 +1,12 @@
 -- Both ends (02, P7): what a call of either gives, by the definitions that its contract cites; and how a report goes from one to the
 -- other, where all arrives in order.
-use Rattle.std.specs.Prelude.{◌≡◌, List, [], ◌∷◌, ℕ, suc, ◌+◌, ◌≤◌, length, take}
+use Rattle.std.specs.Prelude.{◌≡◌, List, [], ◌∷◌, ℕ, suc, ◌+◌, ◌≤◌, length, take, Ok, Result, ⊤}
+use Rattle.connection.specs.declared.refusal.Refusal.{Refusal}
 use Rattle.digest.specs.Mac.{size_of}
 use Rattle.digest.specs.Pick.{pick}
 use Rattle.digest.specs.declared.mac.Mac.{Mac}
 use Rattle.connection.specs.Answer.{handed_of}
 use Rattle.connection.specs.declared.answer.Slot.{Slot as SlotAshore}
-use Rattle.connection.specs.declared.calls.Outcome.{Outcome}
-use Rattle.connection.specs.declared.calls.Outcome.TheVariants as O
 use Rattle.connection.specs.declared.connection.Connection.{Connection}
 use Rattle.connection.specs.Receive as Ashore
 use Rattle.connection.specs.Send as AshoreSends
@@ -59,7 +58,7 @@ turned e (from_shore bytes out space) =
     (AshoreSends.data_sent e.shore bytes (length out)).connection
 
 -- how the send ended, and what the other end then hands out
-abbrev pub send_of : Ends → Turn → Outcome
+abbrev pub send_of : Ends → Turn → Result ⊤ Refusal
 send_of e (from_unit bytes out random space) = (AboardSends.data_sent e.unit bytes (length out)).outcome
 send_of e (from_shore bytes out space) = (AshoreSends.data_sent e.shore bytes (length out)).outcome
 
@@ -101,4 +100,4 @@ shore_turns (from_shore bytes out space ∷ turns) = suc (shore_turns turns)
 abbrev pub AllHanded : Ends → List Turn → Type 0
 AllHanded e [] = Unit
 AllHanded e (t ∷ turns) =
-    (send_of e t ≡ O.Done) × (handed_in e t ≡ report_in t ∷ []) × AllHanded (turned e t) turns
+    (send_of e t ≡ Ok tt) × (handed_in e t ≡ report_in t ∷ []) × AllHanded (turned e t) turns

@@ -18,10 +18,7 @@ use Rattle.connection.specs.declared.answer.Answer.TheVariants as W
 use Rattle.connection.specs.declared.answer.Slot.{Slot}
 use Rattle.connection.specs.declared.connection.Connection.{Connection}
 use Rattle.connection.specs.declared.calls.Called.{Called}
-use Rattle.connection.specs.declared.calls.Outcome.{Outcome}
-use Rattle.connection.specs.declared.calls.Outcome.TheVariants as O
-use Rattle.connection.specs.declared.receive.Taken.{Taken}
-use Rattle.connection.specs.declared.receive.Taken.TheVariants as T
+use Rattle.connection.specs.declared.receive.Untaken.TheVariants as T
 use Rattle.connection.specs.declared.receive.Received.{Received}
 use Rattle.connection.specs.declared.refusal.Refusal.{Refusal}
 use Rattle.connection.specs.declared.refusal.Refusal.TheVariants as X
@@ -43,6 +40,8 @@ use Rattle.demands.specs.LeftOut.{tallied_in, tallied_by}
 use Rattle.demands.proofs.Calls.{call_of, fresh_holds}
 use Rattle.demands.proofs.Refusals.{refused_call}
 use Rattle.exported.specs.Runs.{Exported, receive, send_data, send_alert, close, start, state_after, loads_after, tally_after, calls_in, number_of, answers_of, number_in, out_in, answers_in, IsLayer4, EachIsLayer4, final_state, final_tally, calls_of, RunsAreLayer4, FreshIsLayer4, Refused16, SixteenFirst, ExportedHolds}
+use Rattle.std.specs.Prelude.{Err, Ok, ⊤}
+use Rattle.connection.specs.declared.receive.Untaken.{Untaken}
 
 -- ---- bytes that hold c
 
@@ -108,10 +107,10 @@ count_none : (t : Tally) → counted_of t (slots_of []) ≡ t
 unfolding counted_first slots_of
 count_none t = refl
 
-abbrev taken_in : Result → Taken
+abbrev taken_in : Result → Result ℕ Untaken
 taken_in (R.received taken answers written) = taken
-taken_in (R.sent outcome written) = T.Records 0
-taken_in (R.called outcome) = T.Records 0
+taken_in (R.sent outcome written) = Ok 0
+taken_in (R.called outcome) = Ok 0
 
 module _ (c : Connection) (d random out : List ℕ) (t : Tally) where
   abbrev Left : Step → Type 0
@@ -132,9 +131,9 @@ not_done : (c : Connection) (call : Call) → IsRefused (step_of c call).result 
 unfolding RefusedCallChangesNothing
 not_done c call x = (refused_call c call x).0
 
-left_loaded_lem : (state : List ℕ) (c a : Connection) (o : Outcome) → loaded state ≡ Is c → (NotDone o → a ≡ c) → left_loaded state a o ≡ Is a
-left_loaded_lem state c a O.Done e n = refl
-left_loaded_lem state c a (O.Refused x) e n = e ∙ ap Is (sym (n tt))
+left_loaded_lem : (state : List ℕ) (c a : Connection) (o : Result ⊤ Refusal) → loaded state ≡ Is c → (NotDone o → a ≡ c) → left_loaded state a o ≡ Is a
+left_loaded_lem state c a (Ok tt) e n = refl
+left_loaded_lem state c a (Err x) e n = e ∙ ap Is (sym (n tt))
 
 -- ---- a call on bytes that hold the connection that is read from them
 
@@ -173,10 +172,10 @@ module _ (state tally : List ℕ) (e : loaded state ≡ Is (connection_in state)
     received_answers true = refl
     received_answers false = refl
 
-    read_where : (taken : Taken) (x : Tally) → tally_in (where_taken taken (tally_bytes x) tally) ≡ where_taken taken (tally_in (tally_bytes x)) (tally_in tally)
-    read_where (T.Records count) x = refl
-    read_where (T.Refused refusal) x = refl
-    read_where (T.Misframed refusal at) x = refl
+    read_where : (taken : Result ℕ Untaken) (x : Tally) → tally_in (where_taken taken (tally_bytes x) tally) ≡ where_taken taken (tally_in (tally_bytes x)) (tally_in tally)
+    read_where (Ok count) x = refl
+    read_where (Err (T.Refused refusal)) x = refl
+    read_where (Err (T.Misframed refusal at)) x = refl
 
     received_tally : (b : Bool) → tally_in (pick b (where_taken r.taken (tally_bytes (counted_of (tally_in tally) r.answers)) tally) tally)
         ≡ tallied_by step_of (tally_in tally) c (made b)
@@ -382,11 +381,11 @@ each_is_layer_4 state tally c call e ranged kept =
 -- ---- runs
 
 -- a tally that is read back stays within its range
-picked_stays : (tally : List ℕ) (x : Tally) → TallyRanged (tally_in tally) → TallyRanged x → (b : Bool) (taken : Taken)
+picked_stays : (tally : List ℕ) (x : Tally) → TallyRanged (tally_in tally) → TallyRanged x → (b : Bool) (taken : Result ℕ Untaken)
     → TallyRanged (tally_in (pick b (where_taken taken (tally_bytes x) tally) tally))
-picked_stays tally x ranged more true (T.Records count) = subst TallyRanged (sym (back x more)) more
-picked_stays tally x ranged more true (T.Refused refusal) = ranged
-picked_stays tally x ranged more true (T.Misframed refusal at) = ranged
+picked_stays tally x ranged more true (Ok count) = subst TallyRanged (sym (back x more)) more
+picked_stays tally x ranged more true (Err (T.Refused refusal)) = ranged
+picked_stays tally x ranged more true (Err (T.Misframed refusal at)) = ranged
 picked_stays tally x ranged more false taken = ranged
 
 tally_stays : (state tally : List ℕ) (call : Exported) → TallyRanged (tally_in tally) → TallyRanged (tally_in (tally_after state tally call))
@@ -427,15 +426,15 @@ runs_are_layer_4 (call ∷ calls) state tally c e ranged kept =
 
 -- ---- fresh
 
-fresh_picked : (b : Bool) (state : List ℕ) (c : Connection) (o : Outcome) → b ≡ true → o ≡ O.Done → pick b (left_loaded state c o) (loaded state) ≡ Is c
-fresh_picked true state c O.Done t d = refl
-fresh_picked true state c (O.Refused x) t d = let z : ◌≡◌ {A = ℕ} 0 1 = cc in absurd (omega arith)
+fresh_picked : (b : Bool) (state : List ℕ) (c : Connection) (o : Result ⊤ Refusal) → b ≡ true → o ≡ Ok tt → pick b (left_loaded state c o) (loaded state) ≡ Is c
+fresh_picked true state c (Ok tt) t d = refl
+fresh_picked true state c (Err x) t d = let z : ◌≡◌ {A = ℕ} 0 1 = cc in absurd (omega arith)
 fresh_picked false state c o t d = let z : ◌≡◌ {A = ℕ} 0 1 = cc in absurd (omega arith)
 
 pub fresh_is_layer_4 : FreshIsLayer4
 unfolding FreshIsLayer4 fresh_loads FreshHolds
 fresh_is_layer_4 id secret width state size eight twenty held kept =
-    let made = (fresh_holds id secret width (leaving O.Done (fresh_one id secret width))).1 (fresh_done eight twenty held) in
+    let made = (fresh_holds id secret width (leaving (Ok tt) (fresh_one id secret width))).1 (fresh_done eight twenty held) in
     kept
     ∙ fresh_picked (eqb (length state) state_size) state (fresh_of id secret width).connection (fresh_of id secret width).outcome (eq-eqb (length state) state_size size)
     (ap (λ x. x.outcome) made)

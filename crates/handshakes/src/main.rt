@@ -11,7 +11,7 @@ mod show;
 
 use digest::Mac;
 use message::acceptance;
-use message::acceptance::{Heard, Plan};
+use message::acceptance::Plan;
 
 fn main() {
     handshake(Mac::Sha80);
@@ -22,7 +22,7 @@ fn main() {
 fn handshake(offered: Mac) {
     let client = messages::client_hello(offered);
     let planted = session::ID;
-    let Heard::Accepted(plan) = acceptance::hear(&client, &planted) else {
+    let Ok(plan) = acceptance::hear(&client, &planted) else {
         return;
     };
     let server = messages::server_hello(plan);

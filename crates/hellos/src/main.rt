@@ -2,7 +2,7 @@
 // a line for each: the refusal number with the field or the condition, or 0 with MAC number and refresh.
 #![tactic(auto)]
 
-use message::acceptance::{Condition, Heard};
+use message::acceptance::{Condition, Unheard};
 use message::hello::Field;
 use message::{acceptance, field};
 
@@ -25,14 +25,14 @@ fn hear_all(s: &[u8], planted: &[u8]) {
     }
 }
 
-fn show(heard: Heard) {
+fn show(heard: Result<Plan, Unheard>) {
     match heard {
-        Heard::Accepted(plan) => {
+        Ok(plan) => {
             let mac = plan.mac;
             line(0, mac.number(), plan.refresh);
         }
-        Heard::Unacceptable(condition) => line(13, condition_number(condition), 0),
-        Heard::Malformed(fault) => line(12, field_number(fault), 0),
+        Err(Unheard::Unacceptable(condition)) => line(13, condition_number(condition), 0),
+        Err(Unheard::Malformed(fault)) => line(12, field_number(fault), 0),
     }
 }
 

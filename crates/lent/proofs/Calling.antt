@@ -14,9 +14,6 @@ use Rattle.digest.proofs.Picks.{pick_yes, pick_no}
 use Rattle.message.specs.Alert.{level_of, sorted_of, among, descriptions, description_number}
 use Rattle.message.specs.declared.alert.Description.{Description}
 use Rattle.message.specs.declared.alert.Description.TheVariants as K
-use Rattle.message.specs.declared.alert.Graded.{Graded}
-use Rattle.message.specs.declared.alert.Graded.TheVariants as G
-use Rattle.message.specs.declared.alert.Sorted.TheVariants as D
 use Rattle.connection.specs.Send.{alert_sent, alert_output, alert_sent_as, alert_output_as, unsent}
 use Rattle.connection.specs.declared.connection.Connection.{Connection}
 use Rattle.connection.specs.declared.calls.Called.{Called}
@@ -25,6 +22,8 @@ use Rattle.connection.proofs.Sending.{no_level, no_level_output}
 use Rattle.lent.specs.Fields.{bytes_in}
 use Rattle.lent.specs.Saved.{state_size, handshake_size, handshake_place, started_place, mark, is_handshake, is_saved, connection_in, loaded}
 use Rattle.lent.specs.Calls.{result_of, refusal_in, left_in, left_loaded, called_result, called_state, called_loads, sense, lent_for}
+use Rattle.std.specs.Prelude.{None, Option, Some}
+use Rattle.message.specs.declared.alert.Level.{Level}
 
 -- a test and another
 pub both_true : (t x : Bool) → pick t x false ≡ true → (t ≡ true) × (x ≡ true)
@@ -91,7 +90,7 @@ pub sense_same : (A : Type 0) (p : ℕ) (f : Bool → A) (other : A) → ((b : B
 sense_same A p f other h = either (eqb p 0) (h false) (either (eqb p 1) (h true) refl)
 
 -- no level and no description is above 255
-pub no_level_above : (n : ℕ) → 255 < n → level_of n ≡ G.Unassigned
+pub no_level_above : (n : ℕ) → 255 < n → level_of n ≡ None
 unfolding level_of
 no_level_above n h =
     let a : eqb n 1 ≡ false = ne_eqb n 1 (λ e. omega arith) in
@@ -133,7 +132,7 @@ described_below K.InternalError = omega arith
 described_below K.UserCanceled = omega arith
 described_below K.NoRenegotiation = omega arith
 
-pub no_description_above : (ds : List Description) (n : ℕ) → 255 < n → among ds n ≡ D.Unassigned
+pub no_description_above : (ds : List Description) (n : ℕ) → 255 < n → among ds n ≡ None
 unfolding among
 no_description_above [] n h = refl
 no_description_above (d ∷ ds) n h =
@@ -153,13 +152,13 @@ unfolding alert_output
 level_above_output c protected level description answered out h =
     rw (no_level_above level h) (no_level_output c protected answered out (sorted_of description))
 
-no_sort : (c : Connection) (protected : Bool) (answered : List ℕ) (room : ℕ) (g : Graded) → unsent c Argument ≡ alert_sent_as c protected answered room g D.Unassigned
-no_sort c protected answered room (G.Is level) = refl
-no_sort c protected answered room G.Unassigned = refl
+no_sort : (c : Connection) (protected : Bool) (answered : List ℕ) (room : ℕ) (g : Option Level) → unsent c Argument ≡ alert_sent_as c protected answered room g None
+no_sort c protected answered room (Some level) = refl
+no_sort c protected answered room None = refl
 
-no_sort_output : (c : Connection) (protected : Bool) (answered out : List ℕ) (g : Graded) → out ≡ alert_output_as c protected answered out g D.Unassigned
-no_sort_output c protected answered out (G.Is level) = refl
-no_sort_output c protected answered out G.Unassigned = refl
+no_sort_output : (c : Connection) (protected : Bool) (answered out : List ℕ) (g : Option Level) → out ≡ alert_output_as c protected answered out g None
+no_sort_output c protected answered out (Some level) = refl
+no_sort_output c protected answered out None = refl
 
 pub description_above : (c : Connection) (protected : Bool) (level description : ℕ) (answered : List ℕ) (room : ℕ) → 255 < description
     → unsent c Argument ≡ alert_sent c protected level description answered room

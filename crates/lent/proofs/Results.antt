@@ -11,10 +11,6 @@ use Rattle.digest.specs.Pick.{pick}
 use Rattle.digest.specs.Bytes.{laid_over}
 use Rattle.record.specs.Datagram.{Framing, framed, faulty, framing_of}
 use Rattle.message.specs.Alert.{level_of, sorted_of}
-use Rattle.message.specs.declared.alert.Graded.{Graded}
-use Rattle.message.specs.declared.alert.Graded.TheVariants as G
-use Rattle.message.specs.declared.alert.Sorted.{Sorted}
-use Rattle.message.specs.declared.alert.Sorted.TheVariants as D
 use Rattle.record.specs.declared.header.Content.TheVariants as C
 use Rattle.connection.specs.Calls.{fresh_of, closed_of, started_of}
 use Rattle.connection.specs.Receive.{received_of, output_of, framed_to, sent_of, whole_of, run_of}
@@ -23,15 +19,17 @@ use Rattle.connection.specs.Tally.{counted_of}
 use Rattle.connection.specs.declared.refusal.Refusal.TheVariants.{Room, Argument}
 use Rattle.connection.specs.declared.connection.Connection.{Connection}
 use Rattle.connection.specs.declared.calls.Called.{Called}
-use Rattle.connection.specs.declared.calls.Outcome.{Outcome}
-use Rattle.connection.specs.declared.calls.Outcome.TheVariants.{Done, Refused}
-use Rattle.connection.specs.declared.receive.Taken.{Taken}
-use Rattle.connection.specs.declared.receive.Taken.TheVariants as T
+use Rattle.connection.specs.declared.receive.Untaken.TheVariants as T
 use Rattle.connection.proofs.Running.{laid_nothing}
 use Rattle.lent.specs.Saved.{state_size, is_saved, connection_in, saved_of}
 use Rattle.lent.specs.Report.{report_of}
 use Rattle.lent.specs.Counts.{tally_bytes, tally_in}
 use Rattle.lent.specs.Calls.{result_of, refusal_part, written_part, count_part, not_taken, refusal_in, left_in, fresh_result, fresh_state, called_result, called_state, close_result, close_state, start_result, start_state, sent_result, sent_state, data_result, data_state, data_out, alert_result, alert_state, alert_out, lent_for, taken_result, where_taken, got, receive_result, receive_state, receive_tally, receive_answers, receive_out}
+use Rattle.std.specs.Prelude.{Err, None, Ok, Option, Result, Some, ⊤}
+use Rattle.connection.specs.declared.receive.Untaken.{Untaken}
+use Rattle.connection.specs.declared.refusal.Refusal.{Refusal}
+use Rattle.message.specs.declared.alert.Description.{Description}
+use Rattle.message.specs.declared.alert.Level.{Level}
 
 -- The parts of an answer.
 high_of : (f w c : ℕ) → ((f * 65536 + w % 65536) * 65536 + c % 65536) / 65536 ≡ f * 65536 + w % 65536
@@ -65,9 +63,9 @@ count_part_lem f w c h = remainder (f * 65536 + w % 65536) c h
 abbrev pub IsRefused : ℕ → Type 0
 IsRefused result = refusal_part result ≡ 0 → ⊥
 
-left_alone : (t : Bool) (o : Outcome) (c : Connection) (b : List ℕ) (w : ℕ) → IsRefused (pick t (result_of (refusal_in o) w 0) not_taken) → pick t (left_in b c o) b ≡ b
-left_alone true Done c b w h = absurd (h (refusal_part_lem 0 w 0))
-left_alone true (Refused r) c b w h = refl
+left_alone : (t : Bool) (o : Result ⊤ Refusal) (c : Connection) (b : List ℕ) (w : ℕ) → IsRefused (pick t (result_of (refusal_in o) w 0) not_taken) → pick t (left_in b c o) b ≡ b
+left_alone true (Ok tt) c b w h = absurd (h (refusal_part_lem 0 w 0))
+left_alone true (Err r) c b w h = refl
 left_alone false o c b w h = refl
 
 -- ---- a refused call touches nothing
@@ -91,11 +89,11 @@ unfolding start_result start_state
 start_refused state h = called_refused started_of state h
 
 -- a send, by its outcome
-sent_alone : (t : Bool) (o : Outcome) (c : Connection) (next : List ℕ) (after : Connection) (state out : List ℕ)
+sent_alone : (t : Bool) (o : Result ⊤ Refusal) (c : Connection) (next : List ℕ) (after : Connection) (state out : List ℕ)
     → IsRefused (pick t (sent_result (sent_to c (done next after) o)) not_taken)
     → (pick t (sent_state state (sent_to c (done next after) o)) state ≡ state) × (pick t (output_to out next o) out ≡ out)
-sent_alone true Done c next after state out h = absurd (h (refusal_part_lem 0 (length next) 0))
-sent_alone true (Refused r) c next after state out h = (refl, refl)
+sent_alone true (Ok tt) c next after state out h = absurd (h (refusal_part_lem 0 (length next) 0))
+sent_alone true (Err r) c next after state out h = (refl, refl)
 sent_alone false o c next after state out h = (refl, refl)
 
 pub data_refused_lem : (state bytes out : List ℕ) → IsRefused (data_result state bytes (length out))
@@ -106,19 +104,19 @@ data_refused_lem state bytes out h =
     let next = next_protected k C.Data bytes in
     sent_alone (is_saved state) (data_outcome k (length bytes) (length out)) (connection_in state) next (after_send true (connection_in state) next) state out h
 
-alert_alone : (t : Bool) (state : List ℕ) (c : Connection) (protected : Bool) (answered out : List ℕ) (g : Graded) (d : Sorted)
+alert_alone : (t : Bool) (state : List ℕ) (c : Connection) (protected : Bool) (answered out : List ℕ) (g : Option Level) (d : Option Description)
     → IsRefused (pick t (sent_result (alert_sent_as c protected answered (length out) g d)) not_taken)
     → (pick t (sent_state state (alert_sent_as c protected answered (length out) g d)) state ≡ state) × (pick t (alert_output_as c protected answered out g d) out ≡ out)
-alert_alone t state c protected answered out (G.Is level) (D.Assigned description) h =
+alert_alone t state c protected answered out (Some level) (Some description) h =
     let k = sender_of protected c in
     let next = next_alert protected k (alert_body level description answered) in
     sent_alone t (alert_outcome protected k (length answered) (length out)) c next (after_send protected c next) state out h
-alert_alone true state c protected answered out (G.Is level) D.Unassigned h = (refl, refl)
-alert_alone false state c protected answered out (G.Is level) D.Unassigned h = (refl, refl)
-alert_alone true state c protected answered out G.Unassigned (D.Assigned description) h = (refl, refl)
-alert_alone false state c protected answered out G.Unassigned (D.Assigned description) h = (refl, refl)
-alert_alone true state c protected answered out G.Unassigned D.Unassigned h = (refl, refl)
-alert_alone false state c protected answered out G.Unassigned D.Unassigned h = (refl, refl)
+alert_alone true state c protected answered out (Some level) None h = (refl, refl)
+alert_alone false state c protected answered out (Some level) None h = (refl, refl)
+alert_alone true state c protected answered out None (Some description) h = (refl, refl)
+alert_alone false state c protected answered out None (Some description) h = (refl, refl)
+alert_alone true state c protected answered out None None h = (refl, refl)
+alert_alone false state c protected answered out None None h = (refl, refl)
 
 pub alert_refused_lem : (state : List ℕ) (protected level description : ℕ) (answered out : List ℕ)
     → IsRefused (alert_result state protected level description answered (length out))
@@ -143,15 +141,15 @@ pub record ReceiveAlone (state tally answers d random out : List ℕ) : Type 0 w
   pub answers_alone : receive_answers state tally answers d random (length out) ≡ answers
   pub out_alone : receive_out state tally answers d random out ≡ out
 
-taken_alone : {A : Type 0} (t : Bool) (taken : Taken) (written : ℕ) (after before : A) → IsRefused (pick t (taken_result written taken) not_taken)
+taken_alone : {A : Type 0} (t : Bool) (taken : Result ℕ Untaken) (written : ℕ) (after before : A) → IsRefused (pick t (taken_result written taken) not_taken)
     → pick t (where_taken taken after before) before ≡ before
-taken_alone true (T.Records count) written after before h = absurd (h (refusal_part_lem 0 written count))
-taken_alone true (T.Refused r) written after before h = refl
-taken_alone true (T.Misframed r at) written after before h = refl
+taken_alone true (Ok count) written after before h = absurd (h (refusal_part_lem 0 written count))
+taken_alone true (Err (T.Refused r)) written after before h = refl
+taken_alone true (Err (T.Misframed r at)) written after before h = refl
 taken_alone false taken written after before h = refl
 
 out_untouched : (t size room : Bool) (c : Connection) (random d out : List ℕ) (f : Framing)
-    → IsRefused (pick t (taken_result (pick size (pick room (whole_of c (T.Refused Room)) (framed_to c random d f)) (whole_of c (T.Refused Argument))).written (pick size (pick room (whole_of c (T.Refused Room)) (framed_to c random d f)) (whole_of c (T.Refused Argument))).taken) not_taken)
+    → IsRefused (pick t (taken_result (pick size (pick room (whole_of c (Err (T.Refused Room))) (framed_to c random d f)) (whole_of c (Err (T.Refused Argument)))).written (pick size (pick room (whole_of c (Err (T.Refused Room))) (framed_to c random d f)) (whole_of c (Err (T.Refused Argument)))).taken) not_taken)
     → pick t (pick size (pick room out (laid_over out 0 (sent_of c random d f))) out) out ≡ out
 unfolding whole_of run_of
 out_untouched true true true c random d out f h = refl

@@ -15,10 +15,7 @@ use Rattle.record.specs.Datagram.{Framing, framed, faulty, after, ahead, placed_
 use Rattle.record.specs.Window.{accept_of}
 use Rattle.record.specs.declared.reader.Record.{Record}
 use Rattle.record.specs.declared.reader.Fault.TheVariants as F
-use Rattle.record.specs.declared.reader.Reading.{Reading}
-use Rattle.record.specs.declared.reader.Reading.TheVariants as R
-use Rattle.record.specs.declared.window.Acceptance.{Acceptance}
-use Rattle.record.specs.declared.window.Acceptance.TheVariants as N
+use Rattle.record.specs.declared.window.NotNew.TheVariants as N
 use Rattle.record.specs.declared.header.Content.TheVariants as C
 use Rattle.record.proofs.Standing.{takes}
 use Rattle.record.proofs.Covering.{covers}
@@ -27,19 +24,11 @@ use Rattle.message.specs.Acceptance.{heard_of}
 use Rattle.message.specs.Alert.{alert_of, level_of, sorted_of}
 use Rattle.message.specs.Change.{is_change}
 use Rattle.message.specs.Finished.{judged_of}
-use Rattle.message.specs.declared.acceptance.Heard.{Heard}
-use Rattle.message.specs.declared.acceptance.Heard.TheVariants as H
+use Rattle.message.specs.declared.acceptance.Unheard.TheVariants as H
 use Rattle.message.specs.declared.alert.Level.{Level}
 use Rattle.message.specs.declared.alert.Level.TheVariants as L
 use Rattle.message.specs.declared.alert.Description.{Description}
-use Rattle.message.specs.declared.alert.Reading.{Reading as AlertReading}
-use Rattle.message.specs.declared.alert.Reading.TheVariants as Q
-use Rattle.message.specs.declared.alert.Graded.{Graded}
-use Rattle.message.specs.declared.alert.Graded.TheVariants as G
-use Rattle.message.specs.declared.alert.Sorted.{Sorted}
-use Rattle.message.specs.declared.alert.Sorted.TheVariants as D
-use Rattle.message.specs.declared.finished.Verified.{Verified}
-use Rattle.message.specs.declared.finished.Verified.TheVariants as Fin
+use Rattle.message.specs.declared.finished.Unverified.TheVariants as Fin
 use Rattle.connection.specs.Handshake.{with_state, with_window, planted, nothing_kept}
 use Rattle.connection.specs.Sent.{matches_of}
 use Rattle.connection.specs.Asked.{whom_of, asked_of}
@@ -67,10 +56,7 @@ use Rattle.connection.specs.declared.asked.Whom.TheVariants as A
 use Rattle.connection.specs.declared.sent.SentRecords.{SentRecords}
 use Rattle.connection.specs.declared.handshake.Handshake.{Handshake}
 use Rattle.connection.specs.declared.connection.Connection.{Connection}
-use Rattle.connection.specs.declared.calls.Outcome.{Outcome}
-use Rattle.connection.specs.declared.calls.Outcome.TheVariants.{Done, Refused}
-use Rattle.connection.specs.declared.receive.Taken.{Taken}
-use Rattle.connection.specs.declared.receive.Taken.TheVariants as T
+use Rattle.connection.specs.declared.receive.Untaken.TheVariants as T
 use Rattle.connection.specs.declared.send.Sent.{Sent}
 use Rattle.connection.proofs.Replying.{reply_size_lem}
 use Rattle.connection.proofs.Sending.{next_size, clear_size}
@@ -80,6 +66,15 @@ use Rattle.lent.specs.Calls.{written_part, count_part, not_taken, refusal_in, se
 use Rattle.lent.proofs.Reading.{part_length}
 use Rattle.lent.proofs.Calling.{lent_sizes, sense_in}
 use Rattle.lent.proofs.Results.{written_part_lem, count_part_lem}
+use Rattle.std.specs.Prelude.{Err, None, Ok, Option, Result, Some, ⊤}
+use Rattle.connection.specs.declared.receive.Untaken.{Untaken}
+use Rattle.message.specs.declared.acceptance.Plan.{Plan}
+use Rattle.message.specs.declared.acceptance.Unheard.{Unheard}
+use Rattle.message.specs.declared.alert.Alert.{Alert}
+use Rattle.message.specs.declared.finished.Unverified.{Unverified}
+use Rattle.record.specs.declared.reader.Fault.{Fault}
+use Rattle.record.specs.declared.window.NotNew.{NotNew}
+use Rattle.record.specs.declared.window.Window.{Window}
 
 take_most : (n : ℕ) (l : List ℕ) → length (take n l) ≤ n
 take_most zero l = omega arith
@@ -114,11 +109,11 @@ module _ where
   small_finished h S.Closed = omega arith
   small_finished h S.Barred = omega arith
 
-  small_verified : (h : Handshake) (v : Verified) → Small (verified_to h v)
+  small_verified : (h : Handshake) (v : Result ⊤ Unverified) → Small (verified_to h v)
   unfolding Small
-  small_verified h Fin.Right = small_finished h h.state
-  small_verified h Fin.Wrong = omega arith
-  small_verified h Fin.Malformed = omega arith
+  small_verified h (Ok tt) = small_finished h h.state
+  small_verified h (Err Fin.Wrong) = omega arith
+  small_verified h (Err Fin.Malformed) = omega arith
 
   small_protected : (h : Handshake) (l : Level) (d : Description) → Small (protected_level h l d)
   unfolding Small
@@ -126,10 +121,10 @@ module _ where
   small_protected h L.Critical d = omega arith
   small_protected h L.Fatal d = omega arith
 
-  small_alerted : (h : Handshake) (a : AlertReading) → Small (alerted_to h a)
+  small_alerted : (h : Handshake) (a : Option Alert) → Small (alerted_to h a)
   unfolding Small
-  small_alerted h Q.Malformed = omega arith
-  small_alerted h (Q.WellFormed a) = small_protected h a.level a.description
+  small_alerted h None = omega arith
+  small_alerted h (Some a) = small_protected h a.level a.description
 
   small_content : (h : Handshake) (kind : Kind) (number at : ℕ) (content : List ℕ) → Small (content_by h kind number at content)
   unfolding content_by alerted_by verified_by Small
@@ -143,11 +138,11 @@ module _ where
   small_content h K.ClearAlert number at content = omega arith
   small_content h K.OtherClear number at content = omega arith
 
-  small_windowed : (h : Handshake) (kind : Kind) (number at : ℕ) (content : List ℕ) (a : Acceptance) → Small (windowed_to h kind number at content a)
+  small_windowed : (h : Handshake) (kind : Kind) (number at : ℕ) (content : List ℕ) (a : Result (Window × ℕ) NotNew) → Small (windowed_to h kind number at content a)
   unfolding Small
-  small_windowed h kind number at content N.TooOld = omega arith
-  small_windowed h kind number at content N.Repeated = omega arith
-  small_windowed h kind number at content (N.New window arrived) = small_content (with_window h window) kind number at content
+  small_windowed h kind number at content (Err N.TooOld) = omega arith
+  small_windowed h kind number at content (Err N.Repeated) = omega arith
+  small_windowed h kind number at content (Ok (window, arrived)) = small_content (with_window h window) kind number at content
 
   small_opened_record : (h : Handshake) (kind : Kind) (byte number at : ℕ) (fragment : List ℕ) → Small (opened_record h kind byte number at fragment)
   small_opened_record h kind byte number at fragment =
@@ -162,9 +157,9 @@ module _ where
   small_level h L.Critical d = omega arith
   small_level h L.Fatal d = omega arith
 
-  small_heard : (h : Handshake) (sent : SentRecords) (a : AlertReading) → Small (heard_by h sent a)
-  small_heard h sent Q.Malformed = small_refusing Malformed h
-  small_heard h sent (Q.WellFormed a) =
+  small_heard : (h : Handshake) (sent : SentRecords) (a : Option Alert) → Small (heard_by h sent a)
+  small_heard h sent None = small_refusing Malformed h
+  small_heard h sent (Some a) =
       small_pick (matches_of sent a.checksum) (by_level h a.level a.description) (refusing Checksum h)
       (small_level h a.level a.description)
       (small_refusing Checksum h)
@@ -176,11 +171,11 @@ module _ where
 
   -- what a hello gives: 74 or 84 bytes
   module _ (h : Handshake) (random : List ℕ) (lr : length random ≡ 16) (li : length h.id ≡ 8) (lk : length h.kept.reply ≤ 84) where
-    small_to : (m : List ℕ) (heard : Heard) → Small (heard_to h random m heard)
+    small_to : (m : List ℕ) (heard : Result Plan Unheard) → Small (heard_to h random m heard)
     unfolding Small
-    small_to m (H.Accepted plan) = omega (arith, reply_size_lem (planted h) random m plan lr li, size_most plan.mac)
-    small_to m (H.Unacceptable condition) = omega arith
-    small_to m (H.Malformed fault) = omega arith
+    small_to m (Ok plan) = omega (arith, reply_size_lem (planted h) random m plan lr li, size_most plan.mac)
+    small_to m (Err (H.Unacceptable condition)) = omega arith
+    small_to m (Err (H.Malformed fault)) = omega arith
 
     small_greeted : (m : List ℕ) → Small (greeted_by h random m)
     unfolding greeted_by
@@ -261,12 +256,12 @@ offset_from zero at s = told (eqb (length s) 0)
     told false = omega arith
 offset_from (suc room) at s = told (eqb (length s) 0) (read_of s) refl (λ r. offset_from room (at + r.used) (drop r.used s))
   where
-    told : (b : Bool) (x : Reading) → read_of s ≡ x
+    told : (b : Bool) (x : Result Record Fault) → read_of s ≡ x
         → ((r : Record) → offset_in (framing_from room (at + r.used) (drop r.used s)) ≤ at + r.used + length (drop r.used s))
         → offset_in (pick b (framed []) (ahead at x (λ r. framing_from room (at + r.used) (drop r.used s)))) ≤ at + length s
     told true x e rest = omega arith
-    told false (R.Refused f) e rest = omega arith
-    told false (R.Sound r) e rest =
+    told false (Err f) e rest = omega arith
+    told false (Ok r) e rest =
         omega (arith, offset_after (placed_at r at ∷ []) (framing_from room (at + r.used) (drop r.used s)), rest r, length-drop r.used s, takes s r e)
 
 offset_most : (d : List ℕ) → offset_in (framing_of d) ≤ 1400
@@ -280,10 +275,10 @@ offset_most d = told (eqb (length d) 0) (ltb 1400 (length d)) refl
 
 -- ---- receive: the count is the number of records, or the offset; what is written is counted whole
 
-abbrev pub count_in : Taken → ℕ
-count_in (T.Records count) = count
-count_in (T.Refused refusal) = 0
-count_in (T.Misframed refusal at) = at
+abbrev pub count_in : Result ℕ Untaken → ℕ
+count_in (Ok count) = count
+count_in (Err (T.Refused refusal)) = 0
+count_in (Err (T.Misframed refusal at)) = at
 
 exact_framed : (c : Connection) (random d : List ℕ) (f : Framing) → framing_of d ≡ f → length random ≡ 16 → Fitting c.handshake → Fitting c.started
     → ((framed_to c random d f).written ≤ 84) × (count_in (framed_to c random d f).taken ≤ 1400)
@@ -299,8 +294,8 @@ unfolding received_of whole_of
 exact_received c d random room f g = told (eqb (length random) 16) (ltb room 128) refl
   where
     told : (t u : Bool) → eqb (length random) 16 ≡ t
-        → ((pick t (pick u (whole_of c (T.Refused Room)) (framed_to c random d (framing_of d))) (whole_of c (T.Refused Argument))).written ≤ 84)
-        × (count_in (pick t (pick u (whole_of c (T.Refused Room)) (framed_to c random d (framing_of d))) (whole_of c (T.Refused Argument))).taken ≤ 1400)
+        → ((pick t (pick u (whole_of c (Err (T.Refused Room))) (framed_to c random d (framing_of d))) (whole_of c (Err (T.Refused Argument)))).written ≤ 84)
+        × (count_in (pick t (pick u (whole_of c (Err (T.Refused Room))) (framed_to c random d (framing_of d))) (whole_of c (Err (T.Refused Argument)))).taken ≤ 1400)
     told true true e = (omega arith, omega arith)
     told true false e = exact_framed c random d (framing_of d) refl (eqb-true (length random) 16 e) f g
     told false u e = (omega arith, omega arith)
@@ -316,10 +311,10 @@ lent_exact state d random room l =
     (handshake_fits (bytes_in state 40 450) (part_length state 40 450 (omega arith)))
     (handshake_fits (bytes_in state 490 450) (part_length state 490 450 (omega arith)))
 
-taken_parts : (written : ℕ) (taken : Taken) → written ≤ 84 → count_in taken ≤ 1400 → count_part (taken_result written taken) ≡ count_in taken
-taken_parts written (T.Records count) hw hc = count_part_lem 0 written count (omega arith)
-taken_parts written (T.Refused r) hw hc = count_part_lem _ 0 0 (omega arith)
-taken_parts written (T.Misframed r at) hw hc = count_part_lem _ 0 at (omega arith)
+taken_parts : (written : ℕ) (taken : Result ℕ Untaken) → written ≤ 84 → count_in taken ≤ 1400 → count_part (taken_result written taken) ≡ count_in taken
+taken_parts written (Ok count) hw hc = count_part_lem 0 written count (omega arith)
+taken_parts written (Err (T.Refused r)) hw hc = count_part_lem _ 0 0 (omega arith)
+taken_parts written (Err (T.Misframed r at)) hw hc = count_part_lem _ 0 at (omega arith)
 
 -- The count of a receive that is lent what it needs: so many records, or the offset of the record at fault.
 pub receive_count : (state tally answers d random : List ℕ) (room : ℕ) → lent_for state (length tally) (length answers) ≡ true
@@ -331,7 +326,7 @@ receive_count state tally answers d random room lent =
 
 -- What a receive that takes a datagram has written: as many bytes as the layer below says.
 pub receive_written : (state tally answers d random : List ℕ) (room count : ℕ) → lent_for state (length tally) (length answers) ≡ true
-    → (got state d random room).taken ≡ T.Records count
+    → (got state d random room).taken ≡ Ok count
     → written_part (receive_result state tally answers d random room) ≡ (got state d random room).written
 unfolding receive_result
 receive_written state tally answers d random room count lent taken =
@@ -340,22 +335,22 @@ receive_written state tally answers d random room count lent taken =
 
 -- ---- sends: what is written is counted whole
 
-sent_most : (t : Bool) (o : Outcome) (c : Connection) (next : List ℕ) (left : Connection) → (o ≡ Done → length next ≤ 1323) → (sent_to c (done next left) o).written ≤ 1323
-sent_most t Done c next left most = most refl
-sent_most t (Refused r) c next left most = omega arith
+sent_most : (t : Bool) (o : Result ⊤ Refusal) (c : Connection) (next : List ℕ) (left : Connection) → (o ≡ Ok tt → length next ≤ 1323) → (sent_to c (done next left) o).written ≤ 1323
+sent_most t (Ok tt) c next left most = most refl
+sent_most t (Err r) c next left most = omega arith
 
-past_test : (b : Bool) (r : Refusal) (o : Outcome) → pick b (Refused r) o ≡ Done → b ≡ false
+past_test : (b : Bool) (r : Refusal) (o : Result ⊤ Refusal) → pick b (Err r) o ≡ Ok tt → b ≡ false
 past_test true r o e = let z : ◌≡◌ {A = ℕ} 0 1 = cc in absurd (omega arith)
 past_test false r o e = refl
 
-next_test : (b : Bool) (r : Refusal) (o : Outcome) → pick b (Refused r) o ≡ Done → o ≡ Done
+next_test : (b : Bool) (r : Refusal) (o : Result ⊤ Refusal) → pick b (Err r) o ≡ Ok tt → o ≡ Ok tt
 next_test true r o e = let z : ◌≡◌ {A = ℕ} 0 1 = cc in absurd (omega arith)
 next_test false r o e = e
 
-most : (state : State) (n number code room : ℕ) → data_refused state n number code room ≡ Done → n ≤ 1300
+most : (state : State) (n number code room : ℕ) → data_refused state n number code room ≡ Ok tt → n ≤ 1300
 unfolding data_refused
 most state n number code room e =
-    let rest = next_test (eqb n 0) Argument (pick (ltb 1300 n) (Refused Argument) (and_then (may_data state) (numbered_by number (3 + n + code) room))) e in
+    let rest = next_test (eqb n 0) Argument (pick (ltb 1300 n) (Err Argument) (and_then (may_data state) (numbered_by number (3 + n + code) room))) e in
     ltb-false 1300 n (past_test (ltb 1300 n) Argument (and_then (may_data state) (numbered_by number (3 + n + code) room)) rest)
 
 data_most : (c : Connection) (bytes : List ℕ) (room : ℕ) → (data_sent c bytes room).written ≤ 1323
@@ -366,23 +361,23 @@ data_most c bytes room =
     sent_most true (data_outcome h (length bytes) room) c next (after_send true c next)
     (λ e. omega (arith, size h (length bytes) room e, next_size h C.Data bytes, size_most h.protection.keys.mac))
   where
-    size : (h : Handshake) (n room : ℕ) → data_outcome h n room ≡ Done → n ≤ 1300
+    size : (h : Handshake) (n room : ℕ) → data_outcome h n room ≡ Ok tt → n ≤ 1300
     size h n room e = most h.state n h.protection.protected (size_of h.protection.keys.mac) room e
 
-alert_most : (c : Connection) (protected : Bool) (answered : List ℕ) (room : ℕ) (g : Graded) (d : Sorted) → (alert_sent_as c protected answered room g d).written ≤ 1323
-alert_most c true answered room (G.Is level) (D.Assigned description) =
+alert_most : (c : Connection) (protected : Bool) (answered : List ℕ) (room : ℕ) (g : Option Level) (d : Option Description) → (alert_sent_as c protected answered room g d).written ≤ 1323
+alert_most c true answered room (Some level) (Some description) =
     let h = c.handshake in
     let body = alert_body level description answered in
     sent_most true (alert_outcome true h (length answered) room) c (next_alert true h body) (after_send true c (next_alert true h body))
     (λ e. omega (arith, next_size h C.Alert body, size_most h.protection.keys.mac))
-alert_most c false answered room (G.Is level) (D.Assigned description) =
+alert_most c false answered room (Some level) (Some description) =
     let h = sender_of false c in
     let body = alert_body level description answered in
     sent_most true (alert_outcome false h (length answered) room) c (next_alert false h body) (after_send false c (next_alert false h body))
     (λ e. omega (arith, clear_size h body))
-alert_most c protected answered room (G.Is level) D.Unassigned = omega arith
-alert_most c protected answered room G.Unassigned (D.Assigned description) = omega arith
-alert_most c protected answered room G.Unassigned D.Unassigned = omega arith
+alert_most c protected answered room (Some level) None = omega arith
+alert_most c protected answered room None (Some description) = omega arith
+alert_most c protected answered room None None = omega arith
 
 pub data_written : (state bytes : List ℕ) (room : ℕ) → is_saved state ≡ true
     → written_part (data_result state bytes room) ≡ (data_sent (connection_in state) bytes room).written

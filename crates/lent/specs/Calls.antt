@@ -1,7 +1,9 @@
 -- The exported calls: each is a call of the connection on the connection that the lent bytes hold. "16: argument out
 -- of range" is stretched to bytes that are no saved connection, and to a tally or answers of another size. A refused
 -- call leaves every lent byte as it was.
-use Rattle.std.specs.Prelude.{Bool, true, false, List, ℕ, ◌+◌, ◌*◌, ◌/◌, ◌%◌, length, get_or, eqb}
+use Rattle.std.specs.Prelude.{Bool, true, false, List, ℕ, ◌+◌, ◌*◌, ◌/◌, ◌%◌, length, get_or, eqb, Err, Ok, Result, ⊤}
+use Rattle.connection.specs.declared.receive.Untaken.{Untaken}
+use Rattle.connection.specs.declared.refusal.Refusal.{Refusal}
 use Rattle.digest.specs.Pick.{pick}
 use Rattle.record.specs.Window.{arrival_of}
 use Rattle.connection.specs.Refusal.{refusal_number}
@@ -10,11 +12,8 @@ use Rattle.connection.specs.Receive.{received_of, output_of}
 use Rattle.connection.specs.Send.{data_sent, data_output, alert_sent, alert_output}
 use Rattle.connection.specs.Tally.{counted_of}
 use Rattle.connection.specs.declared.connection.Connection.{Connection}
-use Rattle.connection.specs.declared.calls.Outcome.{Outcome}
-use Rattle.connection.specs.declared.calls.Outcome.TheVariants.{Done, Refused}
 use Rattle.connection.specs.declared.calls.Called.{Called}
-use Rattle.connection.specs.declared.receive.Taken.{Taken}
-use Rattle.connection.specs.declared.receive.Taken.TheVariants as T
+use Rattle.connection.specs.declared.receive.Untaken.TheVariants as T
 use Rattle.connection.specs.declared.receive.Received.{Received}
 use Rattle.connection.specs.declared.send.Sent.{Sent}
 use Rattle.lent.specs.Saved.{state_size, handshake_place, saved_of, is_saved, connection_in, Loaded, Is, loaded}
@@ -41,19 +40,19 @@ abbrev pub not_taken : ℕ
 not_taken = result_of 16 0 0
 
 -- 0 where a call is done, else the number of its refusal
-abbrev pub refusal_in : Outcome → ℕ
-refusal_in Done = 0
-refusal_in (Refused refusal) = refusal_number refusal
+abbrev pub refusal_in : Result ⊤ Refusal → ℕ
+refusal_in (Ok tt) = 0
+refusal_in (Err refusal) = refusal_number refusal
 
 -- the lent bytes after a call: the connection that it leaves; untouched where it is refused
-abbrev pub left_in : List ℕ → Connection → Outcome → List ℕ
-left_in state c Done = saved_of c
-left_in state c (Refused refusal) = state
+abbrev pub left_in : List ℕ → Connection → Result ⊤ Refusal → List ℕ
+left_in state c (Ok tt) = saved_of c
+left_in state c (Err refusal) = state
 
 -- what they load as then: the connection that the call leaves; what they were where it is refused
-abbrev pub left_loaded : List ℕ → Connection → Outcome → Loaded
-left_loaded state c Done = Is c
-left_loaded state c (Refused refusal) = loaded state
+abbrev pub left_loaded : List ℕ → Connection → Result ⊤ Refusal → Loaded
+left_loaded state c (Ok tt) = Is c
+left_loaded state c (Err refusal) = loaded state
 
 -- fresh: in 940 bytes, whatever they hold
 unfoldable pub fresh_result : List ℕ → List ℕ → ℕ → ℕ → ℕ
@@ -182,15 +181,15 @@ unfoldable pub lent_for : List ℕ → ℕ → ℕ → Bool
 lent_for state counts places = pick (eqb counts 16) (pick (eqb places 192) (is_saved state) false) false
 
 -- a datagram refused as a whole touches nothing; 1 to 5 give the offset of the record at fault as the count
-abbrev pub taken_result : ℕ → Taken → ℕ
-taken_result written (T.Records count) = result_of 0 written count
-taken_result written (T.Refused refusal) = result_of (refusal_number refusal) 0 0
-taken_result written (T.Misframed refusal at) = result_of (refusal_number refusal) 0 at
+abbrev pub taken_result : ℕ → Result ℕ Untaken → ℕ
+taken_result written (Ok count) = result_of 0 written count
+taken_result written (Err (T.Refused refusal)) = result_of (refusal_number refusal) 0 0
+taken_result written (Err (T.Misframed refusal at)) = result_of (refusal_number refusal) 0 at
 
-abbrev pub where_taken : {A : Type 0} → Taken → A → A → A
-where_taken (T.Records count) after before = after
-where_taken (T.Refused refusal) after before = before
-where_taken (T.Misframed refusal at) after before = before
+abbrev pub where_taken : {A : Type 0} → Result ℕ Untaken → A → A → A
+where_taken (Ok count) after before = after
+where_taken (Err (T.Refused refusal)) after before = before
+where_taken (Err (T.Misframed refusal at)) after before = before
 
 abbrev pub got : List ℕ → List ℕ → List ℕ → ℕ → Received
 got state d random room = received_of (connection_in state) d random room

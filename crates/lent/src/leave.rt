@@ -12,8 +12,8 @@ use crate::counts::{put_tally, tally_in};
 use crate::report::put_answers;
 use crate::result::result_of;
 use crate::save::put_connection;
-use connection::calls::{Called, Outcome};
-use connection::receive::{Received, Taken};
+use connection::calls::Called;
+use connection::receive::{Received, Untaken};
 use connection::refusal::number;
 use connection::send::Sent;
 
@@ -25,8 +25,8 @@ pub(crate) fn leave_called(called: Called, state: &mut [u8]) -> u64
 {
     let outcome = called.outcome;
     match outcome {
-        Outcome::Refused(refusal) => result_of(number(refusal), 0, 0),
-        Outcome::Done => {
+        Err(refusal) => result_of(number(refusal), 0, 0),
+        Ok(()) => {
             put_connection(state, called.connection);
             result_of(0, 0, 0)
         }
@@ -41,8 +41,8 @@ pub(crate) fn leave_sent(sent: Sent, state: &mut [u8]) -> u64
 {
     let outcome = sent.outcome;
     match outcome {
-        Outcome::Refused(refusal) => result_of(number(refusal), sent.written, 0),
-        Outcome::Done => {
+        Err(refusal) => result_of(number(refusal), sent.written, 0),
+        Ok(()) => {
             put_connection(state, sent.connection);
             result_of(0, sent.written, 0)
         }
@@ -68,9 +68,9 @@ pub(crate) fn leave_received(
 {
     let taken = received.taken;
     match taken {
-        Taken::Refused(refusal) => result_of(number(refusal), 0, 0),
-        Taken::Misframed(refusal, at) => result_of(number(refusal), 0, at),
-        Taken::Records(count) => {
+        Err(Untaken::Refused(refusal)) => result_of(number(refusal), 0, 0),
+        Err(Untaken::Misframed(refusal, at)) => result_of(number(refusal), 0, at),
+        Ok(count) => {
             put_connection(state, received.connection);
             let before = tally_in(tally);
             let given = received.answers;

@@ -9,10 +9,6 @@ use borrow.Author.Tests.{eqb-true}
 use Rattle.digest.specs.Pick.{pick}
 use Rattle.digest.specs.Bytes.{word_at}
 use Rattle.message.specs.Alert.{level_of, sorted_of, descriptions}
-use Rattle.message.specs.declared.alert.Graded.{Graded}
-use Rattle.message.specs.declared.alert.Graded.TheVariants as G
-use Rattle.message.specs.declared.alert.Sorted.{Sorted}
-use Rattle.message.specs.declared.alert.Sorted.TheVariants as D
 use Rattle.connection.specs.declared.refusal.Refusal.TheVariants.{Argument}
 use Rattle.lent.specs.Calls.{result_of, refusal_in}
 use Rattle.lent.proofs.Calling.{both_true, test_yes, no_level_above, no_description_above}
@@ -21,6 +17,9 @@ use Rattle.unit.specs.declared.calls.Called.{Called}
 use Rattle.unit.specs.declared.unit.Unit.{Unit}
 use Rattle.lentunit.specs.Saved.{unit_size, state_place, mark, is_saved, unit_in, loaded}
 use Rattle.lentunit.specs.Calls.{left_in, left_loaded, called_result, called_state, called_loads, lent_for}
+use Rattle.std.specs.Prelude.{None, Option, Some}
+use Rattle.message.specs.declared.alert.Description.{Description}
+use Rattle.message.specs.declared.alert.Level.{Level}
 
 -- a saved unit has its size
 pub saved_size : (b : List ℕ) → is_saved b ≡ true → length b ≡ unit_size
@@ -56,21 +55,21 @@ called call b t k r e s h is er ee el = (
 )
 
 -- no level and no description is above 255: an alert with one is refused 16, and nothing is written
-no_level : (u : Unit) (protected : Bool) (answered : List ℕ) (room : ℕ) (d : Sorted) → unsent u Argument ≡ alert_sent_as u protected answered room G.Unassigned d
-no_level u protected answered room (D.Assigned description) = refl
-no_level u protected answered room D.Unassigned = refl
+no_level : (u : Unit) (protected : Bool) (answered : List ℕ) (room : ℕ) (d : Option Description) → unsent u Argument ≡ alert_sent_as u protected answered room None d
+no_level u protected answered room (Some description) = refl
+no_level u protected answered room None = refl
 
-no_level_output : (u : Unit) (protected : Bool) (answered out : List ℕ) (d : Sorted) → out ≡ alert_output_as u protected answered out G.Unassigned d
-no_level_output u protected answered out (D.Assigned description) = refl
-no_level_output u protected answered out D.Unassigned = refl
+no_level_output : (u : Unit) (protected : Bool) (answered out : List ℕ) (d : Option Description) → out ≡ alert_output_as u protected answered out None d
+no_level_output u protected answered out (Some description) = refl
+no_level_output u protected answered out None = refl
 
-no_sort : (u : Unit) (protected : Bool) (answered : List ℕ) (room : ℕ) (g : Graded) → unsent u Argument ≡ alert_sent_as u protected answered room g D.Unassigned
-no_sort u protected answered room (G.Is level) = refl
-no_sort u protected answered room G.Unassigned = refl
+no_sort : (u : Unit) (protected : Bool) (answered : List ℕ) (room : ℕ) (g : Option Level) → unsent u Argument ≡ alert_sent_as u protected answered room g None
+no_sort u protected answered room (Some level) = refl
+no_sort u protected answered room None = refl
 
-no_sort_output : (u : Unit) (protected : Bool) (answered out : List ℕ) (g : Graded) → out ≡ alert_output_as u protected answered out g D.Unassigned
-no_sort_output u protected answered out (G.Is level) = refl
-no_sort_output u protected answered out G.Unassigned = refl
+no_sort_output : (u : Unit) (protected : Bool) (answered out : List ℕ) (g : Option Level) → out ≡ alert_output_as u protected answered out g None
+no_sort_output u protected answered out (Some level) = refl
+no_sort_output u protected answered out None = refl
 
 pub level_above : (u : Unit) (protected : Bool) (level description : ℕ) (answered : List ℕ) (room : ℕ) → 255 < level
     → unsent u Argument ≡ alert_sent u protected level description answered room

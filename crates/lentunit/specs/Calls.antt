@@ -1,10 +1,9 @@
 -- The exported calls: each is a call of the unit on the unit that the lent bytes hold. "16: argument out of range" is stretched to
 -- bytes that are no saved unit, and to a tally or answers of another size. A refused call leaves every lent byte as it was.
-use Rattle.std.specs.Prelude.{Bool, false, List, ℕ, length, get_or, eqb}
+use Rattle.std.specs.Prelude.{Bool, false, List, ℕ, length, get_or, eqb, Err, Ok, Result, ⊤}
+use Rattle.connection.specs.declared.refusal.Refusal.{Refusal}
 use Rattle.digest.specs.Pick.{pick}
 use Rattle.record.specs.Window.{arrival_of}
-use Rattle.connection.specs.declared.calls.Outcome.{Outcome}
-use Rattle.connection.specs.declared.calls.Outcome.TheVariants.{Done, Refused}
 use Rattle.lent.specs.Calls.{result_of, not_taken, refusal_in, sense, taken_result, where_taken}
 use Rattle.lent.specs.Counts.{tally_bytes, tally_in}
 use Rattle.unit.specs.Calls.{fresh_of, closed_of, started_of}
@@ -20,14 +19,14 @@ use Rattle.lentunit.specs.Report.{report_of}
 use Rattle.lentunit.specs.Saved.{unit_size, state_place, saved_of, is_saved, unit_in, Loaded, Is, loaded}
 
 -- the lent bytes after a call: the unit that it leaves; untouched where it is refused
-abbrev pub left_in : List ℕ → Unit → Outcome → List ℕ
-left_in state u Done = saved_of u
-left_in state u (Refused refusal) = state
+abbrev pub left_in : List ℕ → Unit → Result ⊤ Refusal → List ℕ
+left_in state u (Ok tt) = saved_of u
+left_in state u (Err refusal) = state
 
 -- what they load as then: the unit that the call leaves; what they were where it is refused
-abbrev pub left_loaded : List ℕ → Unit → Outcome → Loaded
-left_loaded state u Done = Is u
-left_loaded state u (Refused refusal) = loaded state
+abbrev pub left_loaded : List ℕ → Unit → Result ⊤ Refusal → Loaded
+left_loaded state u (Ok tt) = Is u
+left_loaded state u (Err refusal) = loaded state
 
 -- fresh: in 180 bytes, whatever they hold
 unfoldable pub fresh_result : List ℕ → List ℕ → ℕ → ℕ → ℕ

@@ -9,8 +9,7 @@ ghost use Rattle.lentunit.specs.Calls.{left_in, left_loaded, sent_result, sent_s
 
 use crate::report::put_answers;
 use crate::save::put_unit;
-use connection::calls::Outcome;
-use connection::receive::Taken;
+use connection::receive::Untaken;
 use connection::refusal::number;
 use lent::{lay_tally, result_of, tally_within};
 use unit::calls::Called;
@@ -33,8 +32,8 @@ pub(crate) fn leave_called(called: Called, state: &mut [u8]) -> u64
 {
     let outcome = called.outcome;
     match outcome {
-        Outcome::Refused(refusal) => result_of(number(refusal), 0, 0),
-        Outcome::Done => {
+        Err(refusal) => result_of(number(refusal), 0, 0),
+        Ok(()) => {
             put_unit(state, called.unit);
             result_of(0, 0, 0)
         }
@@ -49,8 +48,8 @@ pub(crate) fn leave_sent(sent: Sent, state: &mut [u8]) -> u64
 {
     let outcome = sent.outcome;
     match outcome {
-        Outcome::Refused(refusal) => result_of(number(refusal), sent.written, 0),
-        Outcome::Done => {
+        Err(refusal) => result_of(number(refusal), sent.written, 0),
+        Ok(()) => {
             put_unit(state, sent.unit);
             result_of(0, sent.written, 0)
         }
@@ -63,8 +62,8 @@ pub(crate) fn said(sent: Sent) -> u64
 {
     let outcome = sent.outcome;
     match outcome {
-        Outcome::Refused(refusal) => result_of(number(refusal), sent.written, 0),
-        Outcome::Done => result_of(0, sent.written, 0),
+        Err(refusal) => result_of(number(refusal), sent.written, 0),
+        Ok(()) => result_of(0, sent.written, 0),
     }
 }
 
@@ -86,9 +85,9 @@ pub(crate) fn leave_received(
 {
     let taken = received.taken;
     match taken {
-        Taken::Refused(refusal) => result_of(number(refusal), 0, 0),
-        Taken::Misframed(refusal, at) => result_of(number(refusal), 0, at),
-        Taken::Records(count) => {
+        Err(Untaken::Refused(refusal)) => result_of(number(refusal), 0, 0),
+        Err(Untaken::Misframed(refusal, at)) => result_of(number(refusal), 0, at),
+        Ok(count) => {
             put_unit(state, received.unit);
             let before = tally_within(tally);
             lay_tally(tally, counted(before, received));

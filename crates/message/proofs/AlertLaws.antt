@@ -10,19 +10,17 @@ use Rattle.digest.specs.Bytes.{word_at}
 use Rattle.message.specs.Alert.{level_number, level_of, description_number, among, sorted_of, alert_of, alert_bytes, alert_number}
 use Rattle.message.specs.declared.alert.Level.{Level}
 use Rattle.message.specs.declared.alert.Level.TheVariants.{Warning, Critical, Fatal}
-use Rattle.message.specs.declared.alert.Graded.TheVariants.{Is}
 use Rattle.message.specs.declared.alert.Description.{Description}
 use Rattle.message.specs.declared.alert.Description.TheVariants.{ConnectionCloseNotify, SessionCloseNotify, NoConnection, UnexpectedMessage, TimeRequired, BadRecordMac, DecryptionFailed, RecordOverflow, DecompressionFailure, HandshakeFailure, BadCertificate, UnsupportedCertificate, CertificateRevoked, CertificateExpired, CertificateUnknown, IllegalParameter, UnknownCa, AccessDenied, DecodeError, DecryptError, UnknownKeyId, DisabledKeyId, KeyExchangeDisabled, SessionNotReady, UnknownParameterIndex, DuplicateFinishedReceived, ExportRestriction, ProtocolVersion, InsufficientSecurity, InternalError, UserCanceled, NoRenegotiation}
-use Rattle.message.specs.declared.alert.Sorted.TheVariants.{Assigned, Unassigned}
-use Rattle.message.specs.declared.alert.Reading.TheVariants.{WellFormed}
+use Rattle.std.specs.Prelude.{None, Some}
 
-pub level_back : (l : Level) → level_of (level_number l) ≡ Is l
+pub level_back : (l : Level) → level_of (level_number l) ≡ Some l
 unfolding level_of
 level_back Warning = refl
 level_back Critical = refl
 level_back Fatal = refl
 
-pub description_back : (d : Description) → sorted_of (description_number d) ≡ Assigned d
+pub description_back : (d : Description) → sorted_of (description_number d) ≡ Some d
 unfolding sorted_of among
 description_back ConnectionCloseNotify = refl
 description_back SessionCloseNotify = refl
@@ -75,7 +73,7 @@ word_back n h =
     joined p q r s u v w m e f g i = omega arith
 
 pub alert_back : (l : Level) (d : Description) (n : ℕ) → n < 4294967296
-    → alert_of (alert_bytes l d n) ≡ WellFormed (record { level = l; description = d; checksum = n })
+    → alert_of (alert_bytes l d n) ≡ Some (record { level = l; description = d; checksum = n })
 unfolding alert_of word_at
 alert_back l d n h = rw (level_back l, description_back d, word_back n h) refl
 
@@ -88,10 +86,10 @@ unfolding alert_of
 alert_malformed s h = rw (ne_eqb (length s) 6 h) refl
 
 -- at the edges of the list in 10.2
-pub sorted_57 : (sorted_of 57 ≡ Assigned DuplicateFinishedReceived) × (sorted_of 58 ≡ Unassigned)
+pub sorted_57 : (sorted_of 57 ≡ Some DuplicateFinishedReceived) × (sorted_of 58 ≡ None)
 unfolding sorted_of among
 sorted_57 = (refl, refl)
 
-pub sorted_100 : (sorted_of 100 ≡ Assigned NoRenegotiation) × (sorted_of 101 ≡ Unassigned)
+pub sorted_100 : (sorted_of 100 ≡ Some NoRenegotiation) × (sorted_of 101 ≡ None)
 unfolding sorted_of among
 sorted_100 = (refl, refl)

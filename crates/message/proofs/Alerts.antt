@@ -3,14 +3,14 @@ use mathlib.Core.Path.{◌≡◌, refl, sym}
 use Prim.Native.Nat.{ℕ}
 use borrow.Author.Tests.{ne_eqb}
 use Rattle.message.specs.Alert.{sorted_of, among}
-use Rattle.message.specs.declared.alert.Sorted.TheVariants.{Unassigned}
+use Rattle.std.specs.Prelude.{None}
 
 -- what the match knows of a byte behind its single numbers: it is none of the list's, nor 41
 abbrev pub NoneOf : ℕ → Type 0
 NoneOf b =
     (((((((((((((((((((((((((((((((((Unit {0} × (b ≡ 0 → ⊥)) × (b ≡ 1 → ⊥)) × (b ≡ 5 → ⊥)) × (b ≡ 10 → ⊥)) × (b ≡ 11 → ⊥)) × (b ≡ 20 → ⊥)) × (b ≡ 21 → ⊥)) × (b ≡ 22 → ⊥)) × (b ≡ 30 → ⊥)) × (b ≡ 40 → ⊥)) × (b ≡ 41 → ⊥)) × (b ≡ 42 → ⊥)) × (b ≡ 43 → ⊥)) × (b ≡ 44 → ⊥)) × (b ≡ 45 → ⊥)) × (b ≡ 46 → ⊥)) × (b ≡ 47 → ⊥)) × (b ≡ 48 → ⊥)) × (b ≡ 49 → ⊥)) × (b ≡ 50 → ⊥)) × (b ≡ 51 → ⊥)) × (b ≡ 52 → ⊥)) × (b ≡ 53 → ⊥)) × (b ≡ 54 → ⊥)) × (b ≡ 55 → ⊥)) × (b ≡ 56 → ⊥)) × (b ≡ 57 → ⊥)) × (b ≡ 60 → ⊥)) × (b ≡ 70 → ⊥)) × (b ≡ 71 → ⊥)) × (b ≡ 80 → ⊥)) × (b ≡ 90 → ⊥)) × (b ≡ 100 → ⊥))
 
-pub unsorted : (b : ℕ) → NoneOf b → Unassigned ≡ sorted_of b
+pub unsorted : (b : ℕ) → NoneOf b → None ≡ sorted_of b
 unfolding sorted_of among
 unsorted b w =
     rw (

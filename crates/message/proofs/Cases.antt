@@ -14,7 +14,8 @@ use Rattle.message.specs.Given.{Given, given_of, hello_from}
 use Rattle.message.specs.Acceptance.{fits_pair, first_fit, has_null, accepted_of, heard_of, heard_number}
 use Rattle.message.specs.Server.{reply_of}
 use Rattle.message.specs.declared.hello.Field.TheVariants.{Size}
-use Rattle.message.specs.declared.acceptance.Heard.TheVariants.{Accepted, Malformed}
+use Rattle.message.specs.declared.acceptance.Unheard.TheVariants.{Malformed}
+use Rattle.std.specs.Prelude.{Err, Ok}
 
 pub identifier : List ℕ
 identifier = replicate 8 5
@@ -27,7 +28,7 @@ pub size_256 : length (hello_from (padded 217)) ≡ 256
 unfolding padded
 size_256 = refl
 
-pub heard_256 : heard_of (hello_from (padded 217)) identifier ≡ Accepted (record { mac = Sha80; refresh = 3; key = 0 })
+pub heard_256 : heard_of (hello_from (padded 217)) identifier ≡ Ok (record { mac = Sha80; refresh = 3; key = 0 })
 unfolding padded identifier heard_of accepted_of has_null first_fit fits_pair read_of suites_end keys_end key_list entries_from entry_end identifier_end specifier_end fills long_end short_end field_end listed_as same_bytes
 heard_256 = refl
 
@@ -35,7 +36,7 @@ pub size_257 : length (hello_from (padded 218)) ≡ 257
 unfolding padded
 size_257 = refl
 
-pub heard_257 : heard_of (hello_from (padded 218)) identifier ≡ Malformed Size
+pub heard_257 : heard_of (hello_from (padded 218)) identifier ≡ Err (Malformed Size)
 unfolding padded identifier heard_of accepted_of has_null first_fit fits_pair read_of suites_end keys_end key_list entries_from entry_end identifier_end specifier_end fills long_end short_end field_end listed_as same_bytes
 heard_257 = refl
 

@@ -20,13 +20,12 @@ use Rattle.message.specs.Values.{places_from}
 use Rattle.message.specs.declared.hello.Hello.{Hello}
 use Rattle.message.specs.declared.hello.Field.{Field}
 use Rattle.message.specs.declared.hello.Field.TheVariants.{Header, Size, Version, Random, SessionId, ClientKeyIds, TrustedKeyIds, CipherSuites, CompressionMethods, SequenceNumberMode, KeyRefresh, Rest}
-use Rattle.message.specs.declared.hello.Reading.{Reading}
-use Rattle.message.specs.declared.hello.Reading.TheVariants.{WellFormed, Malformed}
 use Rattle.message.specs.Buffer.{Puts}
 use Rattle.message.proofs.Buffers.{put_on}
 use Rattle.message.proofs.Fields.{field_there, both_split}
 use Rattle.message.proofs.Rests as rests
 use Rattle.message.proofs.Rests.{rest_byte, front_end, front_part, front_rest, short_end_lem, short_part, short_rest, long_end_lem, long_part, long_rest, LongThere, ShortThere, short_there, short_size, short_piece, long_at_lem, long_size, long_piece, bytes2_of, piece, piece_size, byte_piece}
+use Rattle.std.specs.Prelude.{Err, Ok, Result}
 
 -- what the values of a hello satisfy
 pub record Allowed (v : Given) : Type 0 where
@@ -147,13 +146,13 @@ suites_there m a = go (eqb (get_or m a 0 % 2) 0) refl
     go false e h = absurd (h refl)
 
 -- the cases of a reading that is well formed
-unpick_fault : (b : Bool) (f : Field) (x : Reading) (h : Hello) → pick b (Malformed f) x ≡ WellFormed h
-    → (b ≡ false) × (x ≡ WellFormed h)
+unpick_fault : (b : Bool) (f : Field) (x : Result Hello Field) (h : Hello) → pick b (Err f) x ≡ Ok h
+    → (b ≡ false) × (x ≡ Ok h)
 unpick_fault true f x h e = let z : ◌≡◌ {A = ℕ} 0 1 = cc in absurd (omega arith)
 unpick_fault false f x h e = (refl, e)
 
-unpick_else : (b : Bool) (f : Field) (x : Reading) (h : Hello) → pick b x (Malformed f) ≡ WellFormed h
-    → (b ≡ true) × (x ≡ WellFormed h)
+unpick_else : (b : Bool) (f : Field) (x : Result Hello Field) (h : Hello) → pick b x (Err f) ≡ Ok h
+    → (b ≡ true) × (x ≡ Ok h)
 unpick_else true f x h e = (refl, e)
 unpick_else false f x h e = let z : ◌≡◌ {A = ℕ} 0 1 = cc in absurd (omega arith)
 
@@ -201,7 +200,7 @@ pub record Walked (m : List ℕ) (h : Hello) : Type 0 where
   pub whole : refresh_end m ≡ length m
   pub places : placed (version_end m) (random_end m) (session_end m) (client_end m) (trusted_end m) (pairs_end m) (methods_end m) (numbering_end m) (refresh_end m) ≡ h
 
-pub walked : (m : List ℕ) (h : Hello) → read_of m ≡ WellFormed h → Walked m h
+pub walked : (m : List ℕ) (h : Hello) → read_of m ≡ Ok h → Walked m h
 unfolding read_of
 walked m h e =
     let a = unpick_else (fills client_hello m) Header _ h e in
@@ -233,7 +232,7 @@ walked m h e =
     }
 
 -- and the other way round
-pub reads : (m : List ℕ) → (h : Hello) → Walked m h → read_of m ≡ WellFormed h
+pub reads : (m : List ℕ) → (h : Hello) → Walked m h → read_of m ≡ Ok h
 unfolding read_of
 reads m h w =
     rw (
@@ -250,7 +249,7 @@ reads m h w =
       ne_eqb (refresh_end m) 0 w.refresh,
       eq-eqb (refresh_end m) (length m) w.whole,
     )
-    (ap WellFormed w.places)
+    (ap Ok w.places)
 
 pub record Filled (kind : ℕ) (m : List ℕ) : Type 0 where
   pub long_enough : 3 ≤ length m
@@ -374,7 +373,7 @@ module _ (m : List ℕ) (b : (i : ℕ) → get_or m i 0 < 256) (h : Hello) (w : 
       }
 
 -- a message that reads as well-formed is the one that is written of its values
-pub read_written : (m : List ℕ) → ((i : ℕ) → get_or m i 0 < 256) → (h : Hello) → read_of m ≡ WellFormed h
+pub read_written : (m : List ℕ) → ((i : ℕ) → get_or m i 0 < 256) → (h : Hello) → read_of m ≡ Ok h
     → (given_allowed (given_at m h) ≡ true) × (hello_from (given_at m h) ≡ m)
 unfolding found
 read_written m b h e =
@@ -548,7 +547,7 @@ module _ (v : Given) (w : Allowed v) where
 
 -- what is written is read back, with the same values
 pub written_read : (v : Given) → given_allowed v ≡ true
-    → (read_of (hello_from v) ≡ WellFormed (places_from v)) × (given_at (hello_from v) (places_from v) ≡ v)
+    → (read_of (hello_from v) ≡ Ok (places_from v)) × (given_at (hello_from v) (places_from v) ≡ v)
 written_read v h =
     let w = allowed_parts v h in
     (reads (hello_from v) (places_from v) (walked_sent v w), values_sent v w)

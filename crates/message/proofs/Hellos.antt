@@ -16,9 +16,8 @@ use Rattle.message.specs.Hello.{suites_end, told_by, read_of}
 use Rattle.message.specs.declared.hello.Hello.{Hello}
 use Rattle.message.specs.declared.hello.Field.{Field}
 use Rattle.message.specs.declared.hello.Field.TheVariants.{Header, Size, Rest}
-use Rattle.message.specs.declared.hello.Reading.{Reading}
-use Rattle.message.specs.declared.hello.Reading.TheVariants.{WellFormed, Malformed}
 use Rattle.message.proofs.Fields.{short_cut, pick_same}
+use Rattle.std.specs.Prelude.{Err, Ok, Result}
 
 pub suites_cut : (m : List ℕ) (at : ℕ) → length m ≤ at → 0 ≡ suites_end m at
 unfolding suites_end
@@ -33,29 +32,29 @@ unfolding suites_end
 suites_even m at end h e = rw (eq-eqb (get_or m at 0 % 2) 0 h) e
 
 -- a field that is not there is at fault; behind one that is there, the reading goes on
-pub missing : (end : ℕ) (fault : Field) (next : Reading) → end ≡ 0 → Malformed fault ≡ pick (eqb end 0) (Malformed fault) next
+pub missing : (end : ℕ) (fault : Field) (next : Result Hello Field) → end ≡ 0 → Err fault ≡ pick (eqb end 0) (Err fault) next
 missing end fault next h = rw (eq-eqb end 0 h) refl
 
-pub there : (end : ℕ) (fault : Field) (next r : Reading) → (end ≡ 0 → ⊥) → r ≡ next → r ≡ pick (eqb end 0) (Malformed fault) next
+pub there : (end : ℕ) (fault : Field) (next r : Result Hello Field) → (end ≡ 0 → ⊥) → r ≡ next → r ≡ pick (eqb end 0) (Err fault) next
 there end fault next r h e = rw (ne_eqb end 0 h) e
 
 -- the last field ends the message, or bytes are left over
-pub whole : (end size : ℕ) (h : Hello) → end ≡ size → WellFormed h ≡ pick (eqb end size) (WellFormed h) (Malformed Rest)
+pub whole : (end size : ℕ) (h : Hello) → end ≡ size → Ok h ≡ pick (eqb end size) (Ok h) (Err Rest)
 whole end size h e = rw (eq-eqb end size e) refl
 
-pub left_over : (end size : ℕ) (h : Hello) → end < size → Malformed Rest ≡ pick (eqb end size) (WellFormed h) (Malformed Rest)
+pub left_over : (end size : ℕ) (h : Hello) → end < size → Err Rest ≡ pick (eqb end size) (Ok h) (Err Rest)
 left_over end size h e = rw (ne_eqb end size (ne_of_lt e)) refl
 
 -- the reading of a message
-pub no_hello : (m : List ℕ) → fills client_hello m ≡ false → Malformed Header ≡ read_of m
+pub no_hello : (m : List ℕ) → fills client_hello m ≡ false → Err Header ≡ read_of m
 unfolding read_of
 no_hello m h = rw h refl
 
-pub over_size : (m : List ℕ) → fills client_hello m ≡ true → 256 < length m → Malformed Size ≡ read_of m
+pub over_size : (m : List ℕ) → fills client_hello m ≡ true → 256 < length m → Err Size ≡ read_of m
 unfolding read_of
 over_size m h l = rw (h, lt-leb (length m) 256 l) refl
 
-pub by_ends : (m : List ℕ) (v r s c t p z n k : ℕ) (reading : Reading)
+pub by_ends : (m : List ℕ) (v r s c t p z n k : ℕ) (reading : Result Hello Field)
     → fills client_hello m ≡ true
     → length m ≤ 256
     → v ≡ field_end m 3 1

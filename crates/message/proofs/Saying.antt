@@ -20,10 +20,12 @@ use Rattle.message.specs.Values.{Values, hello_of, allowed}
 use Rattle.message.specs.Acceptance.{fits_pair, first_fit, has_null, paired, accepted_of, acceptance_of, judged, heard_as, heard_of}
 use Rattle.message.specs.Said.{FitsAt, FirstPair, NoPair, NullIn, Known, Says, HeardAsSaid}
 use Rattle.message.specs.declared.acceptance.Condition.TheVariants as C
-use Rattle.message.specs.declared.acceptance.Heard.{Heard}
-use Rattle.message.specs.declared.acceptance.Heard.TheVariants as H
+use Rattle.message.specs.declared.acceptance.Unheard.TheVariants as H
 use Rattle.message.proofs.Fields.{by_test, clash}
 use Rattle.message.proofs.Written.{written_read}
+use Rattle.std.specs.Prelude.{Err, Ok, Result}
+use Rattle.message.specs.declared.acceptance.Plan.{Plan}
+use Rattle.message.specs.declared.acceptance.Unheard.{Unheard}
 
 -- ---- pairs
 
@@ -220,21 +222,21 @@ module _ (v : Values) (planted : List ℕ) where
       ∙ ap (λ (l : Listed). paired l v.methods v.numbering v.refresh)
       (ap listed_as (found_one v.suites (first_fit v.suites) (found v.suites) mac w) ∙ listed_one mac)
 
-  accept_only : (h : Heard) → Says v planted h → judged (acceptance_of v planted) ≡ h
+  accept_only : (h : Result Plan Unheard) → Says v planted h → judged (acceptance_of v planted) ≡ h
   unfolding accepted_of listed_as
-  accept_only (H.Accepted plan) w =
+  accept_only (Ok plan) w =
       ap judged (pair_so w.known plan.mac w.pair)
       ∙ rw (null_in v.methods w.compression, eq-eqb v.numbering 2 w.numbering)
-      (λ i. H.Accepted (record { mac = plan.mac; refresh = sym w.refresh i; key = sym w.key i }))
-  accept_only (H.Unacceptable C.Version) n = rw (ne_eqb v.version 1 n) refl
-  accept_only (H.Unacceptable C.SessionId) (a, n) = rw (eq-eqb v.version 1 a, differ_same v.session planted n) refl
-  accept_only (H.Unacceptable C.CipherSuite) (k, n) =
+      (λ i. Ok (record { mac = plan.mac; refresh = sym w.refresh i; key = sym w.key i }))
+  accept_only (Err (H.Unacceptable C.Version)) n = rw (ne_eqb v.version 1 n) refl
+  accept_only (Err (H.Unacceptable C.SessionId)) (a, n) = rw (eq-eqb v.version 1 a, differ_same v.session planted n) refl
+  accept_only (Err (H.Unacceptable C.CipherSuite)) (k, n) =
       ap judged (known_so k) ∙ rw (found_none v.suites (first_fit v.suites) (found v.suites) n) refl
-  accept_only (H.Unacceptable C.Compression) (k, (mac, w), n) =
+  accept_only (Err (H.Unacceptable C.Compression)) (k, (mac, w), n) =
       ap judged (pair_so k mac w) ∙ rw (null_out v.methods n) refl
-  accept_only (H.Unacceptable C.Numbering) (k, (mac, w), c, n) =
+  accept_only (Err (H.Unacceptable C.Numbering)) (k, (mac, w), c, n) =
       ap judged (pair_so k mac w) ∙ rw (null_in v.methods c, ne_eqb v.numbering 2 n) refl
-  accept_only (H.Malformed fault) n = absurd n
+  accept_only (Err (H.Malformed fault)) n = absurd n
 
   pub heard_so : allowed v ≡ true → heard_of (hello_of v) planted ≡ judged (acceptance_of v planted)
   unfolding heard_of
@@ -245,7 +247,7 @@ module _ (v : Values) (planted : List ℕ) where
   pub heard_said : allowed v ≡ true → Says v planted (heard_of (hello_of v) planted)
   heard_said h = subst (Says v planted) (sym (heard_so h)) accept_said
 
-  pub heard_only : allowed v ≡ true → (h : Heard) → Says v planted h → heard_of (hello_of v) planted ≡ h
+  pub heard_only : allowed v ≡ true → (h : Result Plan Unheard) → Says v planted h → heard_of (hello_of v) planted ≡ h
   heard_only a h s = heard_so a ∙ accept_only h s
 
 pub heard_as_said : HeardAsSaid

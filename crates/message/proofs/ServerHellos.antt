@@ -15,7 +15,7 @@ use Rattle.message.specs.ServerHello.{server_read, ServerValues, server_values_a
 use Rattle.message.proofs.Fields.{both_split}
 use Rattle.message.proofs.Givens.{Filled, filled, fills_of}
 use Rattle.message.proofs.Rests.{Rest, rest_byte, front_part, front_rest, short_part, short_rest, piece, piece_size, byte_piece, bytes2_of}
-use Rattle.message.specs.declared.server_hello.Reading.TheVariants.{WellFormed, Malformed}
+use Rattle.std.specs.Prelude.{None, Some}
 
 -- what a well-formed ServerHello satisfies
 pub record Formed (m : List ℕ) (end : ℕ) : Type 0 where
@@ -24,13 +24,13 @@ pub record Formed (m : List ℕ) (end : ℕ) : Type 0 where
   pub size : length m ≡ 27 + get_or m 20 0
   pub end_is : end ≡ 21 + get_or m 20 0
 
-pub formed : (m : List ℕ) (end : ℕ) → server_read m ≡ WellFormed end → Formed m end
+pub formed : (m : List ℕ) (end : ℕ) → server_read m ≡ Some end → Formed m end
 unfolding server_read
 formed m end e =
     go (fills server_hello m) (leb (get_or m 20 0) 8) (eqb (length m) (27 + get_or m 20 0)) refl refl refl e
   where
     go : (a b c : Bool) → fills server_hello m ≡ a → leb (get_or m 20 0) 8 ≡ b → eqb (length m) (27 + get_or m 20 0) ≡ c
-        → pick a (pick b (pick c (WellFormed (21 + get_or m 20 0)) Malformed) Malformed) Malformed ≡ WellFormed end
+        → pick a (pick b (pick c (Some (21 + get_or m 20 0)) None) None) None ≡ Some end
         → Formed m end
     go true true true ea eb ec h =
         record {
@@ -43,7 +43,7 @@ formed m end e =
     go true false c ea eb ec h = let z : ◌≡◌ {A = ℕ} 0 1 = cc in absurd (omega arith)
     go false b c ea eb ec h = let z : ◌≡◌ {A = ℕ} 0 1 = cc in absurd (omega arith)
 
-pub end_most : (m : List ℕ) (end : ℕ) → server_read m ≡ WellFormed end → end ≤ 29
+pub end_most : (m : List ℕ) (end : ℕ) → server_read m ≡ Some end → end ≤ 29
 end_most m end e = let f = formed m end e in omega (arith, f.short_enough, f.end_is)
 
 -- ---- what is written is read back
@@ -82,7 +82,7 @@ module _ (v : ServerValues) (lr : length v.random ≡ 16) (ls : length v.session
         size = omega (arith, size, ls);
       })
 
-  read_written : server_read m ≡ WellFormed (21 + n)
+  read_written : server_read m ≡ Some (21 + n)
   unfolding server_read
   read_written =
       rw (fills_sent, said, le-leb n 8 ls, eq-eqb (length m) (27 + n) size) refl
@@ -120,7 +120,7 @@ module _ (v : ServerValues) (lr : length v.random ≡ 16) (ls : length v.session
 
 -- ---- what reads as well-formed is what is written of its values
 
-module _ (m : List ℕ) (b : (i : ℕ) → get_or m i 0 < 256) (end : ℕ) (e : server_read m ≡ WellFormed end) where
+module _ (m : List ℕ) (b : (i : ℕ) → get_or m i 0 < 256) (end : ℕ) (e : server_read m ≡ Some end) where
   f : Formed m end
   f = formed m end e
 

@@ -15,13 +15,13 @@ use Rattle.message.specs.Given.{Given, given_of, hello_from, fields_given, offer
 use Rattle.message.specs.Values.{Values, bytes_of, hello_of, fields_allowed, allowed, values_in, values_at}
 use Rattle.message.specs.Said.{Bytes, ListsAsWritten, HellosAsWritten}
 use Rattle.message.specs.declared.hello.Hello.{Hello}
-use Rattle.message.specs.declared.hello.Reading.TheVariants.{WellFormed}
 use Rattle.message.proofs.Givens as givens
 use Rattle.message.proofs.Givens.{allowed_parts}
 use Rattle.message.proofs.Fields.{both_split}
 use Rattle.message.proofs.Rests.{bytes_part}
 use Rattle.message.proofs.ListsWritten.{list_written}
 use Rattle.message.proofs.ListsRead.{list_read}
+use Rattle.std.specs.Prelude.{Ok}
 pub use Rattle.message.proofs.Givens.{Filled, filled, fills_of}
 pub use Rattle.message.specs.Values.{places_of}
 
@@ -37,7 +37,7 @@ given_can v h =
 
 -- what is written is read back, with the same values
 pub written_read : (v : Values) → allowed v ≡ true
-    → (read_of (hello_of v) ≡ WellFormed (places_of v)) × (values_at (hello_of v) (places_of v) ≡ v)
+    → (read_of (hello_of v) ≡ Ok (places_of v)) × (values_at (hello_of v) (places_of v) ≡ v)
 unfolding allowed fields_allowed
 written_read v h =
     let w = givens.written_read (bytes_of v) (given_can v h) in
@@ -87,7 +87,7 @@ values_can g bc bt h =
     )
 
 -- a message that reads as well-formed is the one that is written of its values
-pub read_written : (m : List ℕ) → ((i : ℕ) → get_or m i 0 < 256) → (h : Hello) → read_of m ≡ WellFormed h
+pub read_written : (m : List ℕ) → ((i : ℕ) → get_or m i 0 < 256) → (h : Hello) → read_of m ≡ Ok h
     → (allowed (values_at m h) ≡ true) × (hello_of (values_at m h) ≡ m)
 read_written m b h e =
     let w = givens.read_written m b h e in
@@ -95,19 +95,19 @@ read_written m b h e =
     (u.0, ap hello_from u.1 ∙ w.1)
 
 -- and it stands at the places where it was read
-pub read_places : (m : List ℕ) → ((i : ℕ) → get_or m i 0 < 256) → (h : Hello) → read_of m ≡ WellFormed h → places_of (values_at m h) ≡ h
+pub read_places : (m : List ℕ) → ((i : ℕ) → get_or m i 0 < 256) → (h : Hello) → read_of m ≡ Ok h → places_of (values_at m h) ≡ h
 read_places m b h e =
     let w = read_written m b h e in
-    let r : read_of m ≡ WellFormed (places_of (values_at m h)) =
-    subst (λ (l : List ℕ). read_of l ≡ WellFormed (places_of (values_at m h))) w.1 (written_read (values_at m h) w.0).0 in
+    let r : read_of m ≡ Ok (places_of (values_at m h)) =
+    subst (λ (l : List ℕ). read_of l ≡ Ok (places_of (values_at m h))) w.1 (written_read (values_at m h) w.0).0 in
     cc (e, r)
 
 -- the well-formed hellos are exactly the hellos that are written
 pub image : (m : List ℕ) → ((i : ℕ) → get_or m i 0 < 256)
-    → ((h : Hello) × (read_of m ≡ WellFormed h)) ↔ ((v : Values) × (allowed v ≡ true) × (hello_of v ≡ m))
+    → ((h : Hello) × (read_of m ≡ Ok h)) ↔ ((v : Values) × (allowed v ≡ true) × (hello_of v ≡ m))
 image m b = (
   λ w. (values_at m w.0, (read_written m b w.0 w.1).0, (read_written m b w.0 w.1).1),
-  λ w. (places_of w.0, subst (λ (l : List ℕ). read_of l ≡ WellFormed (places_of w.0)) w.2 (written_read w.0 w.1).0),
+  λ w. (places_of w.0, subst (λ (l : List ℕ). read_of l ≡ Ok (places_of w.0)) w.2 (written_read w.0 w.1).0),
 )
 
 pub lists_as_written : ListsAsWritten

@@ -1,17 +1,12 @@
 -- Alerts (002 10.2).
-use Rattle.std.specs.Prelude.{List, [], ◌∷◌, ℕ, length, get_or, eqb}
+use Rattle.std.specs.Prelude.{List, [], ◌∷◌, ℕ, length, get_or, eqb, None, Option, Some}
+use Rattle.message.specs.declared.alert.Alert.{Alert}
 use Rattle.digest.specs.Pick.{pick}
 use Rattle.digest.specs.Bytes.{word_at, bytes4}
 use Rattle.message.specs.declared.alert.Level.{Level}
 use Rattle.message.specs.declared.alert.Level.TheVariants.{Warning, Critical, Fatal}
-use Rattle.message.specs.declared.alert.Graded.{Graded}
-use Rattle.message.specs.declared.alert.Graded.TheVariants as graded
 use Rattle.message.specs.declared.alert.Description.{Description}
 use Rattle.message.specs.declared.alert.Description.TheVariants.{ConnectionCloseNotify, SessionCloseNotify, NoConnection, UnexpectedMessage, TimeRequired, BadRecordMac, DecryptionFailed, RecordOverflow, DecompressionFailure, HandshakeFailure, BadCertificate, UnsupportedCertificate, CertificateRevoked, CertificateExpired, CertificateUnknown, IllegalParameter, UnknownCa, AccessDenied, DecodeError, DecryptError, UnknownKeyId, DisabledKeyId, KeyExchangeDisabled, SessionNotReady, UnknownParameterIndex, DuplicateFinishedReceived, ExportRestriction, ProtocolVersion, InsufficientSecurity, InternalError, UserCanceled, NoRenegotiation}
-use Rattle.message.specs.declared.alert.Sorted.{Sorted}
-use Rattle.message.specs.declared.alert.Sorted.TheVariants as sorted
-use Rattle.message.specs.declared.alert.Reading.{Reading}
-use Rattle.message.specs.declared.alert.Reading.TheVariants.{WellFormed, Malformed}
 
 -- AlertLevel
 abbrev pub level_number : Level → ℕ
@@ -19,9 +14,9 @@ level_number Warning = 1
 level_number Critical = 2
 level_number Fatal = 3
 
-unfoldable pub level_of : ℕ → Graded
+unfoldable pub level_of : ℕ → Option Level
 level_of b =
-    pick (eqb b 1) (graded.Is Warning) (pick (eqb b 2) (graded.Is Critical) (pick (eqb b 3) (graded.Is Fatal) graded.Unassigned))
+    pick (eqb b 1) (Some Warning) (pick (eqb b 2) (Some Critical) (pick (eqb b 3) (Some Fatal) None))
 
 -- AlertDescription
 abbrev pub description_number : Description → ℕ
@@ -63,31 +58,31 @@ descriptions =
     ConnectionCloseNotify ∷ SessionCloseNotify ∷ NoConnection ∷ UnexpectedMessage ∷ TimeRequired ∷ BadRecordMac ∷ DecryptionFailed ∷ RecordOverflow ∷ DecompressionFailure ∷ HandshakeFailure ∷ BadCertificate ∷ UnsupportedCertificate ∷ CertificateRevoked ∷ CertificateExpired ∷ CertificateUnknown ∷ IllegalParameter ∷ UnknownCa ∷ AccessDenied ∷ DecodeError ∷ DecryptError ∷ UnknownKeyId ∷ DisabledKeyId ∷ KeyExchangeDisabled ∷ SessionNotReady ∷ UnknownParameterIndex ∷ DuplicateFinishedReceived ∷ ExportRestriction ∷ ProtocolVersion ∷ InsufficientSecurity ∷ InternalError ∷ UserCanceled ∷ NoRenegotiation ∷ []
 
 -- the description in a list that has a number
-unfoldable pub among : List Description → ℕ → Sorted
-among [] b = sorted.Unassigned
-among (d ∷ ds) b = pick (eqb (description_number d) b) (sorted.Assigned d) (among ds b)
+unfoldable pub among : List Description → ℕ → Option Description
+among [] b = None
+among (d ∷ ds) b = pick (eqb (description_number d) b) (Some d) (among ds b)
 
 -- 01: "a description is sorted by its number, ranges of unassigned codes included, after the list in 10.2"
-unfoldable pub sorted_of : ℕ → Sorted
+unfoldable pub sorted_of : ℕ → Option Description
 sorted_of b = among descriptions b
 
 -- Alert: level, description, opaque checksum[4]
-abbrev pub described : Level → Sorted → ℕ → Reading
-described level (sorted.Assigned d) checksum = WellFormed (record { level = level; description = d; checksum = checksum })
-described level sorted.Unassigned checksum = Malformed
+abbrev pub described : Level → Option Description → ℕ → Option Alert
+described level (Some d) checksum = Some (record { level = level; description = d; checksum = checksum })
+described level None checksum = None
 
-abbrev pub leveled : Graded → Sorted → ℕ → Reading
-leveled (graded.Is level) s checksum = described level s checksum
-leveled graded.Unassigned s checksum = Malformed
+abbrev pub leveled : Option Level → Option Description → ℕ → Option Alert
+leveled (Some level) s checksum = described level s checksum
+leveled None s checksum = None
 
-unfoldable pub alert_of : List ℕ → Reading
+unfoldable pub alert_of : List ℕ → Option Alert
 alert_of s =
-    pick (eqb (length s) 6) (leveled (level_of (get_or s 0 0)) (sorted_of (get_or s 1 0)) (word_at s 2)) Malformed
+    pick (eqb (length s) 6) (leveled (level_of (get_or s 0 0)) (sorted_of (get_or s 1 0)) (word_at s 2)) None
 
 abbrev pub alert_bytes : Level → Description → ℕ → List ℕ
 alert_bytes level d checksum = level_number level ∷ description_number d ∷ bytes4 checksum
 
 -- 01, Refusal numbers: 12, malformed content; 0 where it is an alert
-abbrev pub alert_number : Reading → ℕ
-alert_number (WellFormed alert) = 0
-alert_number Malformed = 12
+abbrev pub alert_number : Option Alert → ℕ
+alert_number (Some alert) = 0
+alert_number None = 12

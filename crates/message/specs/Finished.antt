@@ -1,13 +1,13 @@
 -- Finished (002 10.5.9).
-use Rattle.std.specs.Prelude.{List, [], ◌∷◌, ◌++◌, ℕ, length, eqb}
+use Rattle.std.specs.Prelude.{List, [], ◌∷◌, ◌++◌, ℕ, length, eqb, Err, Ok, Result, ⊤}
+use Rattle.message.specs.declared.finished.Unverified.{Unverified}
 use Rattle.digest.specs.Pick.{pick}
 use Rattle.digest.specs.Sha1.{sha1}
 use Rattle.digest.specs.Expansion.{prf}
 use Rattle.digest.specs.Mac.{same_bytes}
 use Rattle.message.specs.Field.{part_of}
 use Rattle.message.specs.Handshake.{fills, message_of, finished}
-use Rattle.message.specs.declared.finished.Verified.{Verified}
-use Rattle.message.specs.declared.finished.Verified.TheVariants.{Right, Wrong, Malformed}
+use Rattle.message.specs.declared.finished.Unverified.TheVariants.{Wrong, Malformed}
 
 -- finished_label: "client finished" and "server finished"
 abbrev pub client_label : List ℕ
@@ -33,14 +33,14 @@ abbrev pub finished_of : List ℕ → List ℕ
 finished_of verify = message_of finished verify
 
 -- a message that is to be a Finished with the contents expected (01, Refusal numbers 12 and 17)
-unfoldable pub judged_of : List ℕ → List ℕ → Verified
+unfoldable pub judged_of : List ℕ → List ℕ → Result ⊤ Unverified
 judged_of m expected =
     pick (eqb (length m) 15)
-    (pick (fills finished m) (pick (same_bytes (part_of m 3 15) expected) Right Wrong) Malformed)
-    Malformed
+    (pick (fills finished m) (pick (same_bytes (part_of m 3 15) expected) (Ok tt) (Err Wrong)) (Err Malformed))
+    (Err Malformed)
 
 -- 12, malformed; 17, "genuine Finished with wrong contents"; 0 where it is right
-abbrev pub verified_number : Verified → ℕ
-verified_number Right = 0
-verified_number Wrong = 17
-verified_number Malformed = 12
+abbrev pub verified_number : Result ⊤ Unverified → ℕ
+verified_number (Ok tt) = 0
+verified_number (Err Wrong) = 17
+verified_number (Err Malformed) = 12

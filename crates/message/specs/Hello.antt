@@ -1,13 +1,12 @@
 -- The ClientHello (002 10.5.1.2; 01, Handshake).
-use Rattle.std.specs.Prelude.{List, ℕ, ◌+◌, ◌%◌, length, get_or, leb, eqb}
+use Rattle.std.specs.Prelude.{List, ℕ, ◌+◌, ◌%◌, length, get_or, leb, eqb, Err, Ok, Result}
+use Rattle.message.specs.declared.hello.Field.{Field}
 use Rattle.digest.specs.Pick.{pick}
 use Rattle.message.specs.Field.{field_end, short_end}
 use Rattle.message.specs.Handshake.{fills, client_hello}
 use Rattle.message.specs.Keys.{keys_end}
 use Rattle.message.specs.declared.hello.Hello.{Hello}
 use Rattle.message.specs.declared.hello.Field.TheVariants.{Header, Size, Version, Random, SessionId, ClientKeyIds, TrustedKeyIds, CipherSuites, CompressionMethods, SequenceNumberMode, KeyRefresh, Rest}
-use Rattle.message.specs.declared.hello.Reading.{Reading}
-use Rattle.message.specs.declared.hello.Reading.TheVariants.{WellFormed, Malformed}
 pub use Rattle.message.specs.Set.{place}
 
 -- CipherSuite cipher_suites<2..2^8-1>, of two bytes each: "the length of an encoded vector must be an even multiple of
@@ -31,21 +30,21 @@ placed v r s c t p z n k =
     }
 
 -- the first field that is not there is at fault; where all are there, the last one ends the message
-abbrev pub told_by : ℕ → ℕ → ℕ → ℕ → ℕ → ℕ → ℕ → ℕ → ℕ → ℕ → Reading
+abbrev pub told_by : ℕ → ℕ → ℕ → ℕ → ℕ → ℕ → ℕ → ℕ → ℕ → ℕ → Result Hello Field
 told_by v r s c t p z n k size =
-    pick (eqb v 0) (Malformed Version)
-    (pick (eqb r 0) (Malformed Random)
-    (pick (eqb s 0) (Malformed SessionId)
-    (pick (eqb c 0) (Malformed ClientKeyIds)
-    (pick (eqb t 0) (Malformed TrustedKeyIds)
-    (pick (eqb p 0) (Malformed CipherSuites)
-    (pick (eqb z 0) (Malformed CompressionMethods)
-    (pick (eqb n 0) (Malformed SequenceNumberMode)
-    (pick (eqb k 0) (Malformed KeyRefresh)
-    (pick (eqb k size) (WellFormed (placed v r s c t p z n k)) (Malformed Rest))))))))))
+    pick (eqb v 0) (Err Version)
+    (pick (eqb r 0) (Err Random)
+    (pick (eqb s 0) (Err SessionId)
+    (pick (eqb c 0) (Err ClientKeyIds)
+    (pick (eqb t 0) (Err TrustedKeyIds)
+    (pick (eqb p 0) (Err CipherSuites)
+    (pick (eqb z 0) (Err CompressionMethods)
+    (pick (eqb n 0) (Err SequenceNumberMode)
+    (pick (eqb k 0) (Err KeyRefresh)
+    (pick (eqb k size) (Ok (placed v r s c t p z n k)) (Err Rest))))))))))
 
 -- 01: "a ClientHello message is at most 256 bytes, laid out as in 10.5.1.2; all its lists are walked"
-unfoldable pub read_of : List ℕ → Reading
+unfoldable pub read_of : List ℕ → Result Hello Field
 read_of m =
     let v = field_end m 3 1 in
     let r = field_end m v 16 in
@@ -57,5 +56,5 @@ read_of m =
     let n = field_end m z 1 in
     let k = field_end m n 1 in
     pick (fills client_hello m)
-    (pick (leb (length m) 256) (told_by v r s c t p z n k (length m)) (Malformed Size))
-    (Malformed Header)
+    (pick (leb (length m) 256) (told_by v r s c t p z n k (length m)) (Err Size))
+    (Err Header)

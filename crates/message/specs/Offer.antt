@@ -1,5 +1,5 @@
 -- What a unit offers (02, P7; 002 10.5.1.2; 01, profile: null cipher with SHA_80 or SHA, null compression, explicit numbering).
-use Rattle.std.specs.Prelude.{List, [], ◌∷◌, Bool, true, false, ℕ, take}
+use Rattle.std.specs.Prelude.{List, [], ◌∷◌, Bool, true, false, ℕ, take, None, Option, Some}
 use Rattle.digest.specs.Pick.{pick}
 use Rattle.digest.specs.Mac.{same_bytes}
 use Rattle.digest.specs.declared.mac.Mac.{Mac}
@@ -7,16 +7,14 @@ use Rattle.digest.specs.declared.mac.Mac.TheVariants as M
 use Rattle.message.specs.Given.{Given, given_of, hello_from}
 use Rattle.message.specs.declared.offer.Kinds.{Kinds}
 use Rattle.message.specs.declared.offer.Kinds.TheVariants.{Sha80, Sha, Sha80First, ShaFirst}
-use Rattle.message.specs.declared.offer.Named.{Named}
-use Rattle.message.specs.declared.offer.Named.TheVariants.{Are, Others}
 use Rattle.message.specs.declared.offer.Offer.{Offer}
 
 -- MAC kinds in order: one or both of SHA_80, 2, and SHA, 3 (appendix A, table 6), without repetition
-unfoldable pub kinds_named : List ℕ → Named
+unfoldable pub kinds_named : List ℕ → Option Kinds
 kinds_named s =
-    pick (same_bytes s (2 ∷ [])) (Are Sha80)
-    (pick (same_bytes s (3 ∷ [])) (Are Sha)
-    (pick (same_bytes s (2 ∷ 3 ∷ [])) (Are Sha80First) (pick (same_bytes s (3 ∷ 2 ∷ [])) (Are ShaFirst) Others)))
+    pick (same_bytes s (2 ∷ [])) (Some Sha80)
+    (pick (same_bytes s (3 ∷ [])) (Some Sha)
+    (pick (same_bytes s (2 ∷ 3 ∷ [])) (Some Sha80First) (pick (same_bytes s (3 ∷ 2 ∷ [])) (Some ShaFirst) None)))
 
 -- whether a kind is among them
 abbrev pub offers : Kinds → Mac → Bool

@@ -1,6 +1,7 @@
 -- What stands in a hello, said of its values: laws that the definitions of reading and of acceptance keep. Proved in
 -- proofs/SetsSaid.antt, proofs/ListsWritten.antt, proofs/ListsRead.antt, proofs/Written.antt and proofs/Saying.antt.
-use Rattle.std.specs.Prelude.{◌≡◌, ◌⊎◌, ◌↔◌, List, [], true, false, ℕ, ◌+◌, ◌*◌, ◌<◌, length, get_or}
+use Rattle.std.specs.Prelude.{◌≡◌, ◌⊎◌, ◌↔◌, List, [], true, false, ℕ, ◌+◌, ◌*◌, ◌<◌, length, get_or, Err, Ok, Result}
+use Rattle.message.specs.declared.acceptance.Unheard.{Unheard}
 use Rattle.digest.specs.Mac.{number_of}
 use Rattle.digest.specs.declared.mac.Mac.{Mac}
 use Rattle.message.specs.Set.{ParameterSet, is_diffie_hellman, is_elliptic_curve, set_bytes, set_allowed, set_sound, set_in, written_of}
@@ -10,11 +11,9 @@ use Rattle.message.specs.Hello.{read_of}
 use Rattle.message.specs.Values.{Values, hello_of, allowed, values_at, places_of}
 use Rattle.message.specs.Acceptance.{heard_of}
 use Rattle.message.specs.declared.hello.Hello.{Hello}
-use Rattle.message.specs.declared.hello.Reading.TheVariants.{WellFormed}
 use Rattle.message.specs.declared.acceptance.Plan.{Plan}
 use Rattle.message.specs.declared.acceptance.Condition.TheVariants as C
-use Rattle.message.specs.declared.acceptance.Heard.{Heard}
-use Rattle.message.specs.declared.acceptance.Heard.TheVariants as H
+use Rattle.message.specs.declared.acceptance.Unheard.TheVariants as H
 
 abbrev pub Bytes : List ℕ → Type 0
 Bytes s = (i : ℕ) → get_or s i 0 < 256
@@ -45,8 +44,8 @@ pub record ListsAsWritten : Type 0 where
 -- that was written there.
 pub record HellosAsWritten : Type 0 where
   pub written : (v : Values) → allowed v ≡ true
-      → (read_of (hello_of v) ≡ WellFormed (places_of v)) × (values_at (hello_of v) (places_of v) ≡ v)
-  pub read : (m : List ℕ) → Bytes m → (h : Hello) → read_of m ≡ WellFormed h
+      → (read_of (hello_of v) ≡ Ok (places_of v)) × (values_at (hello_of v) (places_of v) ≡ v)
+  pub read : (m : List ℕ) → Bytes m → (h : Hello) → read_of m ≡ Ok h
       → (allowed (values_at m h) ≡ true) × (hello_of (values_at m h) ≡ m) × (places_of (values_at m h) ≡ h)
 
 -- "a pair of null cipher with SHA_80 or SHA": the pair of that place in a list of pairs
@@ -83,19 +82,19 @@ pub record Accepts (v : Values) (planted : List ℕ) (plan : Plan) : Type 0 wher
   pub key : plan.key ≡ 0
 
 -- what values say: the plan, or the first condition that fails, those before it being kept
-abbrev pub Says : Values → List ℕ → Heard → Type 0
-Says v planted (H.Accepted plan) = Accepts v planted plan
-Says v planted (H.Unacceptable C.Version) = v.version ≡ 1 → ⊥
-Says v planted (H.Unacceptable C.SessionId) = (v.version ≡ 1) × (v.session ≡ planted → ⊥)
-Says v planted (H.Unacceptable C.CipherSuite) = Known v planted × NoPair v.suites
-Says v planted (H.Unacceptable C.Compression) =
+abbrev pub Says : Values → List ℕ → Result Plan Unheard → Type 0
+Says v planted (Ok plan) = Accepts v planted plan
+Says v planted (Err (H.Unacceptable C.Version)) = v.version ≡ 1 → ⊥
+Says v planted (Err (H.Unacceptable C.SessionId)) = (v.version ≡ 1) × (v.session ≡ planted → ⊥)
+Says v planted (Err (H.Unacceptable C.CipherSuite)) = Known v planted × NoPair v.suites
+Says v planted (Err (H.Unacceptable C.Compression)) =
     Known v planted × ((mac : Mac) × FirstPair v.suites mac) × (NullIn v.methods → ⊥)
-Says v planted (H.Unacceptable C.Numbering) =
+Says v planted (Err (H.Unacceptable C.Numbering)) =
     Known v planted × ((mac : Mac) × FirstPair v.suites mac) × NullIn v.methods × (v.numbering ≡ 2 → ⊥)
-Says v planted (H.Malformed fault) = ⊥
+Says v planted (Err (H.Malformed fault)) = ⊥
 
 -- What is heard of a hello that is written of values is what they say, and nothing else.
 pub record HeardAsSaid : Type 0 where
   pub said : (v : Values) (planted : List ℕ) → allowed v ≡ true → Says v planted (heard_of (hello_of v) planted)
-  pub only : (v : Values) (planted : List ℕ) → allowed v ≡ true → (h : Heard) → Says v planted h
+  pub only : (v : Values) (planted : List ℕ) → allowed v ≡ true → (h : Result Plan Unheard) → Says v planted h
       → heard_of (hello_of v) planted ≡ h

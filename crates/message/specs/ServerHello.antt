@@ -1,21 +1,19 @@
 -- The ServerHello, read, and as values (002 10.5.1.3). Its writer is in Server.
-use Rattle.std.specs.Prelude.{◌≡◌, List, [], ◌∷◌, ◌++◌, Bool, true, ℕ, ◌+◌, ◌<◌, length, get_or, eqb, leb}
+use Rattle.std.specs.Prelude.{◌≡◌, List, [], ◌∷◌, ◌++◌, Bool, true, ℕ, ◌+◌, ◌<◌, length, get_or, eqb, leb, None, Option, Some}
 use Rattle.digest.specs.Pick.{pick}
 use Rattle.message.specs.Field.{short, both, part_of}
 use Rattle.message.specs.Handshake.{fills, message_of, server_hello}
-use Rattle.message.specs.declared.server_hello.Reading.{Reading}
-use Rattle.message.specs.declared.server_hello.Reading.TheVariants.{WellFormed, Malformed}
 
 -- server_version (1 byte), random (16), session_id<0..8> (its length in one byte), client_key_id (1), cipher_suite (2),
 -- compression_method (1), sequence_number_mode (1), key_refresh (1): 24 bytes and those of the identifier, which ends at 21 and
 -- as many as it has
-unfoldable pub server_read : List ℕ → Reading
+unfoldable pub server_read : List ℕ → Option ℕ
 server_read m =
     pick (fills server_hello m)
     (pick (leb (get_or m 20 0) 8)
-    (pick (eqb (length m) (27 + get_or m 20 0)) (WellFormed (21 + get_or m 20 0)) Malformed)
-    Malformed)
-    Malformed
+    (pick (eqb (length m) (27 + get_or m 20 0)) (Some (21 + get_or m 20 0)) None)
+    None)
+    None
 
 -- the fields in the order of the structure
 pub record ServerValues : Type 0 where
@@ -60,7 +58,7 @@ server_allowed v = both (eqb (length v.random) 16) (leb (length v.session) 8)
 -- it was written. Proved in proofs/ServerHellos.antt.
 pub record ServerHellosAsWritten : Type 0 where
   pub written : (v : ServerValues) → server_allowed v ≡ true
-      → (server_read (server_hello_from v) ≡ WellFormed (21 + length v.session))
+      → (server_read (server_hello_from v) ≡ Some (21 + length v.session))
       × (server_values_at (server_hello_from v) (21 + length v.session) ≡ v)
-  pub read : (m : List ℕ) → ((i : ℕ) → get_or m i 0 < 256) → (end : ℕ) → server_read m ≡ WellFormed end
+  pub read : (m : List ℕ) → ((i : ℕ) → get_or m i 0 < 256) → (end : ℕ) → server_read m ≡ Some end
       → (server_allowed (server_values_at m end) ≡ true) × (server_hello_from (server_values_at m end) ≡ m)

@@ -3,7 +3,7 @@ ghost use Rattle.std.specs.Prelude.{◌≡◌, get_or};
 ghost use Rattle.message.specs.Values.{values_at};
 ghost use Rattle.message.specs.Acceptance.{fits_pair, first_fit, has_null, accepted_of, acceptance_of, heard_of};
 
-use crate::hello::{Field, Hello, Reading};
+use crate::hello::{Field, Hello};
 use crate::{field, hello};
 use digest::{Listed, Mac};
 
@@ -26,35 +26,28 @@ pub enum Condition {
     Numbering,
 }
 
+// Why a message that is to be a ClientHello is not accepted.
 #[derive(Clone, Copy)]
-pub enum Acceptance {
-    Accepted(Plan),
-    Unacceptable(Condition),
-}
-
-// What becomes of a message that is to be a ClientHello.
-#[derive(Clone, Copy)]
-pub enum Heard {
-    Accepted(Plan),
+pub enum Unheard {
     Unacceptable(Condition),
     Malformed(Field),
 }
 
 // Reads a message as a ClientHello and judges it against the planted session identifier.
-pub fn hear(m: &[u8], planted: &[u8]) -> Heard
+pub fn hear(m: &[u8], planted: &[u8]) -> Result<Plan, Unheard>
     ensures { result ≡ heard_of m.now planted.now }
 {
     match hello::read(m) {
-        Reading::Malformed(fault) => Heard::Malformed(fault),
-        Reading::WellFormed(h) => match judge(m, h, planted) {
-            Acceptance::Accepted(plan) => Heard::Accepted(plan),
-            Acceptance::Unacceptable(condition) => Heard::Unacceptable(condition),
+        Err(fault) => Err(Unheard::Malformed(fault)),
+        Ok(h) => match judge(m, h, planted) {
+            Ok(plan) => Ok(plan),
+            Err(condition) => Err(Unheard::Unacceptable(condition)),
         },
     }
 }
 
 // Judges the values that stand at the places of a hello.
-fn judge(m: &[u8], h: Hello, planted: &[u8]) -> Acceptance
+fn judge(m: &[u8], h: Hello, planted: &[u8]) -> Result<Plan, Condition>
     ensures { result ≡ acceptance_of (values_at m.now h) planted.now }
 {
     let version = h.version;
@@ -93,25 +86,25 @@ pub fn accept(
     numbering: u8,
     refresh: u8,
     planted: &[u8],
-) -> Acceptance
+) -> Result<Plan, Condition>
     ensures { result ≡ accepted_of version session.now suites.now methods.now numbering refresh planted.now }
 {
     if version != 1 {
-        return Acceptance::Unacceptable(Condition::Version);
+        return Err(Condition::Version);
     }
     if !digest::same_code(session, planted) {
-        return Acceptance::Unacceptable(Condition::SessionId);
+        return Err(Condition::SessionId);
     }
     let Listed::Is(mac) = Mac::listed(first_fit(suites)) else {
-        return Acceptance::Unacceptable(Condition::CipherSuite);
+        return Err(Condition::CipherSuite);
     };
     if !has_null(methods) {
-        return Acceptance::Unacceptable(Condition::Compression);
+        return Err(Condition::Compression);
     }
     if numbering != 2 {
-        return Acceptance::Unacceptable(Condition::Numbering);
+        return Err(Condition::Numbering);
     }
-    Acceptance::Accepted(Plan {
+    Ok(Plan {
         mac,
         refresh,
         key: 0,

@@ -4,7 +4,6 @@ ghost use Rattle.message.specs.Agreement.{agreement_of, agreed_at, agreed_of, ch
 
 use crate::acceptance::{Plan, byte_at};
 use crate::offer::{Kinds, Offer, is_offered};
-use crate::server_hello::Reading;
 use crate::{field, server_hello};
 use digest::{Listed, Mac};
 
@@ -20,26 +19,25 @@ pub enum Term {
     Refresh,
 }
 
-// What becomes of a message that is to be a ServerHello.
+// Why a message that is to be a ServerHello does not answer the offer.
 #[derive(Clone, Copy)]
-pub enum Agreement {
-    Agreed(Plan),
+pub enum Disagreed {
     Unacceptable(Term),
     Malformed,
 }
 
 // Reads a message as a ServerHello and judges it against the session's identifier and the offer.
-pub fn agree(m: &[u8], planted: &[u8], offer: Offer) -> Agreement
+pub fn agree(m: &[u8], planted: &[u8], offer: Offer) -> Result<Plan, Disagreed>
     ensures { result ≡ agreement_of m.now planted.now offer }
 {
     match server_hello::read(m) {
-        Reading::Malformed => Agreement::Malformed,
-        Reading::WellFormed(end) => judge(m, end, planted, offer),
+        None => Err(Disagreed::Malformed),
+        Some(end) => judge(m, end, planted, offer),
     }
 }
 
 // Judges the values that stand in a ServerHello whose session identifier ends at a place.
-fn judge(m: &[u8], end: usize, planted: &[u8], offer: Offer) -> Agreement
+fn judge(m: &[u8], end: usize, planted: &[u8], offer: Offer) -> Result<Plan, Disagreed>
     requires { end ≤ 29 }
     ensures { result ≡ agreed_at m.now end planted.now offer }
 {
@@ -69,32 +67,32 @@ pub fn judged(
     refresh: u8,
     planted: &[u8],
     offer: Offer,
-) -> Agreement
+) -> Result<Plan, Disagreed>
     ensures { result ≡ agreed_of version session.now key cipher mac compression numbering refresh planted.now offer }
 {
     if version != 1 {
-        return Agreement::Unacceptable(Term::Version);
+        return Err(Disagreed::Unacceptable(Term::Version));
     }
     if !digest::same_code(session, planted) {
-        return Agreement::Unacceptable(Term::SessionId);
+        return Err(Disagreed::Unacceptable(Term::SessionId));
     }
     if key != 0 {
-        return Agreement::Unacceptable(Term::ClientKey);
+        return Err(Disagreed::Unacceptable(Term::ClientKey));
     }
     let kinds = offer.kinds;
     let Listed::Is(chosen) = chosen(cipher, mac, kinds) else {
-        return Agreement::Unacceptable(Term::CipherSuite);
+        return Err(Disagreed::Unacceptable(Term::CipherSuite));
     };
     if compression != 0 {
-        return Agreement::Unacceptable(Term::Compression);
+        return Err(Disagreed::Unacceptable(Term::Compression));
     }
     if numbering != 2 {
-        return Agreement::Unacceptable(Term::Numbering);
+        return Err(Disagreed::Unacceptable(Term::Numbering));
     }
     if offer.refresh < refresh {
-        return Agreement::Unacceptable(Term::Refresh);
+        return Err(Disagreed::Unacceptable(Term::Refresh));
     }
-    Agreement::Agreed(Plan {
+    Ok(Plan {
         mac: chosen,
         refresh,
         key: 0,

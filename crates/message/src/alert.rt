@@ -9,13 +9,6 @@ pub enum Level {
     Fatal,
 }
 
-// What a level byte says.
-#[derive(Clone, Copy)]
-pub enum Graded {
-    Is(Level),
-    Unassigned,
-}
-
 #[derive(Clone, Copy)]
 pub enum Description {
     ConnectionCloseNotify,
@@ -52,13 +45,6 @@ pub enum Description {
     NoRenegotiation,
 }
 
-// What a description byte says.
-#[derive(Clone, Copy)]
-pub enum Sorted {
-    Assigned(Description),
-    Unassigned,
-}
-
 #[derive(Clone, Copy)]
 pub struct Alert {
     pub level: Level,
@@ -66,27 +52,21 @@ pub struct Alert {
     pub checksum: u32,
 }
 
-#[derive(Clone, Copy)]
-pub enum Reading {
-    WellFormed(Alert),
-    Malformed,
-}
-
 // Reads an alert: exactly six bytes, with an assigned level and an assigned description.
-pub fn read(s: &[u8]) -> Reading
+pub fn read(s: &[u8]) -> Option<Alert>
     ensures { result ≡ alert_of s.now }
 {
     if s.len() != 6 {
-        return Reading::Malformed;
+        return None;
     }
-    let Graded::Is(level) = grade(s[0]) else {
-        return Reading::Malformed;
+    let Some(level) = grade(s[0]) else {
+        return None;
     };
-    let Sorted::Assigned(description) = sort(s[1]) else {
-        return Reading::Malformed;
+    let Some(description) = sort(s[1]) else {
+        return None;
     };
     let checksum = word(s[2], s[3], s[4], s[5]);
-    Reading::WellFormed(Alert {
+    Some(Alert {
         level,
         description,
         checksum,
@@ -108,14 +88,14 @@ pub fn write(level: Level, description: Description, checksum: u32) -> [u8; 6]
 }
 
 // The level that a byte names.
-pub fn grade(b: u8) -> Graded
+pub fn grade(b: u8) -> Option<Level>
     ensures { result ≡ level_of b }
 {
     match b {
-        1 => Graded::Is(Level::Warning),
-        2 => Graded::Is(Level::Critical),
-        3 => Graded::Is(Level::Fatal),
-        _ => Graded::Unassigned,
+        1 => Some(Level::Warning),
+        2 => Some(Level::Critical),
+        3 => Some(Level::Fatal),
+        _ => None,
     }
 }
 
@@ -138,54 +118,54 @@ fn word(a: u8, b: u8, c: u8, d: u8) -> u32
 }
 
 // The description that a byte names, by the list of 10.2; the numbers between are unassigned.
-pub fn sort(b: u8) -> Sorted
+pub fn sort(b: u8) -> Option<Description>
     ensures { result ≡ sorted_of b }
 {
     match b {
-        0 => Sorted::Assigned(Description::ConnectionCloseNotify),
-        1 => Sorted::Assigned(Description::SessionCloseNotify),
-        2..=4 => Sorted::Unassigned,
-        5 => Sorted::Assigned(Description::NoConnection),
-        6..=9 => Sorted::Unassigned,
-        10 => Sorted::Assigned(Description::UnexpectedMessage),
-        11 => Sorted::Assigned(Description::TimeRequired),
-        12..=19 => Sorted::Unassigned,
-        20 => Sorted::Assigned(Description::BadRecordMac),
-        21 => Sorted::Assigned(Description::DecryptionFailed),
-        22 => Sorted::Assigned(Description::RecordOverflow),
-        23..=29 => Sorted::Unassigned,
-        30 => Sorted::Assigned(Description::DecompressionFailure),
-        31..=39 => Sorted::Unassigned,
-        40 => Sorted::Assigned(Description::HandshakeFailure),
-        41 => Sorted::Unassigned,
-        42 => Sorted::Assigned(Description::BadCertificate),
-        43 => Sorted::Assigned(Description::UnsupportedCertificate),
-        44 => Sorted::Assigned(Description::CertificateRevoked),
-        45 => Sorted::Assigned(Description::CertificateExpired),
-        46 => Sorted::Assigned(Description::CertificateUnknown),
-        47 => Sorted::Assigned(Description::IllegalParameter),
-        48 => Sorted::Assigned(Description::UnknownCa),
-        49 => Sorted::Assigned(Description::AccessDenied),
-        50 => Sorted::Assigned(Description::DecodeError),
-        51 => Sorted::Assigned(Description::DecryptError),
-        52 => Sorted::Assigned(Description::UnknownKeyId),
-        53 => Sorted::Assigned(Description::DisabledKeyId),
-        54 => Sorted::Assigned(Description::KeyExchangeDisabled),
-        55 => Sorted::Assigned(Description::SessionNotReady),
-        56 => Sorted::Assigned(Description::UnknownParameterIndex),
-        57 => Sorted::Assigned(Description::DuplicateFinishedReceived),
-        58..=59 => Sorted::Unassigned,
-        60 => Sorted::Assigned(Description::ExportRestriction),
-        61..=69 => Sorted::Unassigned,
-        70 => Sorted::Assigned(Description::ProtocolVersion),
-        71 => Sorted::Assigned(Description::InsufficientSecurity),
-        72..=79 => Sorted::Unassigned,
-        80 => Sorted::Assigned(Description::InternalError),
-        81..=89 => Sorted::Unassigned,
-        90 => Sorted::Assigned(Description::UserCanceled),
-        91..=99 => Sorted::Unassigned,
-        100 => Sorted::Assigned(Description::NoRenegotiation),
-        101..=255 => Sorted::Unassigned,
+        0 => Some(Description::ConnectionCloseNotify),
+        1 => Some(Description::SessionCloseNotify),
+        2..=4 => None,
+        5 => Some(Description::NoConnection),
+        6..=9 => None,
+        10 => Some(Description::UnexpectedMessage),
+        11 => Some(Description::TimeRequired),
+        12..=19 => None,
+        20 => Some(Description::BadRecordMac),
+        21 => Some(Description::DecryptionFailed),
+        22 => Some(Description::RecordOverflow),
+        23..=29 => None,
+        30 => Some(Description::DecompressionFailure),
+        31..=39 => None,
+        40 => Some(Description::HandshakeFailure),
+        41 => None,
+        42 => Some(Description::BadCertificate),
+        43 => Some(Description::UnsupportedCertificate),
+        44 => Some(Description::CertificateRevoked),
+        45 => Some(Description::CertificateExpired),
+        46 => Some(Description::CertificateUnknown),
+        47 => Some(Description::IllegalParameter),
+        48 => Some(Description::UnknownCa),
+        49 => Some(Description::AccessDenied),
+        50 => Some(Description::DecodeError),
+        51 => Some(Description::DecryptError),
+        52 => Some(Description::UnknownKeyId),
+        53 => Some(Description::DisabledKeyId),
+        54 => Some(Description::KeyExchangeDisabled),
+        55 => Some(Description::SessionNotReady),
+        56 => Some(Description::UnknownParameterIndex),
+        57 => Some(Description::DuplicateFinishedReceived),
+        58..=59 => None,
+        60 => Some(Description::ExportRestriction),
+        61..=69 => None,
+        70 => Some(Description::ProtocolVersion),
+        71 => Some(Description::InsufficientSecurity),
+        72..=79 => None,
+        80 => Some(Description::InternalError),
+        81..=89 => None,
+        90 => Some(Description::UserCanceled),
+        91..=99 => None,
+        100 => Some(Description::NoRenegotiation),
+        101..=255 => None,
     }
 }
 

@@ -5,10 +5,9 @@ ghost use Rattle.message.specs.Finished.{server_verify, client_verify, finished_
 use crate::{field, handshake};
 use digest::Hasher;
 
-// What a message that is to be a Finished is.
+// Why a message is not the Finished that is due.
 #[derive(Clone, Copy)]
-pub enum Verified {
-    Right,
+pub enum Unverified {
     // a Finished with other contents
     Wrong,
     Malformed,
@@ -50,17 +49,17 @@ pub fn message(verify: [u8; 12]) -> [u8; 15]
 
 // Judges a message that is to be a Finished with the contents expected. All of them are compared, wherever the first
 // difference stands.
-pub fn judge(m: &[u8], expected: &[u8]) -> Verified
+pub fn judge(m: &[u8], expected: &[u8]) -> Result<(), Unverified>
     ensures { result ≡ judged_of m.now expected.now }
 {
     if m.len() != 15 {
-        return Verified::Malformed;
+        return Err(Unverified::Malformed);
     }
     if !handshake::fills_with(m, 20) {
-        return Verified::Malformed;
+        return Err(Unverified::Malformed);
     }
     if digest::same_code(field::part(m, 3, 15), expected) {
-        return Verified::Right;
+        return Ok(());
     }
-    Verified::Wrong
+    Err(Unverified::Wrong)
 }

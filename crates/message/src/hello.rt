@@ -45,21 +45,15 @@ pub enum Field {
     Rest,
 }
 
-#[derive(Clone, Copy)]
-pub enum Reading {
-    WellFormed(Hello),
-    Malformed(Field),
-}
-
 // Reads a handshake message as a ClientHello.
-pub fn read(m: &[u8]) -> Reading
+pub fn read(m: &[u8]) -> Result<Hello, Field>
     ensures { result ≡ read_of m.now }
 {
     if !handshake::fills_with(m, 1) {
-        return Reading::Malformed(Field::Header);
+        return Err(Field::Header);
     }
     if 256 < m.len() {
-        return Reading::Malformed(Field::Size);
+        return Err(Field::Size);
     }
     let version = field::field_end(m, 3, 1);
     let random = field::field_end(m, version, 16);
@@ -97,42 +91,42 @@ fn told(
     numbering: usize,
     refresh: usize,
     size: usize,
-) -> Reading
+) -> Result<Hello, Field>
     requires random_le_size { (random ≤ size) × (session ≤ size) × (client ≤ size) × (trusted ≤ size) × (suites ≤ size) × (refresh ≤ size) }
     requires size_bound { size ≤ 256 }
     ensures { result ≡ told_by version random session client trusted suites methods numbering refresh size }
 {
     if version == 0 {
-        return Reading::Malformed(Field::Version);
+        return Err(Field::Version);
     }
     if random == 0 {
-        return Reading::Malformed(Field::Random);
+        return Err(Field::Random);
     }
     if session == 0 {
-        return Reading::Malformed(Field::SessionId);
+        return Err(Field::SessionId);
     }
     if client == 0 {
-        return Reading::Malformed(Field::ClientKeyIds);
+        return Err(Field::ClientKeyIds);
     }
     if trusted == 0 {
-        return Reading::Malformed(Field::TrustedKeyIds);
+        return Err(Field::TrustedKeyIds);
     }
     if suites == 0 {
-        return Reading::Malformed(Field::CipherSuites);
+        return Err(Field::CipherSuites);
     }
     if methods == 0 {
-        return Reading::Malformed(Field::CompressionMethods);
+        return Err(Field::CompressionMethods);
     }
     if numbering == 0 {
-        return Reading::Malformed(Field::SequenceNumberMode);
+        return Err(Field::SequenceNumberMode);
     }
     if refresh == 0 {
-        return Reading::Malformed(Field::KeyRefresh);
+        return Err(Field::KeyRefresh);
     }
     if refresh < size {
-        return Reading::Malformed(Field::Rest);
+        return Err(Field::Rest);
     }
-    Reading::WellFormed(placed(
+    Ok(placed(
         version, random, session, client, trusted, suites, methods, numbering, refresh,
     ))
 }

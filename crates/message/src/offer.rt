@@ -16,13 +16,6 @@ pub enum Kinds {
     ShaFirst,
 }
 
-// The kinds that a list of numbers names.
-#[derive(Clone, Copy)]
-pub enum Named {
-    Are(Kinds),
-    Others,
-}
-
 // The kinds that are offered, and the key refresh that is suggested.
 #[derive(Clone, Copy)]
 pub struct Offer {
@@ -31,22 +24,22 @@ pub struct Offer {
 }
 
 // The kinds that these numbers name: one or both of 2 and 3, without repetition.
-pub fn kinds_of(macs: &[u8]) -> Named
+pub fn kinds_of(macs: &[u8]) -> Option<Kinds>
     ensures { result ≡ kinds_named macs.now }
 {
     if digest::same_code(macs, &[2]) {
-        return Named::Are(Kinds::Sha80);
+        return Some(Kinds::Sha80);
     }
     if digest::same_code(macs, &[3]) {
-        return Named::Are(Kinds::Sha);
+        return Some(Kinds::Sha);
     }
     if digest::same_code(macs, &[2, 3]) {
-        return Named::Are(Kinds::Sha80First);
+        return Some(Kinds::Sha80First);
     }
     if digest::same_code(macs, &[3, 2]) {
-        return Named::Are(Kinds::ShaFirst);
+        return Some(Kinds::ShaFirst);
     }
-    Named::Others
+    None
 }
 
 // Whether a kind is among those offered.

@@ -6,25 +6,19 @@ ghost use Rattle.message.specs.ServerHello.{server_read};
 use crate::acceptance::byte_at;
 use crate::handshake;
 
-#[derive(Clone, Copy)]
-pub enum Reading {
-    WellFormed(usize),
-    Malformed,
-}
-
 // Reads a handshake message as a ServerHello.
-pub fn read(m: &[u8]) -> Reading
+pub fn read(m: &[u8]) -> Option<usize>
     ensures { result ≡ server_read m.now }
 {
     if !handshake::fills_with(m, 2) {
-        return Reading::Malformed;
+        return None;
     }
     let session = byte_at(m, 20) as usize;
     if 8 < session {
-        return Reading::Malformed;
+        return None;
     }
     if m.len() != 27 + session {
-        return Reading::Malformed;
+        return None;
     }
-    Reading::WellFormed(21 + session)
+    Some(21 + session)
 }

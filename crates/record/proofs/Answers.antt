@@ -5,7 +5,8 @@ use Prim.Native.Nat.{ℕ, ◌+◌, ◌-◌, ◌*◌, ◌/◌, ◌%◌, ◌^◌, 
 use lib.Dec.{eqb, leb}
 use borrow.Author.Tests.{eq-eqb, ne_eqb, lt-ltb, le-ltb}
 use Rattle.record.specs.Window.{accept_by, arrived_at}
-use Rattle.record.specs.declared.window.Acceptance.TheVariants.{TooOld, Repeated}
+use Rattle.record.specs.declared.window.NotNew.TheVariants.{TooOld, Repeated}
+use Rattle.std.specs.Prelude.{Err}
 
 module _ (w n m s : ℕ) where
   pub fresh_when : m ≡ 0 → accept_by w n m s ≡ arrived_at w s 1
@@ -16,11 +17,11 @@ module _ (w n m s : ℕ) where
   unfolding accept_by
   newer_when z l = rw (ne_eqb m 0 z, lt-ltb n s l)
 
-  pub old_when : (m ≡ 0 → ⊥) → s ≤ n → leb (s + w) n ≡ true → accept_by w n m s ≡ TooOld
+  pub old_when : (m ≡ 0 → ⊥) → s ≤ n → leb (s + w) n ≡ true → accept_by w n m s ≡ Err TooOld
   unfolding accept_by
   old_when z l e = rw (ne_eqb m 0 z, le-ltb n s l, e)
 
-  pub repeated_when : (m ≡ 0 → ⊥) → s ≤ n → leb (s + w) n ≡ false → eqb (m / 2 ^ (n - s) % 2) 1 ≡ true → accept_by w n m s ≡ Repeated
+  pub repeated_when : (m ≡ 0 → ⊥) → s ≤ n → leb (s + w) n ≡ false → eqb (m / 2 ^ (n - s) % 2) 1 ≡ true → accept_by w n m s ≡ Err Repeated
   unfolding accept_by
   repeated_when z l e f = rw (ne_eqb m 0 z, le-ltb n s l, e, f)
 

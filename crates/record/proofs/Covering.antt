@@ -12,14 +12,13 @@ use lib.Dec.{eqb, ltb, lit≤}
 use borrow.Author.Tests.{eqb-true, eqb-false, ltb-false}
 use Rattle.digest.specs.Pick.{pick}
 use Rattle.record.specs.Reader.{read_of}
-use Rattle.record.specs.Datagram.{Framing, framed, faulty, after, ahead, placed_at, framing_from, framing_of, blank, found_all, refused_at, answered, walk_of, CoversFrom}
+use Rattle.record.specs.Datagram.{Framing, framed, faulty, after, ahead, placed_at, framing_from, framing_of, blank, found_all, answered, walk_of, CoversFrom}
 use Rattle.record.specs.declared.reader.Record.{Record}
 use Rattle.record.specs.declared.reader.Fault.{Fault}
 use Rattle.record.specs.declared.reader.Fault.TheVariants as F
-use Rattle.record.specs.declared.reader.Reading.{Reading}
-use Rattle.record.specs.declared.reader.Reading.TheVariants.{Sound, Refused}
 use Rattle.record.specs.declared.datagram.Walk.{Walk}
 use Rattle.record.proofs.Standing.{Stands, stands, takes}
+use Rattle.std.specs.Prelude.{Err, Ok, Result}
 
 faulty_never : {P : Type 0} (f : Fault) (at : ℕ) (rs : List Record) → faulty f at ≡ framed rs → P
 faulty_never f at rs e = let z : ◌≡◌ {A = ℕ} 0 1 = cc in absurd (omega arith)
@@ -30,9 +29,9 @@ by_test true x y rs e p q = p refl e
 by_test false x y rs e p q = q refl e
 
 -- the record that was read, and the framing of the rest
-by_reading : {P : Type 0} (at : ℕ) (x : Reading) (rest : Record → Framing) (rs : List Record) → ahead at x rest ≡ framed rs → ((r : Record) (more : List Record) → x ≡ Sound r → rest r ≡ framed more → rs ≡ placed_at r at ∷ more → P) → P
-by_reading at (Refused f) rest rs e k = faulty_never f at rs e
-by_reading {P} at (Sound r) rest rs e k = by_rest (rest r) refl e
+by_reading : {P : Type 0} (at : ℕ) (x : Result Record Fault) (rest : Record → Framing) (rs : List Record) → ahead at x rest ≡ framed rs → ((r : Record) (more : List Record) → x ≡ Ok r → rest r ≡ framed more → rs ≡ placed_at r at ∷ more → P) → P
+by_reading at (Err f) rest rs e k = faulty_never f at rs e
+by_reading {P} at (Ok r) rest rs e k = by_rest (rest r) refl e
   where
     by_rest : (y : Framing) → rest r ≡ y → after (placed_at r at ∷ []) y ≡ framed rs → P
     by_rest (faulty f p) q h = faulty_never f p rs h
@@ -56,7 +55,7 @@ covers_from (suc room) d at s rs e l h =
     let inside : at + r.used ≤ length d = omega (arith, takes s r read, ap length e, length-drop at d) in
     let c = covers_from room d (at + r.used) (drop r.used s) more (ap (drop r.used) e ∙ drop-drop r.used at d) inside rest in
     let zero-start : placed_at r 0 ≡ r = ap (placed_at r) (sym (stands s r read).start) in
-    rw z ((refl, (ap read_of (sym e) ∙ read ∙ ap Sound (sym zero-start), c.0)), omega (arith, c.1))))
+    rw z ((refl, (ap read_of (sym e) ∙ read ∙ ap Ok (sym zero-start), c.0)), omega (arith, c.1))))
 
 not_none : (d : List ℕ) (rs : List Record) → 1 ≤ length d → CoversFrom d 0 rs → 1 ≤ length rs
 unfolding CoversFrom
@@ -80,13 +79,13 @@ covers d rs e =
 
 -- what the layers above need of a record: where it stands, that it lies inside, and how it is read
 pub record Lies (d : List ℕ) (r : Record) : Type 0 where
-  pub reads : read_of (drop r.start d) ≡ Sound (placed_at r 0)
+  pub reads : read_of (drop r.start d) ≡ Ok (placed_at r 0)
   pub stand : Stands (drop r.start d) (placed_at r 0)
   pub inside : r.start + r.used ≤ length d
 
-lies : (d : List ℕ) (at : ℕ) (r : Record) → at ≤ length d → r.start ≡ at → read_of (drop at d) ≡ Sound (placed_at r 0) → Lies d r
+lies : (d : List ℕ) (at : ℕ) (r : Record) → at ≤ length d → r.start ≡ at → read_of (drop at d) ≡ Ok (placed_at r 0) → Lies d r
 lies d at r l e read =
-    let here : read_of (drop r.start d) ≡ Sound (placed_at r 0) = rw e read in
+    let here : read_of (drop r.start d) ≡ Ok (placed_at r 0) = rw e read in
     let s : Stands (drop r.start d) (placed_at r 0) = stands (drop r.start d) (placed_at r 0) here in
     record { reads = here; stand = s; inside = omega (arith, s.inside, length-drop r.start d) }
 
@@ -120,35 +119,24 @@ found_eight rs h =
 
 -- ---- whatever the datagram: at most eight records in eight places, and each that is counted lies in the datagram
 
-module _ (d : List ℕ) where
-  by_framing : (P : Framing → Type 0) → ((rs : List Record) → framing_of d ≡ framed rs → P (framed rs)) → ((f : Fault) (at : ℕ) → P (faulty f at)) → (x : Framing) → framing_of d ≡ x → P x
-  by_framing P p q (framed rs) e = p rs e
-  by_framing P p q (faulty f at) e = q f at
-
-  pub walk_count : (walk_of d).count ≤ 8
-  unfolding found_all refused_at
-  walk_count =
-      by_framing (λ x. (answered x).count ≤ 8) (λ rs e. (covers d rs e).4) (λ f at. lit≤ tt) (framing_of d) refl
-
-  pub walk_eight : length (walk_of d).records ≡ 8
-  unfolding found_all refused_at
-  walk_eight =
-      by_framing (λ x. length (answered x).records ≡ 8) (λ rs e. found_eight rs (covers d rs e).4) (λ f at. refl) (framing_of d) refl
-
-  pub walk_lies : (i : ℕ) → i < (walk_of d).count → Lies d (get_or (walk_of d).records i blank)
-  unfolding found_all refused_at
-  walk_lies i =
-      by_framing (λ x. i < (answered x).count → Lies d (get_or (answered x).records i blank))
-      (λ rs e h. subst (Lies d) (sym (found_at rs i h)) (lies_at rs i d 0 (omega arith) (covers d rs e).0 h))
-      (λ f at h. absurd (omega arith)) (framing_of d) refl
-
 -- what a caller needs of the walk's answer to go through its records
 pub record Walkable (d : List ℕ) (count : ℕ) (records : List Record) : Type 0 where
   pub few : count ≤ 8
   pub eight : length records ≡ 8
   pub each : (i : ℕ) → i < count → Lies d (get_or records i blank)
 
-pub walkable : (d : List ℕ) (w : Walk) → w ≡ walk_of d → Walkable d w.count w.records
-walkable d w e =
-    subst (λ (x : Walk). Walkable d x.count x.records) (sym e)
-    (record { few = walk_count d; eight = walk_eight d; each = walk_lies d })
+pub walkable : (d : List ℕ) (w : Walk) → walk_of d ≡ Ok w → Walkable d w.count w.records
+unfolding found_all
+walkable d w = told (framing_of d) refl
+  where
+    told : (x : Framing) → framing_of d ≡ x → answered x ≡ Ok w → Walkable d w.count w.records
+    told (framed rs) q e =
+        let few = (covers d rs q).4 in
+        let is : w ≡ found_all rs = cc in
+        subst (λ (x : Walk). Walkable d x.count x.records) (sym is) (
+          record {
+            few = few;
+            eight = found_eight rs few;
+            each = λ i h. subst (Lies d) (sym (found_at rs i h)) (lies_at rs i d 0 (omega arith) (covers d rs q).0 h);
+          })
+    told (faulty f at) q e = let z : ◌≡◌ {A = ℕ} 0 1 = cc in absurd (omega arith)

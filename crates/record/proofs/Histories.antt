@@ -16,7 +16,8 @@ use Rattle.digest.specs.Pick.{pick}
 use Rattle.record.specs.Window.{window_width, Held, held_width, fresh_window, accept_by, accept_within, accept_of, arrived_at, arrival_of}
 use Rattle.record.specs.History.{accepted, highest_of, mark_of, marks_from, count_from, window_of, arrived_of, judged_of}
 use Rattle.record.specs.declared.window.Window.{Window}
-use Rattle.record.specs.declared.window.Acceptance.TheVariants.{New, TooOld, Repeated}
+use Rattle.record.specs.declared.window.NotNew.TheVariants.{TooOld, Repeated}
+use Rattle.std.specs.Prelude.{Err, Ok}
 
 pub decide : {P : Type 0} (b : Bool) → (b ≡ true → P) → (b ≡ false → P) → P
 decide true y n = y refl
@@ -186,7 +187,7 @@ module _ (k h : List ℕ) (m n : ℕ) where
 -- ---- the theorem
 
 -- the window and the count after s, from its highest number and its marks
-taken : (w s n m : ℕ) (h : List ℕ) → highest_of (s ∷ h) ≡ n → marks_from (s ∷ h) n w 0 ≡ m → arrived_at w n m ≡ New (window_of w (s ∷ h)) (arrived_of w (s ∷ h))
+taken : (w s n m : ℕ) (h : List ℕ) → highest_of (s ∷ h) ≡ n → marks_from (s ∷ h) n w 0 ≡ m → arrived_at w n m ≡ Ok (window_of w (s ∷ h), arrived_of w (s ∷ h))
 taken w s n m h e f = rw (e, f, sym (marks_ones (s ∷ h) n w 0), f)
 
 -- the first number of all
@@ -363,15 +364,15 @@ arrived_most w h = count_le h (highest_of h) w 0
 -- ---- the answers, each exactly when
 
 module _ (w : ℕ) (h : List ℕ) (s : ℕ) where
-  pub old_when : s + w ≤ highest_of h → judged_of w h s ≡ TooOld
+  pub old_when : s + w ≤ highest_of h → judged_of w h s ≡ Err TooOld
   unfolding judged_of
   old_when l = rw (le-leb (s + w) (highest_of h) l)
 
-  pub repeated_when : highest_of h < s + w → accepted h s ≡ true → judged_of w h s ≡ Repeated
+  pub repeated_when : highest_of h < s + w → accepted h s ≡ true → judged_of w h s ≡ Err Repeated
   unfolding judged_of
   repeated_when l e = rw (lt-leb (s + w) (highest_of h) l, e)
 
-  pub new_when : highest_of h < s + w → accepted h s ≡ false → judged_of w h s ≡ New (window_of w (s ∷ h)) (arrived_of w (s ∷ h))
+  pub new_when : highest_of h < s + w → accepted h s ≡ false → judged_of w h s ≡ Ok (window_of w (s ∷ h), arrived_of w (s ∷ h))
   unfolding judged_of
   new_when l e = rw (lt-leb (s + w) (highest_of h) l, e)
 
@@ -381,18 +382,18 @@ module _ (w : ℕ) (h : List ℕ) (s : ℕ) where
       decide (leb (s + w) (highest_of h)) (λ e. a (leb-true (s + w) (highest_of h) e))
       (λ e. decide (accepted h s) (b (leb-false (s + w) (highest_of h) e)) (c (leb-false (s + w) (highest_of h) e)))
 
-  pub old_means : judged_of w h s ≡ TooOld → s + w ≤ highest_of h
+  pub old_means : judged_of w h s ≡ Err TooOld → s + w ≤ highest_of h
   old_means e =
       which (λ l. l)
       (λ l a. let z : ◌≡◌ {A = ℕ} 0 1 = cc (repeated_when l a) in absurd (omega arith))
       (λ l a. let z : ◌≡◌ {A = ℕ} 0 1 = cc (new_when l a) in absurd (omega arith))
 
-  pub repeated_means : judged_of w h s ≡ Repeated → (highest_of h < s + w) × (accepted h s ≡ true)
+  pub repeated_means : judged_of w h s ≡ Err Repeated → (highest_of h < s + w) × (accepted h s ≡ true)
   repeated_means e =
       which (λ l. let z : ◌≡◌ {A = ℕ} 0 1 = cc (old_when l) in absurd (omega arith)) (λ l a. (l, a))
       (λ l a. let z : ◌≡◌ {A = ℕ} 0 1 = cc (new_when l a) in absurd (omega arith))
 
-  pub new_means : (v : Window) (k : ℕ) → judged_of w h s ≡ New v k → (highest_of h < s + w) × (accepted h s ≡ false) × (v ≡ window_of w (s ∷ h)) × (k ≡ arrived_of w (s ∷ h))
+  pub new_means : (v : Window) (k : ℕ) → judged_of w h s ≡ Ok (v, k) → (highest_of h < s + w) × (accepted h s ≡ false) × (v ≡ window_of w (s ∷ h)) × (k ≡ arrived_of w (s ∷ h))
   new_means v k e =
       which (λ l. let z : ◌≡◌ {A = ℕ} 0 1 = cc (old_when l) in absurd (omega arith))
       (λ l a. let z : ◌≡◌ {A = ℕ} 0 1 = cc (repeated_when l a) in absurd (omega arith))

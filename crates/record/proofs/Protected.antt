@@ -24,20 +24,20 @@ use Rattle.record.specs.Protection.{with_window, genuine_under, content_size, op
 use Rattle.record.specs.declared.header.Content.{Content}
 use Rattle.record.specs.declared.keys.Keys.{Keys}
 use Rattle.record.specs.declared.keys.Sense.{Sense}
-use Rattle.record.specs.declared.reader.Reading.TheVariants.{Sound}
 use Rattle.record.specs.declared.window.Window.{Window}
-use Rattle.record.specs.declared.window.Acceptance.{Acceptance}
-use Rattle.record.specs.declared.window.Acceptance.TheVariants as A
+use Rattle.record.specs.declared.window.NotNew.TheVariants as A
 use Rattle.record.specs.declared.protection.Protection.{Protection}
 use Rattle.record.specs.declared.protection.Opening.{Opening}
-use Rattle.record.specs.declared.protection.Opened.{Opened}
-use Rattle.record.specs.declared.protection.Opened.TheVariants as O
+use Rattle.record.specs.declared.protection.Unopened.TheVariants as O
 use Rattle.record.specs.declared.protection.Writing.{Writing}
-use Rattle.record.specs.declared.protection.Wrote.TheVariants as W
+use Rattle.record.specs.declared.protection.Unwritten.TheVariants as W
 use Rattle.record.proofs.Histories.{meaning, new_means, accepted_here, accepted_still}
 use Rattle.record.proofs.RoundTrip.{read_back, read_protected}
 use Rattle.record.proofs.ProtectedBytes.{genuine_made, protected_genuine, protected_length}
 use Rattle.record.proofs.Protecting.{forged_as, opened_as_lem}
+use Rattle.std.specs.Prelude.{Err, Ok, Result}
+use Rattle.record.specs.declared.protection.Unopened.{Unopened}
+use Rattle.record.specs.declared.window.NotNew.{NotNew}
 
 -- ---- genuine, by bytes
 
@@ -58,23 +58,23 @@ module _ (p : Protection) (sense : Sense) (s byte : ℕ) (f : List ℕ) where
       ∙ ap (λ n. opened_to p n (accept_of p.window s)) size
 
   -- what is no content with its code is forged, and leaves everything as it was
-  pub uncoded_forged : ((c : List ℕ) → CodedUnder p.keys sense s byte f c → ⊥) → opened_by p sense s byte f ≡ opening O.Forged p
+  pub uncoded_forged : ((c : List ℕ) → CodedUnder p.keys sense s byte f c → ⊥) → opened_by p sense s byte f ≡ opening (Err O.Forged) p
   uncoded_forged never = told (genuine_under p.keys sense s byte f) refl
     where
-      told : (b : Bool) → genuine_under p.keys sense s byte f ≡ b → opened_by p sense s byte f ≡ opening O.Forged p
+      told : (b : Bool) → genuine_under p.keys sense s byte f ≡ b → opened_by p sense s byte f ≡ opening (Err O.Forged) p
       told true e =
           absurd (never _ (genuine_made (hmac (secret_for p.keys sense s)) (size_of p.keys.mac) s byte f e).1)
       told false e = sym (forged_as p sense s byte f (genuine_under p.keys sense s byte f) refl e)
 
   -- a new record is a content with its code; the content stands at the front
-  pub new_coded : (n : ℕ) → (opened_by p sense s byte f).opened ≡ O.New n
+  pub new_coded : (n : ℕ) → (opened_by p sense s byte f).opened ≡ Ok n
       → CodedUnder p.keys sense s byte f (take n f)
   new_coded n e = told (genuine_under p.keys sense s byte f) refl
     where
-      size-of : (x : Acceptance) → (opened_to p (content_size p.keys f) x).opened ≡ O.New n → content_size p.keys f ≡ n
-      size-of A.TooOld q = let z : ◌≡◌ {A = ℕ} 0 1 = cc in absurd (omega arith)
-      size-of A.Repeated q = let z : ◌≡◌ {A = ℕ} 0 1 = cc in absurd (omega arith)
-      size-of (A.New w m) q = cc
+      size-of : (x : Result (Window × ℕ) NotNew) → (opened_to p (content_size p.keys f) x).opened ≡ Ok n → content_size p.keys f ≡ n
+      size-of (Err A.TooOld) q = let z : ◌≡◌ {A = ℕ} 0 1 = cc in absurd (omega arith)
+      size-of (Err A.Repeated) q = let z : ◌≡◌ {A = ℕ} 0 1 = cc in absurd (omega arith)
+      size-of (Ok (w, m)) q = cc
 
       told : (b : Bool) → genuine_under p.keys sense s byte f ≡ b → CodedUnder p.keys sense s byte f (take n f)
       told true g =
@@ -84,18 +84,18 @@ module _ (p : Protection) (sense : Sense) (s byte : ℕ) (f : List ℕ) where
           made ∙ ap (λ m. fragment_by (hmac (secret_for p.keys sense s)) (size_of p.keys.mac) s byte (take m f)) size
       told false g =
           let is = forged_as p sense s byte f (genuine_under p.keys sense s byte f) refl g in
-          let q : O.Forged ≡ O.New n = ap (λ (o : Opening). o.opened) is ∙ e in
+          let q : Err O.Forged ≡ Ok n = ap (λ (o : Opening). o.opened) is ∙ e in
           let z : ◌≡◌ {A = ℕ} 0 1 = cc in
           absurd (omega arith)
 
   -- the content of a new record lies inside its fragment
-  pub new_within : (n : ℕ) → (opened_by p sense s byte f).opened ≡ O.New n → n ≤ length f
+  pub new_within : (n : ℕ) → (opened_by p sense s byte f).opened ≡ Ok n → n ≤ length f
   new_within n e = told (genuine_under p.keys sense s byte f) refl
     where
-      size-of : (x : Acceptance) → (opened_to p (content_size p.keys f) x).opened ≡ O.New n → content_size p.keys f ≡ n
-      size-of A.TooOld q = let z : ◌≡◌ {A = ℕ} 0 1 = cc in absurd (omega arith)
-      size-of A.Repeated q = let z : ◌≡◌ {A = ℕ} 0 1 = cc in absurd (omega arith)
-      size-of (A.New w m) q = cc
+      size-of : (x : Result (Window × ℕ) NotNew) → (opened_to p (content_size p.keys f) x).opened ≡ Ok n → content_size p.keys f ≡ n
+      size-of (Err A.TooOld) q = let z : ◌≡◌ {A = ℕ} 0 1 = cc in absurd (omega arith)
+      size-of (Err A.Repeated) q = let z : ◌≡◌ {A = ℕ} 0 1 = cc in absurd (omega arith)
+      size-of (Ok (w, m)) q = cc
 
       told : (b : Bool) → genuine_under p.keys sense s byte f ≡ b → n ≤ length f
       told true g =
@@ -103,7 +103,7 @@ module _ (p : Protection) (sense : Sense) (s byte : ℕ) (f : List ℕ) where
           omega (arith, size-of (accept_of p.window s) (ap (λ (o : Opening). o.opened) is ∙ e))
       told false g =
           let is = forged_as p sense s byte f (genuine_under p.keys sense s byte f) refl g in
-          let q : O.Forged ≡ O.New n = ap (λ (o : Opening). o.opened) is ∙ e in
+          let q : Err O.Forged ≡ Ok n = ap (λ (o : Opening). o.opened) is ∙ e in
           let z : ◌≡◌ {A = ℕ} 0 1 = cc in
           absurd (omega arith)
 
@@ -120,22 +120,22 @@ module _ (w : ℕ) (held : Held w) (h : List ℕ) (p : Protection) (is : p.windo
   coded_judged c e = coded_opens p sense s byte f c e ∙ ap (opened_to p (length c)) by_history
 
   -- what is new was not accepted before and is recent; the window then has it, and nothing else changes
-  pub new_accepted : (n : ℕ) → (opened_by p sense s byte f).opened ≡ O.New n
+  pub new_accepted : (n : ℕ) → (opened_by p sense s byte f).opened ≡ Ok n
       → (highest_of h < s + w) × (accepted h s ≡ false) × ((opened_by p sense s byte f).protection ≡ with_window p (window_of w (s ∷ h)))
   new_accepted n e = told (judged_of w h s) refl
     where
       is_new_lem : opened_by p sense s byte f ≡ opened_to p (length (take n f)) (judged_of w h s)
       is_new_lem = coded_judged (take n f) (new_coded p sense s byte f n e)
 
-      told : (x : Acceptance) → judged_of w h s ≡ x
+      told : (x : Result (Window × ℕ) NotNew) → judged_of w h s ≡ x
           → (highest_of h < s + w) × (accepted h s ≡ false) × ((opened_by p sense s byte f).protection ≡ with_window p (window_of w (s ∷ h)))
-      told A.TooOld q =
-          let z : O.TooOld ≡ O.New n = sym (ap (λ (o : Opening). o.opened) (is_new_lem ∙ ap (opened_to p (length (take n f))) q)) ∙ e in
+      told (Err A.TooOld) q =
+          let z : Err O.TooOld ≡ Ok n = sym (ap (λ (o : Opening). o.opened) (is_new_lem ∙ ap (opened_to p (length (take n f))) q)) ∙ e in
           let y : ◌≡◌ {A = ℕ} 0 1 = cc in absurd (omega arith)
-      told A.Repeated q =
-          let z : O.Repeated ≡ O.New n = sym (ap (λ (o : Opening). o.opened) (is_new_lem ∙ ap (opened_to p (length (take n f))) q)) ∙ e in
+      told (Err A.Repeated) q =
+          let z : Err O.Repeated ≡ Ok n = sym (ap (λ (o : Opening). o.opened) (is_new_lem ∙ ap (opened_to p (length (take n f))) q)) ∙ e in
           let y : ◌≡◌ {A = ℕ} 0 1 = cc in absurd (omega arith)
-      told (A.New v m) q =
+      told (Ok (v, m)) q =
           let t = new_means w h s v m q in (
             t.0,
             t.1,
@@ -143,16 +143,16 @@ module _ (w : ℕ) (held : Held w) (h : List ℕ) (p : Protection) (is : p.windo
           )
 
   -- what is not new changes nothing
-  pub not_new_stays : ((n : ℕ) → (opened_by p sense s byte f).opened ≡ O.New n → ⊥) → (opened_by p sense s byte f).protection ≡ p
+  pub not_new_stays : ((n : ℕ) → (opened_by p sense s byte f).opened ≡ Ok n → ⊥) → (opened_by p sense s byte f).protection ≡ p
   not_new_stays never = told (genuine_under p.keys sense s byte f) refl (accept_of p.window s) refl
     where
-      told : (b : Bool) → genuine_under p.keys sense s byte f ≡ b → (x : Acceptance) → x ≡ accept_of p.window s
+      told : (b : Bool) → genuine_under p.keys sense s byte f ≡ b → (x : Result (Window × ℕ) NotNew) → x ≡ accept_of p.window s
           → (opened_by p sense s byte f).protection ≡ p
       told false g x q = sym (ap (λ (o : Opening). o.protection) (forged_as p sense s byte f (genuine_under p.keys sense s byte f) refl g))
-      told true g A.TooOld q = sym (ap (λ (o : Opening). o.protection) (opened_as_lem p sense s byte f (genuine_under p.keys sense s byte f) refl g A.TooOld q))
-      told true g A.Repeated q = sym (ap (λ (o : Opening). o.protection) (opened_as_lem p sense s byte f (genuine_under p.keys sense s byte f) refl g A.Repeated q))
-      told true g (A.New v m) q =
-          absurd (never (content_size p.keys f) (sym (ap (λ (o : Opening). o.opened) (opened_as_lem p sense s byte f (genuine_under p.keys sense s byte f) refl g (A.New v m) q))))
+      told true g (Err A.TooOld) q = sym (ap (λ (o : Opening). o.protection) (opened_as_lem p sense s byte f (genuine_under p.keys sense s byte f) refl g (Err A.TooOld) q))
+      told true g (Err A.Repeated) q = sym (ap (λ (o : Opening). o.protection) (opened_as_lem p sense s byte f (genuine_under p.keys sense s byte f) refl g (Err A.Repeated) q))
+      told true g (Ok (v, m)) q =
+          absurd (never (content_size p.keys f) (sym (ap (λ (o : Opening). o.opened) (opened_as_lem p sense s byte f (genuine_under p.keys sense s byte f) refl g (Ok (v, m)) q))))
 
 -- ---- a number opens as new once
 
@@ -177,17 +177,17 @@ pub record Grown (w : ℕ) (h : List ℕ) (p : Protection) : Type 0 where
   pub means : p.window ≡ window_of w numbers
   pub still : (s : ℕ) → accepted h s ≡ true → accepted numbers s ≡ true
 
-new_or_not : (o : Opened) → ((n : ℕ) × (o ≡ O.New n)) ⊎ ((n : ℕ) → o ≡ O.New n → ⊥)
-new_or_not O.Forged = inr (λ n e. let z : ◌≡◌ {A = ℕ} 0 1 = cc in omega arith)
-new_or_not O.TooOld = inr (λ n e. let z : ◌≡◌ {A = ℕ} 0 1 = cc in omega arith)
-new_or_not O.Repeated = inr (λ n e. let z : ◌≡◌ {A = ℕ} 0 1 = cc in omega arith)
-new_or_not (O.New n) = inl (n, refl)
+new_or_not : (o : Result ℕ Unopened) → ((n : ℕ) × (o ≡ Ok n)) ⊎ ((n : ℕ) → o ≡ Ok n → ⊥)
+new_or_not (Err O.Forged) = inr (λ n e. let z : ◌≡◌ {A = ℕ} 0 1 = cc in omega arith)
+new_or_not (Err O.TooOld) = inr (λ n e. let z : ◌≡◌ {A = ℕ} 0 1 = cc in omega arith)
+new_or_not (Err O.Repeated) = inr (λ n e. let z : ◌≡◌ {A = ℕ} 0 1 = cc in omega arith)
+new_or_not (Ok n) = inl (n, refl)
 
 module _ (w : ℕ) (held : Held w) where
   pub grows : (h : List ℕ) (p : Protection) (a : Arrival) → Grown w h p → Grown w h (opened_at p a).protection
   grows h p a g = told (new_or_not (opened_at p a).opened)
     where
-      told : ((n : ℕ) × ((opened_at p a).opened ≡ O.New n)) ⊎ ((n : ℕ) → (opened_at p a).opened ≡ O.New n → ⊥)
+      told : ((n : ℕ) × ((opened_at p a).opened ≡ Ok n)) ⊎ ((n : ℕ) → (opened_at p a).opened ≡ Ok n → ⊥)
           → Grown w h (opened_at p a).protection
       told (inl (n, e)) =
           let t = new_accepted w held g.numbers p g.means a.sense a.number a.byte a.fragment n e in
@@ -207,7 +207,7 @@ module _ (w : ℕ) (held : Held w) where
 
   -- Two records that are both new, whatever came between, have different numbers.
   pub opens_once : (h : List ℕ) (p : Protection) → p.window ≡ window_of w h → (a b : Arrival) (between : List Arrival) (n m : ℕ)
-      → (opened_at p a).opened ≡ O.New n → (opened_at (open_all (opened_at p a).protection between) b).opened ≡ O.New m
+      → (opened_at p a).opened ≡ Ok n → (opened_at (open_all (opened_at p a).protection between) b).opened ≡ Ok m
       → a.number ≡ b.number → ⊥
   opens_once h p is a b between n m first second same =
       let one = new_accepted w held h p is a.sense a.number a.byte a.fragment n first in
@@ -226,7 +226,7 @@ module _ (p q : Protection) (same : q.keys ≡ p.keys) (few : p.protected ≤ 65
     (body : List ℕ) where
   -- it is read back as a record of its own size ..
   pub written_read : read_of (next_record p sense content body)
-      ≡ Sound (read_back false true content p.protected (length body + size_of p.keys.mac))
+      ≡ Ok (read_back false true content p.protected (length body + size_of p.keys.mac))
   unfolding record_under
   written_read = read_protected (secret_for p.keys sense p.protected) p.keys.mac content p.protected body (omega arith)
 
@@ -256,17 +256,17 @@ module _ (p q : Protection) (same : q.keys ≡ p.keys) (few : p.protected ≤ 65
 pub data Writes : Protection → List ℕ → Type 0 where
   none : {p : Protection} → Writes p []
   more : {p q : Protection} {numbers : List ℕ} (sense : Sense) (content : Content) (body : List ℕ) (room n : ℕ)
-      → wrote_by p sense content body room ≡ writing (W.Done n) q → Writes q numbers → Writes p (p.protected ∷ numbers)
+      → wrote_by p sense content body room ≡ writing (Ok n) q → Writes q numbers → Writes p (p.protected ∷ numbers)
 
 -- a record that is written has the next number, which is not spent, and counts on
 pub wrote_means : (p q : Protection) (sense : Sense) (content : Content) (body : List ℕ) (room n : ℕ)
-    → wrote_by p sense content body room ≡ writing (W.Done n) q → (p.protected ≤ 65535) × (q ≡ counted_on p)
+    → wrote_by p sense content body room ≡ writing (Ok n) q → (p.protected ≤ 65535) × (q ≡ counted_on p)
 unfolding wrote_by
 wrote_means p q sense content body room n e =
     told (ltb 65535 p.protected) (ltb room (length (next_record p sense content body))) refl e
   where
     told : (a b : Bool) → ltb 65535 p.protected ≡ a
-        → pick a (writing W.Spent p) (pick b (writing W.NoRoom p) (writing (W.Done (length (next_record p sense content body))) (counted_on p))) ≡ writing (W.Done n) q
+        → pick a (writing (Err W.Spent) p) (pick b (writing (Err W.NoRoom) p) (writing (Ok (length (next_record p sense content body))) (counted_on p))) ≡ writing (Ok n) q
         → (p.protected ≤ 65535) × (q ≡ counted_on p)
     told true b t f = let z : ◌≡◌ {A = ℕ} 0 1 = cc (ap (λ (v : Writing). v.wrote) f) in absurd (omega arith)
     told false true t f = let z : ◌≡◌ {A = ℕ} 0 1 = cc (ap (λ (v : Writing). v.wrote) f) in absurd (omega arith)

@@ -20,27 +20,29 @@ use Rattle.record.specs.Protection.{genuine_under, content_size, opening, opened
 use Rattle.record.specs.declared.header.Content.{Content}
 use Rattle.record.specs.declared.keys.Keys.{Keys}
 use Rattle.record.specs.declared.keys.Sense.{Sense}
-use Rattle.record.specs.declared.window.Acceptance.{Acceptance}
 use Rattle.record.specs.declared.protection.Protection.{Protection}
-use Rattle.record.specs.declared.protection.Opened.TheVariants as O
-use Rattle.record.specs.declared.protection.Wrote.TheVariants as W
+use Rattle.record.specs.declared.protection.Unopened.TheVariants as O
+use Rattle.record.specs.declared.protection.Unwritten.TheVariants as W
 use Rattle.record.proofs.Fronts.{record_length}
 use Rattle.record.proofs.ProtectedBytes.{genuine_short, protected_key, protected_length}
+use Rattle.std.specs.Prelude.{Err, Ok, Result}
+use Rattle.record.specs.declared.window.NotNew.{NotNew}
+use Rattle.record.specs.declared.window.Window.{Window}
 
 -- ---- opening
 
 module _ (p : Protection) (sense : Sense) (s byte : ℕ) (f : List ℕ) (g : Bool)
     (e : g ≡ genuine_under p.keys sense s byte f) where
-  pub forged_as : g ≡ false → opening O.Forged p ≡ opened_by p sense s byte f
+  pub forged_as : g ≡ false → opening (Err O.Forged) p ≡ opened_by p sense s byte f
   unfolding opened_by
-  forged_as n = sym (ap (λ b. pick b (opened_to p (content_size p.keys f) (accept_of p.window s)) (opening O.Forged p)) (sym e ∙ n))
+  forged_as n = sym (ap (λ b. pick b (opened_to p (content_size p.keys f) (accept_of p.window s)) (opening (Err O.Forged) p)) (sym e ∙ n))
 
-  pub opened_as_lem : g ≡ true → (x : Acceptance) → x ≡ accept_of p.window s
+  pub opened_as_lem : g ≡ true → (x : Result (Window × ℕ) NotNew) → x ≡ accept_of p.window s
       → opened_to p (content_size p.keys f) x ≡ opened_by p sense s byte f
   unfolding opened_by
   opened_as_lem y x a =
       ap (opened_to p (content_size p.keys f)) a
-      ∙ sym (ap (λ b. pick b (opened_to p (content_size p.keys f) (accept_of p.window s)) (opening O.Forged p)) (sym e ∙ y))
+      ∙ sym (ap (λ b. pick b (opened_to p (content_size p.keys f) (accept_of p.window s)) (opening (Err O.Forged) p)) (sym e ∙ y))
 
   -- a genuine fragment has its whole code
   pub code_fits : g ≡ true → size_of p.keys.mac ≤ length f
@@ -80,7 +82,7 @@ counted bytes out n some e = told (leb (length bytes) (length out)) refl
 
 module _ (p : Protection) (sense : Sense) (content : Content) (body out : List ℕ) where
   pub spent_as : 65535 < p.protected
-      → (writing W.Spent p ≡ wrote_by p sense content body (length out)) × (out ≡ output_by p sense content body out)
+      → (writing (Err W.Spent) p ≡ wrote_by p sense content body (length out)) × (out ≡ output_by p sense content body out)
   unfolding wrote_by output_by
   spent_as l = (rw (lt-ltb 65535 p.protected l), rw (lt-ltb 65535 p.protected l))
 
@@ -103,16 +105,16 @@ module _ (p : Protection) (sense : Sense) (content : Content) (body out : List �
     written_is = bytes ∙ ap (written_of out) same ∙ rw (le-ltb 65535 p.protected few)
 
     pub no_room_as : n ≡ 0
-        → (writing W.NoRoom p ≡ wrote_by p sense content body (length out)) × (then ≡ output_by p sense content body out)
+        → (writing (Err W.NoRoom) p ≡ wrote_by p sense content body (length out)) × (then ≡ output_by p sense content body out)
     unfolding wrote_by
     no_room_as z =
         (rw (le-ltb 65535 p.protected few, lt-ltb (length out) (length (next_record p sense content body)) (room_is.0 z)), written_is)
 
     pub wrote_as : (n ≡ 0 → ⊥)
-        → (writing (W.Done n) (counted_on p) ≡ wrote_by p sense content body (length out)) × (then ≡ output_by p sense content body out)
+        → (writing (Ok n) (counted_on p) ≡ wrote_by p sense content body (length out)) × (then ≡ output_by p sense content body out)
     unfolding wrote_by
     wrote_as d = (
-      ap (λ m. writing (W.Done m) (counted_on p)) (room_is.1 d).1
+      ap (λ m. writing (Ok m) (counted_on p)) (room_is.1 d).1
           ∙ rw (le-ltb 65535 p.protected few, le-ltb (length out) (length (next_record p sense content body)) (room_is.1 d).0),
       written_is,
     )
@@ -120,7 +122,7 @@ module _ (p : Protection) (sense : Sense) (content : Content) (body out : List �
 -- where there is a number to spend, and room
 module _ (p : Protection) (sense : Sense) (content : Content) (body out : List ℕ) (few : p.protected ≤ 65535)
     (fits : length (next_record p sense content body) ≤ length out) where
-  pub wrote_when : wrote_by p sense content body (length out) ≡ writing (W.Done (length (next_record p sense content body))) (counted_on p)
+  pub wrote_when : wrote_by p sense content body (length out) ≡ writing (Ok (length (next_record p sense content body))) (counted_on p)
   unfolding wrote_by
   wrote_when = rw (le-ltb 65535 p.protected few, le-ltb (length out) (length (next_record p sense content body)) fits)
 

@@ -22,7 +22,7 @@ use Rattle.record.specs.declared.header.Kind.{Kind}
 use Rattle.record.specs.declared.header.Content.{Content}
 use Rattle.record.specs.declared.header.Content.TheVariants.{ChangeCipherSpec, Alert, Handshake, Data}
 use Rattle.record.specs.declared.reader.Record.{Record}
-use Rattle.record.specs.declared.reader.Reading.TheVariants.{Sound}
+use Rattle.std.specs.Prelude.{Ok}
 
 -- the parts of our type byte
 abbrev pub ours : Bool → Bool → Content → Kind
@@ -72,13 +72,13 @@ abbrev pub read_back : Bool → Bool → Content → ℕ → ℕ → Record
 read_back long protected content number size =
     record { byte = byte_for long protected content; content = content; protected = protected; number = number; start = 0; head = header_size long; size = size; used = header_size long + size }
 
-framed_back : (long protected : Bool) (content : Content) (number size left : ℕ) → 0 < size → size ≤ left → framed_of (byte_for long protected content) (ours long protected content) number (header_size long) size left ≡ Sound (read_back long protected content number size)
+framed_back : (long protected : Bool) (content : Content) (number size left : ℕ) → 0 < size → size ≤ left → framed_of (byte_for long protected content) (ours long protected content) number (header_size long) size left ≡ Ok (read_back long protected content number size)
 unfolding framed_of
 framed_back long protected content number size left h l =
     rw (ne_eqb size 0 (λ e. omega arith), le-ltb left size l, content_back content)
 
 -- the tests of the reader, passed
-read_by : (long protected : Bool) (content : Content) (number size : ℕ) (s : List ℕ) → get_or s 0 0 ≡ byte_for long protected content → pair_at s 1 ≡ number → size_of s (ours long protected content) ≡ size → header_size long + size ≤ length s → 0 < size → read_of s ≡ Sound (read_back long protected content number size)
+read_by : (long protected : Bool) (content : Content) (number size : ℕ) (s : List ℕ) → get_or s 0 0 ≡ byte_for long protected content → pair_at s 1 ≡ number → size_of s (ours long protected content) ≡ size → header_size long + size ≤ length s → 0 < size → read_of s ≡ Ok (read_back long protected content number size)
 unfolding read_of read_as
 read_by long protected content number size s b n z l h =
     let b0 : ℕ = byte_for long protected content in
@@ -90,14 +90,14 @@ read_by long protected content number size s b n z l h =
     (framed_back long protected content number size (length s - header_size long) h (omega arith))
 
 -- with a length, whatever stands behind the record
-pub read_long : (protected : Bool) (content : Content) (number : ℕ) (fragment tail : List ℕ) → number < 65536 → 0 < length fragment → length fragment < 65536 → read_of (record_of true protected content number fragment ++ tail) ≡ Sound (read_back true protected content number (length fragment))
+pub read_long : (protected : Bool) (content : Content) (number : ℕ) (fragment tail : List ℕ) → number < 65536 → 0 < length fragment → length fragment < 65536 → read_of (record_of true protected content number fragment ++ tail) ≡ Ok (read_back true protected content number (length fragment))
 unfolding record_of header_of
 read_long protected content number fragment tail hn h k =
     read_by true protected content number (length fragment) (record_of true protected content number fragment ++ tail) refl
     (pair_back number hn) (pair_back (length fragment) k) (omega (arith, length-append fragment tail)) h
 
 -- without a length, as the last record of its datagram
-pub read_short : (protected : Bool) (content : Content) (number : ℕ) (fragment : List ℕ) → number < 65536 → 0 < length fragment → read_of (record_of false protected content number fragment) ≡ Sound (read_back false protected content number (length fragment))
+pub read_short : (protected : Bool) (content : Content) (number : ℕ) (fragment : List ℕ) → number < 65536 → 0 < length fragment → read_of (record_of false protected content number fragment) ≡ Ok (read_back false protected content number (length fragment))
 unfolding record_of header_of
 read_short protected content number fragment hn h =
     read_by false protected content number (length fragment) (record_of false protected content number fragment) refl
@@ -110,10 +110,10 @@ fragment_back true protected content number fragment tail = take-append_seam fra
 fragment_back false protected content number fragment tail = take-append_seam fragment tail
 
 -- a protected record of ours, without a length, is read back; its fragment is the content and the code
-pub read_protected : (k : List ℕ) (mac : Mac) (content : Content) (number : ℕ) (body : List ℕ) → number < 65536 → read_of (protected_by (hmac k) (code_size mac) false content number body) ≡ Sound (read_back false true content number (length body + code_size mac))
+pub read_protected : (k : List ℕ) (mac : Mac) (content : Content) (number : ℕ) (body : List ℕ) → number < 65536 → read_of (protected_by (hmac k) (code_size mac) false content number body) ≡ Ok (read_back false true content number (length body + code_size mac))
 unfolding protected_by
 read_protected k mac content number body h =
     let byte : ℕ = byte_for false true content in
     let size = protected_length k mac number byte body in
     read_short true content number (fragment_by (hmac k) (code_size mac) number byte body) h (omega (arith, size, size_some mac))
-    ∙ ap (λ (n : ℕ). Sound (read_back false true content number n)) size
+    ∙ ap (λ (n : ℕ). Ok (read_back false true content number n)) size

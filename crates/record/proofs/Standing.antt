@@ -15,8 +15,7 @@ use Rattle.record.specs.declared.header.Kind.{Kind}
 use Rattle.record.specs.declared.reader.Record.{Record}
 use Rattle.record.specs.declared.reader.Fault.{Fault}
 use Rattle.record.specs.declared.reader.Fault.TheVariants as F
-use Rattle.record.specs.declared.reader.Reading.{Reading}
-use Rattle.record.specs.declared.reader.Reading.TheVariants.{Sound, Refused}
+use Rattle.std.specs.Prelude.{Err, Ok, Result}
 
 -- r is the record at the front of s
 pub record Stands (s : List ℕ) (r : Record) : Type 0 where
@@ -32,15 +31,15 @@ pub record Stands (s : List ℕ) (r : Record) : Type 0 where
   pub inside : r.used ≤ length s
   pub some : 0 < r.size
 
-passed_no : (b : Bool) (f : Fault) (y : Reading) (r : Record) → pick b (Refused f) y ≡ Sound r → (b ≡ false) × (y ≡ Sound r)
+passed_no : (b : Bool) (f : Fault) (y : Result Record Fault) (r : Record) → pick b (Err f) y ≡ Ok r → (b ≡ false) × (y ≡ Ok r)
 passed_no true f y r e = let z : ◌≡◌ {A = ℕ} 0 1 = cc in absurd (omega arith)
 passed_no false f y r e = (refl, e)
 
-passed_yes : (b : Bool) (f : Fault) (y : Reading) (r : Record) → pick b y (Refused f) ≡ Sound r → (b ≡ true) × (y ≡ Sound r)
+passed_yes : (b : Bool) (f : Fault) (y : Result Record Fault) (r : Record) → pick b y (Err f) ≡ Ok r → (b ≡ true) × (y ≡ Ok r)
 passed_yes true f y r e = (refl, e)
 passed_yes false f y r e = let z : ◌≡◌ {A = ℕ} 0 1 = cc in absurd (omega arith)
 
-inner : (a b : Record) → Sound a ≡ Sound b → a ≡ b
+inner : (a b : Record) → Ok a ≡ Ok b → a ≡ b
 inner a b e = cc
 
 -- the record that `framed_of` makes
@@ -48,23 +47,23 @@ abbrev made : ℕ → Kind → ℕ → ℕ → ℕ → Record
 made byte kind number head size =
     record { byte = byte; content = content_of kind.content; protected = kind.protected; number = number; start = 0; head = head; size = size; used = head + size }
 
-framed_sound : (byte : ℕ) (kind : Kind) (number head size left : ℕ) (r : Record) → framed_of byte kind number head size left ≡ Sound r → (0 < size) × (size ≤ left) × (made byte kind number head size ≡ r)
+framed_sound : (byte : ℕ) (kind : Kind) (number head size left : ℕ) (r : Record) → framed_of byte kind number head size left ≡ Ok r → (0 < size) × (size ≤ left) × (made byte kind number head size ≡ r)
 unfolding framed_of
 framed_sound byte kind number head size left r e =
-    let full : Reading = Sound (made byte kind number head size) in
-    let one = passed_no (eqb size 0) F.Fragment (pick (ltb left size) (Refused F.Fragment) full) r e in
+    let full : Result Record Fault = Ok (made byte kind number head size) in
+    let one = passed_no (eqb size 0) F.Fragment (pick (ltb left size) (Err F.Fragment) full) r e in
     let two = passed_no (ltb left size) F.Fragment full r one.1 in
     (omega (arith, eqb-false size 0 one.0), ltb-false left size two.0, inner (made byte kind number head size) r two.1)
 
-read_sound : (s : List ℕ) (byte : ℕ) (kind : Kind) (r : Record) → read_as s byte kind ≡ Sound r → (sound_kind kind ≡ true) × (head_of kind ≤ length s) × (framed_of byte kind (pair_at s 1) (head_of kind) (size_of s kind) (length s - head_of kind) ≡ Sound r)
+read_sound : (s : List ℕ) (byte : ℕ) (kind : Kind) (r : Record) → read_as s byte kind ≡ Ok r → (sound_kind kind ≡ true) × (head_of kind ≤ length s) × (framed_of byte kind (pair_at s 1) (head_of kind) (size_of s kind) (length s - head_of kind) ≡ Ok r)
 unfolding read_as
 read_sound s byte kind r e =
-    let rest : Reading = framed_of byte kind (pair_at s 1) (head_of kind) (size_of s kind) (length s - head_of kind) in
-    let one = passed_yes (sound_kind kind) F.Kind (pick (ltb (length s) (head_of kind)) (Refused F.Header) rest) r e in
+    let rest : Result Record Fault = framed_of byte kind (pair_at s 1) (head_of kind) (size_of s kind) (length s - head_of kind) in
+    let one = passed_yes (sound_kind kind) F.Kind (pick (ltb (length s) (head_of kind)) (Err F.Header) rest) r e in
     let two = passed_no (ltb (length s) (head_of kind)) F.Header rest r one.1 in
     (one.0, ltb-false (length s) (head_of kind) two.0, two.1)
 
-pub stands : (s : List ℕ) (r : Record) → read_of s ≡ Sound r → Stands s r
+pub stands : (s : List ℕ) (r : Record) → read_of s ≡ Ok r → Stands s r
 unfolding read_of
 stands s r e =
     let byte : ℕ = get_or s 0 0 in
@@ -76,5 +75,5 @@ stands s r e =
     rw (sym same) (record { kind = two.0; byte = refl; content = refl; protected = refl; number = refl; start = refl; head = refl; size = refl; used = refl; inside = omega (arith, two.1, three.1); some = three.0 })
 
 -- a record takes at least one byte, and none past the end
-pub takes : (s : List ℕ) (r : Record) → read_of s ≡ Sound r → (0 < r.used) × (r.used ≤ length s)
+pub takes : (s : List ℕ) (r : Record) → read_of s ≡ Ok r → (0 < r.used) × (r.used ≤ length s)
 takes s r e = let h : Stands s r = stands s r e in (omega (arith, h.some, h.used), h.inside)

@@ -13,10 +13,10 @@ use borrow.Author.Tests.{eq-eqb, eqb-true, leb-false, ltb-true, ltb-false}
 use Rattle.record.specs.Window.{Held, held_width, accept_by, accept_within, accept_of, arrived_at}
 use Rattle.record.specs.Bench.{Swapped, EitherOrder, OneOrder}
 use Rattle.record.specs.declared.window.Window.{Window}
-use Rattle.record.specs.declared.window.Acceptance.TheVariants.{New}
 use Rattle.record.proofs.Histories.{decide, held_is, held_some}
 use Rattle.record.proofs.Marks.{lowest_set, mark_added}
 use Rattle.record.proofs.Answers.{fresh_when, newer_when, old_when, repeated_when, older_when}
+use Rattle.std.specs.Prelude.{Ok}
 
 eqb-false : (a b : ℕ) → eqb a b ≡ false → a ≡ b → ⊥
 eqb-false a b e f = let z : ◌≡◌ {A = ℕ} 0 1 = cc (sym (eq-eqb a b f) ∙ e) in absurd (omega arith)
@@ -58,7 +58,7 @@ record Left (w n m s : ℕ) (v : Window) : Type 0 where
   pub window : v ≡ window_at w (max n s) (marks_at (max n s) n m s)
   pub some : 0 < v.marks
 
-left_by : (w n m s h x k : ℕ) (v : Window) → x ≡ marks_at h n m s % 2 ^ w → h ≡ max n s → 0 < x → accept_by w n m s ≡ arrived_at w h x → accept_by w n m s ≡ New v k → Left w n m s v
+left_by : (w n m s h x k : ℕ) (v : Window) → x ≡ marks_at h n m s % 2 ^ w → h ≡ max n s → 0 < x → accept_by w n m s ≡ arrived_at w h x → accept_by w n m s ≡ Ok (v, k) → Left w n m s v
 left_by w n m s h x k v marks top some e f =
     let is : v ≡ record { width = w; highest = h; marks = x } = cc (sym f ∙ e) in
     record {
@@ -66,7 +66,7 @@ left_by w n m s h x k v marks top some e f =
       some = rw (ap (λ (y : Window). y.marks) is) some;
     }
 
-left : (w n m s k : ℕ) (v : Window) → 0 < w → (m ≡ 0 → ⊥) → m < 2 ^ w → accept_by w n m s ≡ New v k → Left w n m s v
+left : (w n m s k : ℕ) (v : Window) → 0 < w → (m ≡ 0 → ⊥) → m < 2 ^ w → accept_by w n m s ≡ Ok (v, k) → Left w n m s v
 left w n m s k v p z b f =
     decide (ltb n s)
     (λ e.
@@ -125,7 +125,7 @@ again w h m s k =
     ap (λ (x : ℕ). accept_within x (window_at w h m) s) (held_is w k) ∙ ap (λ (x : ℕ). accept_by w h x s) (mod-mod m (2 ^ w))
 
 -- the second number, at the window that a first one leaves
-second : (w h m s k : ℕ) (v x : Window) → Held w → v ≡ window_at w h m → 0 < v.marks → accept_of v s ≡ New x k → x ≡ window_at w (max h s) (marks_at (max h s) h (m % 2 ^ w) s)
+second : (w h m s k : ℕ) (v x : Window) → Held w → v ≡ window_at w h m → 0 < v.marks → accept_of v s ≡ Ok (x, k) → x ≡ window_at w (max h s) (marks_at (max h s) h (m % 2 ^ w) s)
 second w h m s k v x held e some f =
     let marks : v.marks ≡ m % 2 ^ w = ap (λ (y : Window). y.marks) e in
     (left w h (m % 2 ^ w) s k x (held_some w held) (λ z. omega arith) (mod-lt m (pow_pos w))
@@ -136,7 +136,7 @@ abbrev both_at : (w n m a b : ℕ) → Window
 both_at w n m a b =
     window_at w (max (max n a) b) (m * 2 ^ (max (max n a) b - n) + 2 ^ (max (max n a) b - a) + 2 ^ (max (max n a) b - b))
 
-both : (w n m a b i j : ℕ) (v x : Window) → Held w → (m ≡ 0 → ⊥) → m < 2 ^ w → accept_by w n m a ≡ New v i → accept_of v b ≡ New x j → x ≡ both_at w n m a b
+both : (w n m a b i j : ℕ) (v x : Window) → Held w → (m ≡ 0 → ⊥) → m < 2 ^ w → accept_by w n m a ≡ Ok (v, i) → accept_of v b ≡ Ok (x, j) → x ≡ both_at w n m a b
 both w n m a b i j v x held z small e f =
     let h : ℕ = max n a in
     let g : ℕ = max h b in
@@ -146,7 +146,7 @@ both w n m a b i j v x held z small e f =
     (both_marks w n m a b h g (omega arith) (omega arith) (omega arith))
 
 -- where no mark counts, the first number is as if it had been there
-both_fresh : (w n m a b i j : ℕ) (v x : Window) → Held w → m ≡ 0 → accept_by w n m a ≡ New v i → accept_of v b ≡ New x j → x ≡ window_at w (max a b) (1 * 2 ^ (max a b - a) + 2 ^ (max a b - b))
+both_fresh : (w n m a b i j : ℕ) (v x : Window) → Held w → m ≡ 0 → accept_by w n m a ≡ Ok (v, i) → accept_of v b ≡ Ok (x, j) → x ≡ window_at w (max a b) (1 * 2 ^ (max a b - a) + 2 ^ (max a b - b))
 both_fresh w n m a b i j v x held z e f =
     let is : v ≡ record { width = w; highest = a; marks = 1 } = cc (sym e ∙ fresh_when w n m a z) in
     let one : 1 % 2 ^ w ≡ 1 = mod-eq_of_lt (one_lt w (held_some w held)) in

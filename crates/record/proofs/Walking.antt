@@ -14,10 +14,8 @@ use Rattle.record.specs.Datagram.{Framing, framed, faulty, after, placed_at, ahe
 use Rattle.record.specs.declared.reader.Record.{Record}
 use Rattle.record.specs.declared.reader.Fault.{Fault}
 use Rattle.record.specs.declared.reader.Fault.TheVariants as F
-use Rattle.record.specs.declared.reader.Reading.{Reading}
-use Rattle.record.specs.declared.reader.Reading.TheVariants.{Sound, Refused}
-use Rattle.record.specs.declared.datagram.Outcome.TheVariants as O
 use Rattle.record.proofs.Standing.{Stands, stands}
+use Rattle.std.specs.Prelude.{Err, Ok, Result}
 
 -- where the loop stands: `n` records of `d` in `rs`, and the next begins at `at`
 pub record Walked (d : List ℕ) (rs : List Record) (n at : ℕ) : Type 0 where
@@ -71,10 +69,10 @@ module _ (d : List ℕ) (rs : List Record) (n at : ℕ) (w : Walked d rs n at) w
       w.so_far ∙ ap (λ (m : ℕ). after (take n rs) (framing_from m at (drop at d))) (room_left k)
       ∙ ap (after (take n rs)) (next_read (7 - n) at (drop at d) (left_over h))
 
-  pub fault : at < length d → (n ≡ 8 → ⊥) → (f : Fault) → read_of (drop at d) ≡ Refused f → framing_from 8 0 d ≡ faulty f at
+  pub fault : at < length d → (n ≡ 8 → ⊥) → (f : Fault) → read_of (drop at d) ≡ Err f → framing_from 8 0 d ≡ faulty f at
   fault h k f e = stepped h k ∙ rw e
 
-  pub go_on : at < length d → (n ≡ 8 → ⊥) → (r : Record) → read_of (drop at d) ≡ Sound r → Walked d (set rs n (placed_at r at)) (n + 1) (at + r.used)
+  pub go_on : at < length d → (n ≡ 8 → ⊥) → (r : Record) → read_of (drop at d) ≡ Ok r → Walked d (set rs n (placed_at r at)) (n + 1) (at + r.used)
   go_on h k r e =
       let s : Stands (drop at d) r = stands (drop at d) r e in
       let v : Record = placed_at r at in
@@ -91,7 +89,7 @@ module _ (d : List ℕ) (rs : List Record) (n at : ℕ) (w : Walked d rs n at) w
             ∙ ap (λ (m : ℕ). replicate m blank) less;
         so_far =
             stepped h k
-            ∙ ap (λ (x : Reading). after (take n rs) (ahead at x (λ q. framing_from (7 - n) (at + q.used) (drop q.used (drop at d))))) e
+            ∙ ap (λ (x : Result Record Fault). after (take n rs) (ahead at x (λ q. framing_from (7 - n) (at + q.used) (drop q.used (drop at d))))) e
             ∙ after_after (take n rs) (v ∷ []) (framing_from (7 - n) (at + r.used) (drop r.used (drop at d)))
             ∙ cc (more, less, drop-drop r.used at d);
       }
@@ -101,12 +99,12 @@ module _ (d : List ℕ) (rs : List Record) (n at : ℕ) (w : Walked d rs n at) w
       w.so_far ∙ ap (after (take n rs)) (none_left (8 - n) at (drop at d) (omega (arith, length-drop at d, w.inside)))
       ∙ ap framed (append-nil (take n rs))
 
-  pub found : found_all (take n rs) ≡ record { outcome = O.Sound; count = n; records = rs }
+  pub found : found_all (take n rs) ≡ record { count = n; records = rs }
   unfolding found_all
   found =
       let l : length (take n rs) ≡ n = length-take-le n rs (omega (arith, w.few, w.eight)) in
       let all : take n rs ++ replicate (8 - n) blank ≡ rs = rw (sym w.rest) (take-append-drop n rs) in
-      rw l (ap (λ (x : List Record). record { outcome = O.Sound; count = n; records = x }) all)
+      rw l (ap (λ (x : List Record). record { count = n; records = x }) all)
 
 -- ---- the whole datagram
 

@@ -1,10 +1,10 @@
 -- The laws of the test bench (02, P12): "The bench joins and reorders traffic."
-use Rattle.std.specs.Prelude.{◌≡◌, List, [], ◌∷◌, ◌++◌, ℕ, ◌+◌, ◌%◌, ◌^◌, length}
+use Rattle.std.specs.Prelude.{◌≡◌, List, [], ◌∷◌, ◌++◌, ℕ, ◌+◌, ◌%◌, ◌^◌, length, Err, Ok}
 use Rattle.record.specs.Checksum.{checksum_of, xor_with}
 use Rattle.record.specs.Mask.{mask_of}
 use Rattle.record.specs.Window.{window_width, fresh_window, arrived_at, accept_of}
 use Rattle.record.specs.declared.window.Window.{Window}
-use Rattle.record.specs.declared.window.Acceptance.TheVariants.{New, TooOld}
+use Rattle.record.specs.declared.window.NotNew.TheVariants.{TooOld}
 
 -- "The checksum of two stretches joined is the XOR of their checksums, provided that the first has a length divisible by four."
 abbrev pub Joined : Type 0
@@ -28,10 +28,10 @@ MaskedOdd = (mask_of (0x01 ∷ 0x02 ∷ 0x03 ∷ []) 0x1234 ≡ 0x13 ∷ 0x36 �
 abbrev pub Swapped : Type 0
 Swapped =
     (w : Window) (a b : ℕ) (wa ab wb ba : Window) (i j k l : ℕ)
-    → accept_of w a ≡ New wa i
-    → accept_of wa b ≡ New ab j
-    → accept_of w b ≡ New wb k
-    → accept_of wb a ≡ New ba l
+    → accept_of w a ≡ Ok (wa, i)
+    → accept_of wa b ≡ Ok (ab, j)
+    → accept_of w b ≡ Ok (wb, k)
+    → accept_of wb a ≡ Ok (ba, l)
     → ab ≡ ba
 
 -- such numbers there are, and the marks are cut for both: of width 40, with 0 accepted, 30 and 60
@@ -48,7 +48,7 @@ OneOrder =
     (accept_of (fresh_window window_width) 0 ≡ arrived_at window_width 0 1)
     × (accept_of record { width = window_width; highest = 0; marks = 1 } 32 ≡ arrived_at window_width 32 1)
     × (accept_of (fresh_window window_width) 32 ≡ arrived_at window_width 32 1)
-    × (accept_of record { width = window_width; highest = 32; marks = 1 } 0 ≡ TooOld)
+    × (accept_of record { width = window_width; highest = 32; marks = 1 } 0 ≡ Err TooOld)
 
 pub record BenchLaws : Type 0 where
   pub joined : Joined

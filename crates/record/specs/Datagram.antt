@@ -1,14 +1,12 @@
 -- The walk over a whole datagram (01, "The record on the wire" and "Refusal numbers").
-use Rattle.std.specs.Prelude.{◌≡◌, false, List, [], ◌∷◌, ◌++◌, ℕ, zero, suc, ◌+◌, ◌-◌, length, drop, replicate, eqb, ltb}
+use Rattle.std.specs.Prelude.{◌≡◌, false, List, [], ◌∷◌, ◌++◌, ℕ, zero, suc, ◌+◌, ◌-◌, length, drop, replicate, eqb, ltb, Err, Ok, Result}
 use Rattle.digest.specs.Pick.{pick}
 use Rattle.record.specs.Reader.{read_of}
 use Rattle.record.specs.declared.header.Content.TheVariants.{ChangeCipherSpec}
 use Rattle.record.specs.declared.reader.Record.{Record}
 use Rattle.record.specs.declared.reader.Fault.{Fault}
 use Rattle.record.specs.declared.reader.Fault.TheVariants as F
-use Rattle.record.specs.declared.reader.Reading.{Reading}
-use Rattle.record.specs.declared.reader.Reading.TheVariants as R
-use Rattle.record.specs.declared.datagram.Outcome.TheVariants as O
+use Rattle.record.specs.declared.datagram.Misframed.{Misframed}
 use Rattle.record.specs.declared.datagram.Walk.{Walk}
 
 -- the framing of a datagram: its records, or the fault and the offset of the record at fault
@@ -27,9 +25,9 @@ after rs (framed more) = framed (rs ++ more)
 after rs (faulty fault at) = faulty fault at
 
 -- the record at the front and then the rest, or the fault of the record that begins at `at`
-abbrev pub ahead : ℕ → Reading → (Record → Framing) → Framing
-ahead at (R.Refused fault) rest = faulty fault at
-ahead at (R.Sound r) rest = after (placed_at r at ∷ []) (rest r)
+abbrev pub ahead : ℕ → Result Record Fault → (Record → Framing) → Framing
+ahead at (Err fault) rest = faulty fault at
+ahead at (Ok r) rest = after (placed_at r at ∷ []) (rest r)
 
 -- The records of s, which begins at `at` and may have `room` records. Where no byte is left there is no record; where one
 -- is left and there is no room, "a ninth record begins" (5); else the record at the front is read (3, 2, 4), and "each
@@ -49,20 +47,20 @@ abbrev pub blank : Record
 blank =
     record { byte = 0; content = ChangeCipherSpec; protected = false; number = 0; start = 0; head = 0; size = 0; used = 0 }
 
--- a datagram that is refused as a whole has no records
-unfoldable pub refused_at : Fault → ℕ → Walk
-refused_at fault at = record { outcome = O.Refused fault at; count = 0; records = replicate 8 blank }
+-- a datagram that is refused as a whole
+abbrev pub misframed_at : Fault → ℕ → Result Walk Misframed
+misframed_at fault at = Err (record { fault = fault; at = at })
 
 -- the records, and blank places after them, eight in all
 unfoldable pub found_all : List Record → Walk
-found_all rs = record { outcome = O.Sound; count = length rs; records = rs ++ replicate (8 - length rs) blank }
+found_all rs = record { count = length rs; records = rs ++ replicate (8 - length rs) blank }
 
 -- a framing as the answer of the walk
-abbrev pub answered : Framing → Walk
-answered (framed rs) = found_all rs
-answered (faulty fault at) = refused_at fault at
+abbrev pub answered : Framing → Result Walk Misframed
+answered (framed rs) = Ok (found_all rs)
+answered (faulty fault at) = misframed_at fault at
 
-abbrev pub walk_of : List ℕ → Walk
+abbrev pub walk_of : List ℕ → Result Walk Misframed
 walk_of d = answered (framing_of d)
 
 -- The records lie one behind the other from `at` on, each read from the part of d where it begins, and end where d ends:
@@ -70,4 +68,4 @@ walk_of d = answered (framing_of d)
 unfoldable pub CoversFrom : List ℕ → ℕ → List Record → Type 0
 CoversFrom d at [] = at ≡ length d
 CoversFrom d at (r ∷ rs) =
-    (r.start ≡ at) × ((read_of (drop at d) ≡ R.Sound (placed_at r 0)) × CoversFrom d (at + r.used) rs)
+    (r.start ≡ at) × ((read_of (drop at d) ≡ Ok (placed_at r 0)) × CoversFrom d (at + r.used) rs)

@@ -1,10 +1,10 @@
 -- What a window means: the numbers accepted since it was fresh, the latest first (002 9.2.3.1; 01, "Numbers, window, keys").
-use Rattle.std.specs.Prelude.{Bool, true, false, List, [], ◌∷◌, ℕ, zero, suc, ◌+◌, ◌-◌, ◌*◌, max, eqb, leb}
+use Rattle.std.specs.Prelude.{Bool, true, false, List, [], ◌∷◌, ℕ, zero, suc, ◌+◌, ◌-◌, ◌*◌, max, eqb, leb, Err, Ok, Result}
+use Rattle.record.specs.declared.window.NotNew.{NotNew}
 use Rattle.digest.specs.Pick.{pick}
 use Rattle.record.specs.Window.{too_old}
 use Rattle.record.specs.declared.window.Window.{Window}
-use Rattle.record.specs.declared.window.Acceptance.{Acceptance}
-use Rattle.record.specs.declared.window.Acceptance.TheVariants.{New, TooOld, Repeated}
+use Rattle.record.specs.declared.window.NotNew.TheVariants.{TooOld, Repeated}
 
 -- whether s was accepted
 unfoldable pub accepted : List ℕ → ℕ → Bool
@@ -39,7 +39,7 @@ abbrev pub arrived_of : ℕ → List ℕ → ℕ
 arrived_of width h = count_from h (highest_of h) width 0
 
 -- "a number at most n - W is too old. A number accepted before is repeated." Any other is new, and is accepted from then on.
-unfoldable pub judged_of : ℕ → List ℕ → ℕ → Acceptance
+unfoldable pub judged_of : ℕ → List ℕ → ℕ → Result (Window × ℕ) NotNew
 judged_of width h s =
-    pick (too_old width (highest_of h) s) TooOld
-    (pick (accepted h s) Repeated (New (window_of width (s ∷ h)) (arrived_of width (s ∷ h))))
+    pick (too_old width (highest_of h) s) (Err TooOld)
+    (pick (accepted h s) (Err Repeated) (Ok (window_of width (s ∷ h), arrived_of width (s ∷ h))))

@@ -1,6 +1,9 @@
 -- Opening and writing protected records (01, "The record on the wire" and "Numbers, window, keys"; 002 9.2.3.1, 9.2.3.2, 11.2), over
 -- the sense of travel.
-use Rattle.std.specs.Prelude.{Bool, false, List, ℕ, ◌+◌, ◌-◌, length, take, ltb}
+use Rattle.std.specs.Prelude.{Bool, false, List, ℕ, ◌+◌, ◌-◌, length, take, ltb, Err, Ok, Result}
+use Rattle.record.specs.declared.protection.Unopened.{Unopened}
+use Rattle.record.specs.declared.protection.Unwritten.{Unwritten}
+use Rattle.record.specs.declared.window.NotNew.{NotNew}
 use Rattle.digest.specs.Pick.{pick}
 use Rattle.digest.specs.Hmac.{hmac}
 use Rattle.digest.specs.Mac.{size_of}
@@ -12,15 +15,12 @@ use Rattle.record.specs.declared.header.Content.{Content}
 use Rattle.record.specs.declared.keys.Keys.{Keys}
 use Rattle.record.specs.declared.keys.Sense.{Sense}
 use Rattle.record.specs.declared.window.Window.{Window}
-use Rattle.record.specs.declared.window.Acceptance.{Acceptance}
-use Rattle.record.specs.declared.window.Acceptance.TheVariants as A
+use Rattle.record.specs.declared.window.NotNew.TheVariants as A
 use Rattle.record.specs.declared.protection.Protection.{Protection}
-use Rattle.record.specs.declared.protection.Opened.{Opened}
-use Rattle.record.specs.declared.protection.Opened.TheVariants as O
+use Rattle.record.specs.declared.protection.Unopened.TheVariants as O
 use Rattle.record.specs.declared.protection.Opening.{Opening}
 use Rattle.record.specs.declared.protection.Writing.{Writing}
-use Rattle.record.specs.declared.protection.Wrote.{Wrote}
-use Rattle.record.specs.declared.protection.Wrote.TheVariants as W
+use Rattle.record.specs.declared.protection.Unwritten.TheVariants as W
 
 -- one change each
 abbrev pub with_window : Protection → Window → Protection
@@ -41,21 +41,21 @@ content_size k fragment = length fragment - size_of k.mac
 abbrev pub content_under : Keys → List ℕ → List ℕ
 content_under k fragment = take (content_size k fragment) fragment
 
-abbrev pub opening : Opened → Protection → Opening
+abbrev pub opening : Result ℕ Unopened → Protection → Opening
 opening opened p = record { opened = opened; protection = p }
 
 -- "A genuine new record marks its number even if its content is then refused."
-abbrev pub opened_to : Protection → ℕ → Acceptance → Opening
-opened_to p size A.TooOld = opening O.TooOld p
-opened_to p size A.Repeated = opening O.Repeated p
-opened_to p size (A.New window arrived) = opening (O.New size) (with_window p window)
+abbrev pub opened_to : Protection → ℕ → Result (Window × ℕ) NotNew → Opening
+opened_to p size (Err A.TooOld) = opening (Err O.TooOld) p
+opened_to p size (Err A.Repeated) = opening (Err O.Repeated) p
+opened_to p size (Ok (window, arrived)) = opening (Ok size) (with_window p window)
 
 -- "checked in this order: code, too old, repeated"
 unfoldable pub opened_by : Protection → Sense → ℕ → ℕ → List ℕ → Opening
 opened_by p sense number byte fragment =
     pick (genuine_under p.keys sense number byte fragment)
     (opened_to p (content_size p.keys fragment) (accept_of p.window number))
-    (opening O.Forged p)
+    (opening (Err O.Forged) p)
 
 -- the record with this number, under the key of that number, without a length
 unfoldable pub record_under : Keys → Sense → Content → ℕ → List ℕ → List ℕ
@@ -66,20 +66,20 @@ record_under k sense content number body =
 abbrev pub next_record : Protection → Sense → Content → List ℕ → List ℕ
 next_record p sense content body = record_under p.keys sense content p.protected body
 
-abbrev pub wrote_size : Wrote → ℕ
-wrote_size W.Spent = 0
-wrote_size W.NoRoom = 0
-wrote_size (W.Done size) = size
+abbrev pub wrote_size : Result ℕ Unwritten → ℕ
+wrote_size (Err W.Spent) = 0
+wrote_size (Err W.NoRoom) = 0
+wrote_size (Ok size) = size
 
-abbrev pub writing : Wrote → Protection → Writing
+abbrev pub writing : Result ℕ Unwritten → Protection → Writing
 writing wrote p = record { wrote = wrote; protection = p }
 
 -- 15, "sending never passes 65,535"; then 6, the room under the record's size; else it counts on
 unfoldable pub wrote_by : Protection → Sense → Content → List ℕ → ℕ → Writing
 wrote_by p sense content body room =
     let size : ℕ = length (next_record p sense content body) in
-    pick (ltb 65535 p.protected) (writing W.Spent p)
-    (pick (ltb room size) (writing W.NoRoom p) (writing (W.Done size) (counted_on p)))
+    pick (ltb 65535 p.protected) (writing (Err W.Spent) p)
+    (pick (ltb room size) (writing (Err W.NoRoom) p) (writing (Ok size) (counted_on p)))
 
 unfoldable pub output_by : Protection → Sense → Content → List ℕ → List ℕ → List ℕ
 output_by p sense content body out =

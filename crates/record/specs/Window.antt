@@ -1,16 +1,16 @@
 -- The receive window (002 9.2.3.1; 01, "Numbers, window, keys"), over its width.
-use Rattle.std.specs.Prelude.{Bool, ℕ, ◌+◌, ◌-◌, ◌*◌, ◌/◌, ◌%◌, ◌^◌, ◌≤◌, eqb, leb, ltb}
+use Rattle.std.specs.Prelude.{Bool, ℕ, ◌+◌, ◌-◌, ◌*◌, ◌/◌, ◌%◌, ◌^◌, ◌≤◌, eqb, leb, ltb, Err, Ok, Result}
+use Rattle.record.specs.declared.window.NotNew.{NotNew}
 use Rattle.std.specs.Int.Count.{ones}
 use Rattle.digest.specs.Pick.{pick}
 use Rattle.record.specs.declared.window.Window.{Window}
-use Rattle.record.specs.declared.window.Acceptance.{Acceptance}
-use Rattle.record.specs.declared.window.Acceptance.TheVariants.{New, TooOld, Repeated}
+use Rattle.record.specs.declared.window.NotNew.TheVariants.{TooOld, Repeated}
 
 -- 01, Refusal numbers: 10, "too old"; 11, "repeated"; 0 where the number is new
-abbrev pub acceptance_number : Acceptance → ℕ
-acceptance_number (New window arrived) = 0
-acceptance_number TooOld = 10
-acceptance_number Repeated = 11
+abbrev pub acceptance_number : Result (Window × ℕ) NotNew → ℕ
+acceptance_number (Ok (window, arrived)) = 0
+acceptance_number (Err TooOld) = 10
+acceptance_number (Err Repeated) = 11
 
 -- the width where no caller gives one: "at most n - 32 is too old"
 abbrev pub window_width : ℕ
@@ -33,8 +33,8 @@ abbrev pub emptied : Window → Window
 emptied w = fresh_window w.width
 
 -- the window with these marks, and "how many of those have arrived"
-abbrev pub arrived_at : ℕ → ℕ → ℕ → Acceptance
-arrived_at width highest marks = New (record { width = width; highest = highest; marks = marks }) (ones marks)
+abbrev pub arrived_at : ℕ → ℕ → ℕ → Result (Window × ℕ) NotNew
+arrived_at width highest marks = Ok (record { width = width; highest = highest; marks = marks }, ones marks)
 
 -- the arrival report of a window: "how many of those have arrived", over its width
 unfoldable pub arrival_of : Window → ℕ
@@ -46,17 +46,17 @@ too_old width n s = leb (s + width) n
 
 -- Number s at a window whose highest number is n, with marks m. "In a fresh window any number is new." A number above the
 -- highest moves the marks; one at most n - W is too old; one whose mark is set is repeated; any other is marked.
-unfoldable pub accept_by : ℕ → ℕ → ℕ → ℕ → Acceptance
+unfoldable pub accept_by : ℕ → ℕ → ℕ → ℕ → Result (Window × ℕ) NotNew
 accept_by width n m s =
     pick (eqb m 0) (arrived_at width s 1)
     (pick (ltb n s) (arrived_at width s (m * 2 ^ (s - n) % 2 ^ width + 1))
-    (pick (too_old width n s) TooOld
-    (pick (eqb (m / 2 ^ (n - s) % 2) 1) Repeated
+    (pick (too_old width n s) (Err TooOld)
+    (pick (eqb (m / 2 ^ (n - s) % 2) 1) (Err Repeated)
     (arrived_at width n (m + 2 ^ (n - s))))))
 
 -- only the marks of the width count
-abbrev pub accept_within : ℕ → Window → ℕ → Acceptance
+abbrev pub accept_within : ℕ → Window → ℕ → Result (Window × ℕ) NotNew
 accept_within width w s = accept_by width w.highest (w.marks % 2 ^ width) s
 
-abbrev pub accept_of : Window → ℕ → Acceptance
+abbrev pub accept_of : Window → ℕ → Result (Window × ℕ) NotNew
 accept_of w s = accept_within (held_width w.width) w s

@@ -2,28 +2,27 @@
 // each read from the part of the datagram where it begins. The framing of all of it is judged
 // before anything is acted on.
 ghost use Rattle.std.specs.Prelude.{◌≡◌, ◌+◌, ◌*◌, ◌≤◌, ◌<◌};
-ghost use Rattle.record.specs.Datagram.{walk_of, refused_at, placed_at, blank};
+ghost use Rattle.record.specs.Datagram.{walk_of, misframed_at, placed_at, blank};
 
 use crate::header::Content;
-use crate::reader::{Fault, Reading, Record, read};
+use crate::reader::{Fault, Record, read};
 
-// Whether the framing is sound, and if not, the fault and the offset of the record at fault.
+// Why a datagram is refused as a whole: the fault, and the offset of the record at fault.
 #[derive(Clone, Copy)]
-pub enum Outcome {
-    Sound,
-    Refused(Fault, usize),
+pub struct Misframed {
+    pub fault: Fault,
+    pub at: usize,
 }
 
 // What the walk found: `count` records in the order of the datagram, each with its start; the
-// places after them are blank. A refused datagram has no records.
+// places after them are blank.
 #[derive(Clone, Copy)]
 pub struct Walk {
-    pub outcome: Outcome,
     pub count: usize,
     pub records: [Record; 8],
 }
 
-pub fn walked(d: &[u8]) -> Walk
+pub fn walked(d: &[u8]) -> Result<Walk, Misframed>
     ensures { result ≡ walk_of d.now }
 {
     if d.len() == 0 {
@@ -41,8 +40,8 @@ pub fn walked(d: &[u8]) -> Walk
             return refused(Fault::Ninth, at);
         }
         match read(&d[at..]) {
-            Reading::Refused(fault) => return refused(fault, at),
-            Reading::Sound(found) => {
+            Err(fault) => return refused(fault, at),
+            Ok(found) => {
                 let next = placed(found, at);
                 records[count] = next;
                 count += 1;
@@ -50,25 +49,14 @@ pub fn walked(d: &[u8]) -> Walk
             }
         }
     }
-    Walk {
-        outcome: Outcome::Sound,
-        count,
-        records,
-    }
+    Ok(Walk { count, records })
 }
 
 // The answer to a datagram that is refused as a whole.
-fn refused(fault: Fault, at: usize) -> Walk
-    ensures { result ≡ refused_at fault at }
+fn refused(fault: Fault, at: usize) -> Result<Walk, Misframed>
+    ensures { result ≡ misframed_at fault at }
 {
-    let blank = nothing();
-    let records = [blank; 8];
-    let outcome = Outcome::Refused(fault, at);
-    Walk {
-        outcome,
-        count: 0,
-        records,
-    }
+    Err(Misframed { fault, at })
 }
 
 // The record with its start in the datagram.

@@ -7,7 +7,7 @@ ghost use Rattle.record.specs.Protection.{opened_by, wrote_by, output_by, wrote_
 use crate::code::{genuine, write_protected};
 use crate::header::Content;
 use crate::keys::{Keys, Sense};
-use crate::window::{Acceptance, Window};
+use crate::window::{NotNew, Window};
 
 // The next protected and clear numbers are 65,536 once spent.
 #[derive(Clone, Copy)]
@@ -18,48 +18,46 @@ pub struct Protection {
     pub clear: u32,
 }
 
-// What becomes of a protected record. Of a new one so many bytes of the fragment are its content: they stand at the
-// front, the code behind them.
+// Why a protected record is not opened.
 #[derive(Clone, Copy)]
-pub enum Opened {
+pub enum Unopened {
     Forged,
     TooOld,
     Repeated,
-    New(usize),
 }
 
-// The same, and the protection that it leaves: a new number has its mark, and nothing else changes.
+// What becomes of a protected record, and the protection that it leaves. Of a new one so many bytes of the fragment are
+// its content: they stand at the front, the code behind them. A new number has its mark, and nothing else changes.
 #[derive(Clone, Copy)]
 pub struct Opening {
-    pub opened: Opened,
+    pub opened: Result<usize, Unopened>,
     pub protection: Protection,
 }
 
-// What becomes of a record that is to be written: the numbers are spent, the room is too small, or so many bytes of it
-// stand at the front of the output.
+// Why a record is not written: the numbers are spent, or the room is too small.
 #[derive(Clone, Copy)]
-pub enum Wrote {
+pub enum Unwritten {
     Spent,
     NoRoom,
-    Done(usize),
 }
 
-// The same, and the protection after it.
+// What becomes of a record that is to be written, and the protection after it: so many bytes of it stand at the front of
+// the output.
 #[derive(Clone, Copy)]
 pub struct Writing {
-    pub wrote: Wrote,
+    pub wrote: Result<usize, Unwritten>,
     pub protection: Protection,
 }
 
-impl Wrote {
+impl Writing {
     // How many bytes stand at the front of the output.
     pub fn size(self) -> usize
-        ensures { result ≡ wrote_size self }
+        ensures { result ≡ wrote_size self.wrote }
     {
-        match self {
-            Wrote::Spent => 0,
-            Wrote::NoRoom => 0,
-            Wrote::Done(size) => size,
+        match self.wrote {
+            Err(Unwritten::Spent) => 0,
+            Err(Unwritten::NoRoom) => 0,
+            Ok(size) => size,
         }
     }
 }
@@ -75,23 +73,23 @@ impl Protection {
         let key = keys.key(sense, number);
         if !genuine(key, mac, number, byte, fragment) {
             return Opening {
-                opened: Opened::Forged,
+                opened: Err(Unopened::Forged),
                 protection: self,
             };
         }
         let size = fragment.len() - mac.size();
         let window = self.window;
         match window.accept(number) {
-            Acceptance::TooOld => Opening {
-                opened: Opened::TooOld,
+            Err(NotNew::TooOld) => Opening {
+                opened: Err(Unopened::TooOld),
                 protection: self,
             },
-            Acceptance::Repeated => Opening {
-                opened: Opened::Repeated,
+            Err(NotNew::Repeated) => Opening {
+                opened: Err(Unopened::Repeated),
                 protection: self,
             },
-            Acceptance::New(marked, _) => Opening {
-                opened: Opened::New(size),
+            Ok((marked, _)) => Opening {
+                opened: Ok(size),
                 protection: self.with_window(marked),
             },
         }
@@ -104,7 +102,7 @@ impl Protection {
     {
         if 65535 < self.protected {
             return Writing {
-                wrote: Wrote::Spent,
+                wrote: Err(Unwritten::Spent),
                 protection: self,
             };
         }
@@ -115,12 +113,12 @@ impl Protection {
         let size = write_protected(key, mac, false, content, number, body, out);
         if size == 0 {
             return Writing {
-                wrote: Wrote::NoRoom,
+                wrote: Err(Unwritten::NoRoom),
                 protection: self,
             };
         }
         Writing {
-            wrote: Wrote::Done(size),
+            wrote: Ok(size),
             protection: self.counted_on(),
         }
     }

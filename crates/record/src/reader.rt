@@ -46,34 +46,28 @@ pub struct Record {
     pub used: usize,
 }
 
-#[derive(Clone, Copy)]
-pub enum Reading {
-    Sound(Record),
-    Refused(Fault),
-}
-
 // The record that begins at the front of `part`, or the first fault in the order 3, 2, 4. An empty
 // part has not even a type byte: its header passes the end.
-pub fn read(part: &[u8]) -> Reading
+pub fn read(part: &[u8]) -> Result<Record, Fault>
     ensures { result ≡ read_of part.now }
 {
     if part.len() == 0 {
-        return Reading::Refused(Fault::Header);
+        return Err(Fault::Header);
     }
     let byte = part[0];
     read_as(part, byte, split(byte))
 }
 
 // The record whose type byte says `kind`.
-fn read_as(part: &[u8], byte: u8, kind: Kind) -> Reading
+fn read_as(part: &[u8], byte: u8, kind: Kind) -> Result<Record, Fault>
     ensures { result ≡ read_as part.now byte kind }
 {
     if !sound(kind) {
-        return Reading::Refused(Fault::Kind);
+        return Err(Fault::Kind);
     }
     let head = head_of(kind);
     if part.len() < head {
-        return Reading::Refused(Fault::Header);
+        return Err(Fault::Header);
     }
     let number = pair(part[1], part[2]);
     let size = size_of(part, kind);
@@ -103,18 +97,18 @@ fn size_of(part: &[u8], kind: Kind) -> usize
 }
 
 // The record whose fragment has `size` bytes, if there are any and as many are left.
-fn framed(byte: u8, kind: Kind, number: u16, head: usize, size: usize, left: usize) -> Reading
+fn framed(byte: u8, kind: Kind, number: u16, head: usize, size: usize, left: usize) -> Result<Record, Fault>
     requires { (head ≤ 5) × (left < 2 ^ 63) }
     ensures { result ≡ framed_of byte kind number head size left }
 {
     if size == 0 {
-        return Reading::Refused(Fault::Fragment);
+        return Err(Fault::Fragment);
     }
     if left < size {
-        return Reading::Refused(Fault::Fragment);
+        return Err(Fault::Fragment);
     }
     let content = content_of(kind.content);
-    Reading::Sound(Record {
+    Ok(Record {
         byte,
         content,
         protected: kind.protected,

@@ -17,11 +17,9 @@ pub struct Window {
     pub marks: u64,
 }
 
-// What becomes of a number: new, with the window that has it and how many of its newest numbers
-// have arrived, this one included; or refused.
+// Why a number is not new.
 #[derive(Clone, Copy)]
-pub enum Acceptance {
-    New(Window, u32),
+pub enum NotNew {
     TooOld,
     Repeated,
 }
@@ -52,7 +50,7 @@ impl Window {
 
     // What becomes of a number: `exact` for every window, and `meaning` for the window of the numbers h
     // that were accepted since it was fresh, at any width from 32 to 64.
-    pub fn accept(self, number: u16) -> Acceptance
+    pub fn accept(self, number: u16) -> Result<(Window, u32), NotNew>
         ensures exact { result ≡ accept_of self number }
         ensures meaning { (width : ℕ) (h : List ℕ) → Held width → self ≡ window_of width h → result ≡ judged_of width h number }
     {
@@ -69,7 +67,7 @@ impl Window {
     }
 
     // The number in a window of this width.
-    fn accept_within(self, width: u64, number: u16) -> Acceptance
+    fn accept_within(self, width: u64, number: u16) -> Result<(Window, u32), NotNew>
         requires { (0 < width) × (width ≤ 64) }
         ensures { result ≡ accept_within width self number }
     {
@@ -84,11 +82,11 @@ impl Window {
             return arrived(width, number, moved(marks, s - n, width));
         }
         if s + width <= n {
-            return Acceptance::TooOld;
+            return Err(NotNew::TooOld);
         }
         let place = n - s;
         if (marks >> place) & 1 == 1 {
-            return Acceptance::Repeated;
+            return Err(NotNew::Repeated);
         }
         arrived(width, highest, marked(marks, place))
     }
@@ -109,7 +107,7 @@ fn held(width: u8) -> u64
 }
 
 // The window with these marks, and how many there are.
-fn arrived(width: u64, highest: u16, marks: u64) -> Acceptance
+fn arrived(width: u64, highest: u16, marks: u64) -> Result<(Window, u32), NotNew>
     requires { width ≤ 64 }
     ensures { result ≡ arrived_at width highest marks }
 {
@@ -118,7 +116,7 @@ fn arrived(width: u64, highest: u16, marks: u64) -> Acceptance
         highest,
         marks,
     };
-    Acceptance::New(window, u64::count_ones(marks))
+    Ok((window, u64::count_ones(marks)))
 }
 
 // The marks of the width, and no others.

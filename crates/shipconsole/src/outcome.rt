@@ -2,8 +2,7 @@
 // behind each.
 use crate::console::{Console, Ran};
 use crate::status::put_status;
-use connection::calls::Outcome;
-use connection::receive::Taken;
+use connection::receive::Untaken;
 use connection::refusal;
 use lines::text::{put, put_hex, put_number};
 use message::alert::{Description, description_number};
@@ -17,7 +16,7 @@ pub fn bad_line(console: Console, text: &mut [u8], at: usize) -> Ran {
 }
 
 // A call that writes no bytes.
-pub fn done(console: Console, name: &[u8], outcome: Outcome, text: &mut [u8], at: usize) -> Ran {
+pub fn done(console: Console, name: &[u8], outcome: Result<(), Refusal>, text: &mut [u8], at: usize) -> Ran {
     let end = put_outcome(name, outcome, text, at);
     state_line(console, text, end)
 }
@@ -26,7 +25,7 @@ pub fn done(console: Console, name: &[u8], outcome: Outcome, text: &mut [u8], at
 pub fn sent(
     console: Console,
     name: &[u8],
-    outcome: Outcome,
+    outcome: Result<(), Refusal>,
     written: usize,
     out: &[u8],
     text: &mut [u8],
@@ -53,11 +52,11 @@ fn state_line(console: Console, text: &mut [u8], at: usize) -> Ran {
 }
 
 // `CALL ok` or `CALL refused R`.
-fn put_outcome(name: &[u8], outcome: Outcome, text: &mut [u8], at: usize) -> usize {
+fn put_outcome(name: &[u8], outcome: Result<(), Refusal>, text: &mut [u8], at: usize) -> usize {
     let end = put(text, at, name);
     match outcome {
-        Outcome::Done => put(text, end, b" ok\n"),
-        Outcome::Refused(refusal) => put_with(
+        Ok(()) => put(text, end, b" ok\n"),
+        Err(refusal) => put_with(
             b" refused ",
             refusal::number(refusal) as u64,
             text,
@@ -80,14 +79,14 @@ fn put_out(out: &[u8], written: usize, text: &mut [u8], at: usize) -> usize {
 }
 
 // `receive records N` with a line for each record, `receive refused R`, or `receive refused R at P`.
-fn put_taken(taken: Taken, answers: [Slot; 8], text: &mut [u8], at: usize) -> usize {
+fn put_taken(taken: Result<usize, Untaken>, answers: [Slot; 8], text: &mut [u8], at: usize) -> usize {
     match taken {
-        Taken::Records(count) => {
+        Ok(count) => {
             let end = put_with(b"receive records ", count as u64, text, at);
             put_answers(answers, count, text, end)
         }
-        Taken::Refused(refusal) => put_outcome(b"receive", Outcome::Refused(refusal), text, at),
-        Taken::Misframed(refusal, place) => {
+        Err(Untaken::Refused(refusal)) => put_outcome(b"receive", Err(refusal), text, at),
+        Err(Untaken::Misframed(refusal, place)) => {
             let end = put(text, at, b"receive refused ");
             let end = put_number(text, end, refusal::number(refusal) as u64);
             put_with(b" at ", place as u64, text, end)

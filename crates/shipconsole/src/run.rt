@@ -4,7 +4,6 @@ ghost use Rattle.std.specs.Prelude.{◌≡◌, length};
 use crate::call::{Call, call_in};
 use crate::console::{Console, Ran};
 use crate::outcome;
-use connection::calls::Outcome;
 use lines::hex::put_bytes;
 use lines::number::{number, room};
 use lines::said::named;
@@ -72,11 +71,11 @@ fn fresh(
     let called = calls::fresh(id, secret, width);
     let outcome = called.outcome;
     match outcome {
-        Outcome::Done => {
+        Ok(()) => {
             let unit = called.unit;
             outcome::done(Console::of(unit), b"fresh", outcome, text, at)
         }
-        Outcome::Refused(_) => outcome::done(console, b"fresh", outcome, text, at),
+        Err(_) => outcome::done(console, b"fresh", outcome, text, at),
     }
 }
 

@@ -1,5 +1,5 @@
 -- A short message taken (02, P2): the gatherer's step, then receive's own definition on the datagram that is shown.
-use Rattle.std.specs.Prelude.{Bool, true, false, List, ℕ, length, eqb, ltb}
+use Rattle.std.specs.Prelude.{Bool, true, false, List, ℕ, length, eqb, ltb, Ok}
 use Rattle.digest.specs.Pick.{pick}
 use Rattle.gather.specs.Gatherer.{Left, said, step_of, datagram_of}
 use Rattle.gather.specs.declared.refusal.Refusal.{Refusal}
@@ -10,7 +10,6 @@ use Rattle.gather.specs.declared.gatherer.Answer.TheVariants as A
 use Rattle.connection.specs.Receive.{received_of, output_of, whole_of}
 use Rattle.connection.specs.declared.connection.Connection.{Connection}
 use Rattle.connection.specs.declared.receive.Received.{Received}
-use Rattle.connection.specs.declared.receive.Taken.TheVariants.{Records}
 use Rattle.short.specs.declared.take.Messaged.{Messaged}
 
 -- "A message without concatenation, or of total 1, .. is shown where it was received; a gathered one is shown in the assembly
@@ -23,7 +22,7 @@ is_shown (A.Gathered ports size) = true
 
 -- no datagram: no record, and the connection as it was
 abbrev pub nothing_of : Connection → Received
-nothing_of c = whole_of c (Records 0)
+nothing_of c = whole_of c (Ok 0)
 
 -- what receive gives of the datagram that is shown, "whatever answer the gathered datagram then gets, 1 to 5 included"
 unfoldable pub taken_of : Connection → Gatherer → Answer → List ℕ → List ℕ → List ℕ → ℕ → Messaged

@@ -4,7 +4,7 @@ ghost use Rattle.short.specs.Message.{nothing_of};
 
 use connection::answer::{Answer, Slot};
 use connection::connection::Connection;
-use connection::receive::{Received, Taken};
+use connection::receive::Received;
 
 pub(crate) fn nothing(c: Connection) -> Received
     ensures { result ≡ nothing_of c }
@@ -13,7 +13,7 @@ pub(crate) fn nothing(c: Connection) -> Received
         answer: Answer::Nothing,
     };
     Received {
-        taken: Taken::Records(0),
+        taken: Ok(0),
         answers: [slot; 8],
         written: 0,
         connection: c,

@@ -9,10 +9,8 @@ use Rattle.record.specs.declared.reader.Record.{Record}
 use Rattle.message.specs.Agreement.{agreement_of, agreed_as}
 use Rattle.message.specs.ServerHello.{server_read}
 use Rattle.message.specs.declared.acceptance.Plan.{Plan}
-use Rattle.message.specs.declared.agreement.Agreement.TheVariants as G
+use Rattle.message.specs.declared.agreement.Disagreed.TheVariants as G
 use Rattle.message.specs.declared.offer.Offer.{Offer}
-use Rattle.message.specs.declared.server_hello.Reading.{Reading}
-use Rattle.message.specs.declared.server_hello.Reading.TheVariants as reading
 use Rattle.message.proofs.ServerHellos.{formed}
 use Rattle.connection.specs.Judge.{fragment_of}
 use Rattle.unit.specs.State.{kind_of, rule_of}
@@ -21,6 +19,7 @@ use Rattle.unit.specs.declared.state.Kind.{Kind}
 use Rattle.unit.specs.declared.state.Rule.{Rule}
 use Rattle.unit.specs.declared.agree.Judged.{Judged}
 use Rattle.unit.specs.declared.unit.Unit.{Unit}
+use Rattle.std.specs.Prelude.{None, Ok, Option, Some}
 
 -- a part behind the front of a front
 drop_take : (a n : ℕ) (f : List ℕ) → drop a (take n f) ≡ take (n - a) (drop a f)
@@ -45,10 +44,10 @@ ruled_as u d r f kind rule j ef ek er ej =
     ej ∙ (λ i. ruled_by u (rule-is i) (kind-is i) r.byte r.number r.start (r.start + r.head) (ef i))
 
 -- a ServerHello that is agreed on has a whole random
-pub agreed_long : (m id : List ℕ) (offer : Offer) (plan : Plan) → agreement_of m id offer ≡ G.Agreed plan → 20 ≤ length m
+pub agreed_long : (m id : List ℕ) (offer : Offer) (plan : Plan) → agreement_of m id offer ≡ Ok plan → 20 ≤ length m
 unfolding agreement_of
 agreed_long m id offer plan e = go (server_read m) refl e
   where
-    go : (r : Reading) → server_read m ≡ r → agreed_as m id offer r ≡ G.Agreed plan → 20 ≤ length m
-    go (reading.WellFormed end) q h = omega (arith, (formed m end q).size)
-    go reading.Malformed q h = let z : ◌≡◌ {A = ℕ} 0 1 = cc in absurd (omega arith)
+    go : (r : Option ℕ) → server_read m ≡ r → agreed_as m id offer r ≡ Ok plan → 20 ≤ length m
+    go (Some end) q h = omega (arith, (formed m end q).size)
+    go None q h = let z : ◌≡◌ {A = ℕ} 0 1 = cc in absurd (omega arith)

@@ -8,7 +8,6 @@ use lib.ListN.{length, take, get_or, set, replicate, length-append, length-map}
 use lib.Seq.{take-suc, set_at, append_snoc, length-take-le}
 use Rattle.record.specs.Datagram.{blank}
 use Rattle.record.specs.declared.reader.Record.{Record}
-use Rattle.connection.specs.declared.receive.Taken.TheVariants.{Records}
 use Rattle.unit.specs.Answer.{slot, opens_by, opens_to}
 use Rattle.unit.specs.Judge.{judged_record}
 use Rattle.unit.specs.Receive.{end_of, answers_of, slots_of, flight_in, run_of}
@@ -18,6 +17,7 @@ use Rattle.unit.specs.declared.answer.Slot.{Slot}
 use Rattle.unit.specs.declared.agree.Judged.{Judged}
 use Rattle.unit.specs.declared.receive.Received.{Received}
 use Rattle.unit.specs.declared.unit.Unit.{Unit}
+use Rattle.std.specs.Prelude.{Ok}
 
 pub end_snoc : (u : Unit) (d : List ℕ) (rs : List Record) (r : Record)
     → end_of u d (rs ++ (r ∷ [])) ≡ (judged_record (end_of u d rs) d r).unit
@@ -103,12 +103,12 @@ flight_is u d records count answers left opens ran =
 -- a run to its end
 pub run_by : (u : Unit) (d : List ℕ) (records : List Record) (count : ℕ) (answers : List Slot) (left : Unit) (opens written : ℕ)
     → count ≤ length records → Ran u d records answers left opens count → written ≡ length (take opens left.flight)
-    → ◌≡◌ {A = Received} (record { taken = Records count; answers = answers; written = written; unit = left }) (run_of u d (take count records))
+    → ◌≡◌ {A = Received} (record { taken = Ok count; answers = answers; written = written; unit = left }) (run_of u d (take count records))
 unfolding run_of
 run_by u d records count answers left opens written l ran ew =
     let size = sym (length-take-le count records l) in
     let sent = ew ∙ ap length (flight_is u d records count answers left opens ran) in
-    λ i. record { taken = Records (size i); answers = ran.answers_are i; written = sent i; unit = ran.left_is i }
+    λ i. record { taken = Ok (size i); answers = ran.answers_are i; written = sent i; unit = ran.left_is i }
 
 -- where the loop has ended
 pub ran_at : (u : Unit) (d : List ℕ) (records : List Record) (answers : List Slot) (left : Unit) (opens i count : ℕ)

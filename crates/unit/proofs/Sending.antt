@@ -18,16 +18,15 @@ use Rattle.record.specs.declared.header.Content.TheVariants as C
 use Rattle.record.specs.declared.keys.Sense.{Sense}
 use Rattle.record.specs.declared.protection.Protection.{Protection}
 use Rattle.record.specs.declared.protection.Writing.{Writing}
-use Rattle.record.specs.declared.protection.Wrote.TheVariants as W
+use Rattle.record.specs.declared.protection.Unwritten.TheVariants as W
 use Rattle.record.proofs.Fronts.{record_length}
 use Rattle.record.proofs.Protecting.{wrote_when, output_when}
 use Rattle.connection.proofs.Sending.{Wrote}
 use Rattle.connection.specs.declared.refusal.Refusal.TheVariants.{Argument}
-use Rattle.message.specs.declared.alert.Graded.TheVariants as G
-use Rattle.message.specs.declared.alert.Sorted.{Sorted}
-use Rattle.message.specs.declared.alert.Sorted.TheVariants as D
 use Rattle.unit.specs.Send.{unsent, next_clear, alert_sent_as, alert_output_as}
 use Rattle.unit.specs.declared.unit.Unit.{Unit}
+use Rattle.std.specs.Prelude.{Err, None, Ok, Option, Some}
+use Rattle.message.specs.declared.alert.Description.{Description}
 
 -- what a count says of the room
 pub none_written : (out bytes : List ℕ) (n : ℕ) → 0 < length bytes → n ≡ count_of out bytes → n ≡ 0
@@ -54,21 +53,21 @@ unwritten out bytes h = rw h refl
 
 -- a protected record that was written: there was a number to spend, and room
 done_means : (p : Protection) (sense : Sense) (content : Content) (body : List ℕ) (room n : ℕ)
-    → (wrote_by p sense content body room).wrote ≡ W.Done n
+    → (wrote_by p sense content body room).wrote ≡ Ok n
     → (p.protected ≤ 65535) × (length (next_record p sense content body) ≤ room)
 unfolding wrote_by
 done_means p sense content body room n e =
     told (ltb 65535 p.protected) (ltb room (length (next_record p sense content body))) refl refl e
   where
     told : (a b : Bool) → ltb 65535 p.protected ≡ a → ltb room (length (next_record p sense content body)) ≡ b
-        → (pick a (writing W.Spent p) (pick b (writing W.NoRoom p) (writing (W.Done (length (next_record p sense content body))) (counted_on p)))).wrote ≡ W.Done n
+        → (pick a (writing (Err W.Spent) p) (pick b (writing (Err W.NoRoom) p) (writing (Ok (length (next_record p sense content body))) (counted_on p)))).wrote ≡ Ok n
         → (p.protected ≤ 65535) × (length (next_record p sense content body) ≤ room)
     told true b ta tb f = let z : ◌≡◌ {A = ℕ} 0 1 = cc in absurd (omega arith)
     told false true ta tb f = let z : ◌≡◌ {A = ℕ} 0 1 = cc in absurd (omega arith)
     told false false ta tb f = (ltb-false 65535 p.protected ta, ltb-false room (length (next_record p sense content body)) tb)
 
 pub protected_done : (p : Protection) (sense : Sense) (content : Content) (body out after : List ℕ) (w : Writing) (n : ℕ)
-    → w ≡ wrote_by p sense content body (length out) → w.wrote ≡ W.Done n → after ≡ output_by p sense content body out
+    → w ≡ wrote_by p sense content body (length out) → w.wrote ≡ Ok n → after ≡ output_by p sense content body out
     → Wrote out (next_record p sense content body) after n
 protected_done p sense content body out after w n ew en ea =
     let next = next_record p sense content body in
@@ -80,7 +79,7 @@ protected_done p sense content body out after w n ew en ea =
     record { count = count-is; bytes_are = after_is; front = ap (take n) after_is ∙ laid_front out 0 n next (omega (arith, m.1)) all }
 
 pub done_fits : (p : Protection) (sense : Sense) (content : Content) (body out : List ℕ) (w : Writing) (n : ℕ)
-    → w ≡ wrote_by p sense content body (length out) → w.wrote ≡ W.Done n → length (next_record p sense content body) ≤ length out
+    → w ≡ wrote_by p sense content body (length out) → w.wrote ≡ Ok n → length (next_record p sense content body) ≤ length out
 done_fits p sense content body out w n ew en =
     (done_means p sense content body (length out) n (sym (ap (λ (x : Writing). x.wrote) ew) ∙ en)).1
 
@@ -89,12 +88,12 @@ pub clear_some : (u : Unit) (body : List ℕ) → 0 < length (next_clear u body)
 clear_some u body = omega (arith, record_length false false C.Alert u.protection.clear body)
 
 -- an unknown level is refused, whatever else is said
-pub no_level : (u : Unit) (protected : Bool) (answered : List ℕ) (room : ℕ) (s : Sorted)
-    → unsent u Argument ≡ alert_sent_as u protected answered room G.Unassigned s
-no_level u protected answered room (D.Assigned d) = refl
-no_level u protected answered room D.Unassigned = refl
+pub no_level : (u : Unit) (protected : Bool) (answered : List ℕ) (room : ℕ) (s : Option Description)
+    → unsent u Argument ≡ alert_sent_as u protected answered room None s
+no_level u protected answered room (Some d) = refl
+no_level u protected answered room None = refl
 
-pub no_level_output : (u : Unit) (protected : Bool) (answered out : List ℕ) (s : Sorted)
-    → out ≡ alert_output_as u protected answered out G.Unassigned s
-no_level_output u protected answered out (D.Assigned d) = refl
-no_level_output u protected answered out D.Unassigned = refl
+pub no_level_output : (u : Unit) (protected : Bool) (answered out : List ℕ) (s : Option Description)
+    → out ≡ alert_output_as u protected answered out None s
+no_level_output u protected answered out (Some d) = refl
+no_level_output u protected answered out None = refl

@@ -1,5 +1,6 @@
 -- A ServerHello (02, P7: "read the reply"; 002 10.5.1.3, 10.5.9), and our flight (02: "write change cipher spec and Finished").
-use Rattle.std.specs.Prelude.{List, ◌++◌, ℕ, length, take, drop}
+use Rattle.std.specs.Prelude.{List, ◌++◌, ℕ, length, take, drop, Err, Ok, Result}
+use Rattle.message.specs.declared.agreement.Disagreed.{Disagreed}
 use Rattle.record.specs.Protection.{record_under}
 use Rattle.record.specs.declared.header.Content.TheVariants as C
 use Rattle.record.specs.declared.keys.Keys.{Keys}
@@ -8,8 +9,7 @@ use Rattle.message.specs.Agreement.{agreement_of}
 use Rattle.message.specs.Finished.{server_verify, client_verify, finished_of}
 use Rattle.message.specs.Offer.{offer_hello}
 use Rattle.message.specs.declared.acceptance.Plan.{Plan}
-use Rattle.message.specs.declared.agreement.Agreement.{Agreement}
-use Rattle.message.specs.declared.agreement.Agreement.TheVariants as G
+use Rattle.message.specs.declared.agreement.Disagreed.TheVariants as G
 use Rattle.message.specs.declared.offer.Offer.{Offer}
 use Rattle.connection.specs.Reply.{change_record, pad_to}
 use Rattle.connection.specs.declared.refusal.Refusal.TheVariants.{Malformed, Unacceptable}
@@ -76,10 +76,10 @@ abbrev pub judged : Answer → Unit → Judged
 judged answer u = record { answer = answer; unit = u }
 
 -- 12, then 13; each acceptable one starts the reading of the reply anew
-abbrev pub agreed_to : Unit → List ℕ → Agreement → Judged
-agreed_to u m (G.Agreed plan) = judged W.Hello (agreed_with u m plan)
-agreed_to u m (G.Unacceptable term) = judged (W.Refused Unacceptable) u
-agreed_to u m G.Malformed = judged (W.Refused Malformed) u
+abbrev pub agreed_to : Unit → List ℕ → Result Plan Disagreed → Judged
+agreed_to u m (Ok plan) = judged W.Hello (agreed_with u m plan)
+agreed_to u m (Err (G.Unacceptable term)) = judged (W.Refused Unacceptable) u
+agreed_to u m (Err G.Malformed) = judged (W.Refused Malformed) u
 
 unfoldable pub agreed_by : Unit → List ℕ → Judged
 agreed_by u m = agreed_to u m (agreement_of m u.id u.offer)

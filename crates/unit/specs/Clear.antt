@@ -1,5 +1,6 @@
 -- Clear records but the ServerHello (02, P7).
-use Rattle.std.specs.Prelude.{List, ℕ}
+use Rattle.std.specs.Prelude.{List, ℕ, None, Option, Some}
+use Rattle.message.specs.declared.alert.Alert.{Alert}
 use Rattle.digest.specs.Pick.{pick}
 use Rattle.record.specs.Window.{emptied}
 use Rattle.record.specs.declared.window.Window.{Window}
@@ -9,8 +10,6 @@ use Rattle.message.specs.Request.{is_request}
 use Rattle.message.specs.declared.alert.Level.{Level}
 use Rattle.message.specs.declared.alert.Level.TheVariants as L
 use Rattle.message.specs.declared.alert.Description.{Description}
-use Rattle.message.specs.declared.alert.Reading.{Reading}
-use Rattle.message.specs.declared.alert.Reading.TheVariants as R
 use Rattle.connection.specs.Sent.{matches_of}
 use Rattle.connection.specs.declared.sent.SentRecords.{SentRecords}
 use Rattle.connection.specs.declared.refusal.Refusal.TheVariants.{Ended, Malformed, Checksum}
@@ -33,9 +32,9 @@ by_level window L.Critical description = step (Critical description) window Clos
 by_level window L.Fatal description = step (Fatal description) window Close
 
 -- 12, then 14: a clear alert is "good if it matches any of the last eight records that we sent since the last start" (02, P3)
-abbrev pub heard_by : SentRecords → Window → Reading → Step
-heard_by sent window R.Malformed = refusing window Malformed
-heard_by sent window (R.WellFormed a) =
+abbrev pub heard_by : SentRecords → Window → Option Alert → Step
+heard_by sent window None = refusing window Malformed
+heard_by sent window (Some a) =
     pick (matches_of sent a.checksum) (by_level window a.level a.description) (refusing window Checksum)
 
 unfoldable pub heard_alert : SentRecords → Window → List ℕ → Step

@@ -1,18 +1,15 @@
 -- The hello, and what is said again (02, P7: "write the ClientHello"; "a call gives the same datagram again until the first data or
 -- the warning on a repeated Finished arrives").
-use Rattle.std.specs.Prelude.{false, List, ℕ, length, eqb, ltb, leb}
+use Rattle.std.specs.Prelude.{false, List, ℕ, length, eqb, ltb, leb, Err, None, Ok, Option, Result, Some, ⊤}
+use Rattle.connection.specs.declared.refusal.Refusal.{Refusal}
 use Rattle.digest.specs.Pick.{pick}
 use Rattle.record.specs.Written.{record_of, written_of}
 use Rattle.record.specs.declared.header.Content.TheVariants as C
 use Rattle.message.specs.Offer.{kinds_named, offer_hello}
 use Rattle.message.specs.declared.offer.Kinds.{Kinds}
-use Rattle.message.specs.declared.offer.Named.{Named}
-use Rattle.message.specs.declared.offer.Named.TheVariants.{Are, Others}
 use Rattle.message.specs.declared.offer.Offer.{Offer}
 use Rattle.connection.specs.Sent.{sum_of}
 use Rattle.connection.specs.declared.refusal.Refusal.TheVariants.{Room, Ended, NotAllowed, Argument}
-use Rattle.connection.specs.declared.calls.Outcome.{Outcome}
-use Rattle.connection.specs.declared.calls.Outcome.TheVariants.{Done, Refused}
 use Rattle.unit.specs.Unit.{greeted, flight_of}
 use Rattle.unit.specs.Send.{unsent, done_with, sent_if, output_if}
 use Rattle.unit.specs.declared.state.State.{State}
@@ -28,15 +25,15 @@ abbrev pub offer_of : Kinds → ℕ → Offer
 offer_of kinds refresh = record { kinds = kinds; refresh = refresh }
 
 -- 7 and 8, by the state: in Idle only
-abbrev pub may_hello : State → Outcome
-may_hello S.Idle = Done
-may_hello S.Sent = Refused NotAllowed
-may_hello S.Replied = Refused NotAllowed
-may_hello S.Spec = Refused NotAllowed
-may_hello S.Opening = Refused NotAllowed
-may_hello S.Open = Refused NotAllowed
-may_hello S.Closed = Refused Ended
-may_hello S.Barred = Refused Ended
+abbrev pub may_hello : State → Result ⊤ Refusal
+may_hello S.Idle = Ok tt
+may_hello S.Sent = Err NotAllowed
+may_hello S.Replied = Err NotAllowed
+may_hello S.Spec = Err NotAllowed
+may_hello S.Opening = Err NotAllowed
+may_hello S.Open = Err NotAllowed
+may_hello S.Closed = Err Ended
+may_hello S.Barred = Err Ended
 
 -- 6; else the hello is written, and counts as sent
 unfoldable pub greeted_with : Unit → List ℕ → Offer → ℕ → Sent
@@ -45,9 +42,9 @@ greeted_with u random offer room =
     pick (leb (length said) room) (done_with (length said) (greeted u random offer (sum_of said))) (unsent u Room)
 
 -- 16: random not 16, refresh over 255, kinds other than one or both of 2 and 3; then 7, 8
-abbrev pub hello_as : Unit → List ℕ → ℕ → ℕ → Named → Sent
-hello_as u random refresh room (Are kinds) = sent_if u (may_hello u.state) (greeted_with u random (offer_of kinds refresh) room)
-hello_as u random refresh room Others = unsent u Argument
+abbrev pub hello_as : Unit → List ℕ → ℕ → ℕ → Option Kinds → Sent
+hello_as u random refresh room (Some kinds) = sent_if u (may_hello u.state) (greeted_with u random (offer_of kinds refresh) room)
+hello_as u random refresh room None = unsent u Argument
 
 unfoldable pub hello_sent : Unit → List ℕ → List ℕ → ℕ → ℕ → Sent
 hello_sent u random macs refresh room =
@@ -55,10 +52,10 @@ hello_sent u random macs refresh room =
     (pick (ltb 255 refresh) (unsent u Argument) (hello_as u random refresh room (kinds_named macs)))
     (unsent u Argument)
 
-abbrev pub hello_output_as : Unit → List ℕ → ℕ → List ℕ → Named → List ℕ
-hello_output_as u random refresh out (Are kinds) =
+abbrev pub hello_output_as : Unit → List ℕ → ℕ → List ℕ → Option Kinds → List ℕ
+hello_output_as u random refresh out (Some kinds) =
     output_if out (may_hello u.state) (written_of out (hello_datagram u.id random (offer_of kinds refresh)))
-hello_output_as u random refresh out Others = out
+hello_output_as u random refresh out None = out
 
 unfoldable pub hello_output : Unit → List ℕ → List ℕ → ℕ → List ℕ → List ℕ
 hello_output u random macs refresh out =

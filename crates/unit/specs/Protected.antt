@@ -1,6 +1,9 @@
 -- Protected records (02, P7: "verify our Finished", "receive data and alerts under the same window rules"): "checked in this order:
 -- code, too old, repeated, content" (01). The first three are layer 2's, where a record is opened.
-use Rattle.std.specs.Prelude.{List, ℕ, ◌+◌, length, take, eqb}
+use Rattle.std.specs.Prelude.{List, ℕ, ◌+◌, length, take, eqb, Err, None, Ok, Option, Result, Some, ⊤}
+use Rattle.message.specs.declared.alert.Alert.{Alert}
+use Rattle.message.specs.declared.finished.Unverified.{Unverified}
+use Rattle.record.specs.declared.protection.Unopened.{Unopened}
 use Rattle.digest.specs.Pick.{pick}
 use Rattle.digest.specs.Mac.{size_of}
 use Rattle.digest.specs.declared.mac.Mac.{Mac}
@@ -8,18 +11,14 @@ use Rattle.record.specs.Protection.{opened_by}
 use Rattle.record.specs.declared.keys.Sense.TheVariants.{FromShore}
 use Rattle.record.specs.declared.window.Window.{Window}
 use Rattle.record.specs.declared.protection.Protection.{Protection}
-use Rattle.record.specs.declared.protection.Opened.{Opened}
-use Rattle.record.specs.declared.protection.Opened.TheVariants as O
+use Rattle.record.specs.declared.protection.Unopened.TheVariants as O
 use Rattle.message.specs.Alert.{alert_of, description_number}
 use Rattle.message.specs.Finished.{judged_of}
 use Rattle.message.specs.Request.{is_request}
 use Rattle.message.specs.declared.alert.Level.{Level}
 use Rattle.message.specs.declared.alert.Level.TheVariants as L
 use Rattle.message.specs.declared.alert.Description.{Description}
-use Rattle.message.specs.declared.alert.Reading.{Reading}
-use Rattle.message.specs.declared.alert.Reading.TheVariants as R
-use Rattle.message.specs.declared.finished.Verified.{Verified}
-use Rattle.message.specs.declared.finished.Verified.TheVariants as F
+use Rattle.message.specs.declared.finished.Unverified.TheVariants as F
 use Rattle.connection.specs.declared.refusal.Refusal.TheVariants.{Ended, NotAllowed, Forged, TooOld, Repeated, Malformed, WrongFinished}
 use Rattle.unit.specs.Step.{step, refusing}
 use Rattle.unit.specs.Clear.{requested_by}
@@ -49,10 +48,10 @@ finished_in window mac S.Closed = refusing window Ended
 finished_in window mac S.Barred = refusing window Ended
 
 -- 12: another message under protection; 17: "genuine Finished with wrong contents", which also closes
-abbrev pub verified_to : Window → Mac → State → Verified → Step
-verified_to window mac state F.Right = finished_in window mac state
-verified_to window mac state F.Wrong = step (W.Refused WrongFinished) window Close
-verified_to window mac state F.Malformed = refusing window Malformed
+abbrev pub verified_to : Window → Mac → State → Result ⊤ Unverified → Step
+verified_to window mac state (Ok tt) = finished_in window mac state
+verified_to window mac state (Err F.Wrong) = step (W.Refused WrongFinished) window Close
+verified_to window mac state (Err F.Malformed) = refusing window Malformed
 
 unfoldable pub verified_by : Window → Mac → List ℕ → State → List ℕ → Step
 verified_by window mac expected state content = verified_to window mac state (judged_of content expected)
@@ -73,9 +72,9 @@ protected_level window L.Warning description = step (W.Warning description) wind
 protected_level window L.Critical description = step (W.Critical description) window Close
 protected_level window L.Fatal description = step (W.Barred description) window Bar
 
-abbrev pub alerted_to : Window → Reading → Step
-alerted_to window R.Malformed = refusing window Malformed
-alerted_to window (R.WellFormed a) = protected_level window a.level a.description
+abbrev pub alerted_to : Window → Option Alert → Step
+alerted_to window None = refusing window Malformed
+alerted_to window (Some a) = protected_level window a.level a.description
 
 unfoldable pub alerted_by : Window → List ℕ → Step
 alerted_by window content = alerted_to window (alert_of content)
@@ -95,11 +94,11 @@ content_by window mac expected state ClearAlert number at content = refusing win
 content_by window mac expected state OtherClear number at content = refusing window NotAllowed
 
 -- "A genuine new record marks its number even if its content is then refused." The content is the front of the fragment.
-abbrev pub unprotected_to : Protection → List ℕ → State → Kind → ℕ → ℕ → List ℕ → Protection → Opened → Step
-unprotected_to p expected state kind number at fragment left O.Forged = refusing p.window Forged
-unprotected_to p expected state kind number at fragment left O.TooOld = refusing p.window TooOld
-unprotected_to p expected state kind number at fragment left O.Repeated = refusing p.window Repeated
-unprotected_to p expected state kind number at fragment left (O.New size) =
+abbrev pub unprotected_to : Protection → List ℕ → State → Kind → ℕ → ℕ → List ℕ → Protection → Result ℕ Unopened → Step
+unprotected_to p expected state kind number at fragment left (Err O.Forged) = refusing p.window Forged
+unprotected_to p expected state kind number at fragment left (Err O.TooOld) = refusing p.window TooOld
+unprotected_to p expected state kind number at fragment left (Err O.Repeated) = refusing p.window Repeated
+unprotected_to p expected state kind number at fragment left (Ok size) =
     content_by left.window p.keys.mac expected state kind number at (take size fragment)
 
 -- the shore's records

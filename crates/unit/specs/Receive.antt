@@ -1,13 +1,13 @@
 -- Receive a datagram (02, P7; 01, "Refusal numbers": "6, 1, then framing from the front (per record 5, 3, 2, 4), then one answer per
 -- record").
-use Rattle.std.specs.Prelude.{List, [], ◌∷◌, ◌++◌, map, ℕ, ◌-◌, length, take, replicate, ltb}
+use Rattle.std.specs.Prelude.{List, [], ◌∷◌, ◌++◌, map, ℕ, ◌-◌, length, take, replicate, ltb, Err, Ok, Result}
+use Rattle.connection.specs.declared.receive.Untaken.{Untaken}
 use Rattle.digest.specs.Pick.{pick}
 use Rattle.digest.specs.Bytes.{laid_over}
 use Rattle.record.specs.Datagram.{Framing, framed, faulty, framing_of}
 use Rattle.record.specs.declared.reader.Record.{Record}
 use Rattle.connection.specs.declared.refusal.Refusal.TheVariants.{Framing as Framed, Room}
-use Rattle.connection.specs.declared.receive.Taken.{Taken}
-use Rattle.connection.specs.declared.receive.Taken.TheVariants.{Records, Refused, Misframed}
+use Rattle.connection.specs.declared.receive.Untaken.TheVariants.{Refused, Misframed}
 use Rattle.unit.specs.Answer.{slot, opens_to}
 use Rattle.unit.specs.Judge.{judged_record}
 use Rattle.unit.specs.declared.answer.Answer.{Answer}
@@ -36,22 +36,22 @@ flight_in u d rs = take (opens_to 0 (answers_of u d rs)) (end_of u d rs).flight
 unfoldable pub run_of : Unit → List ℕ → List Record → Received
 run_of u d rs =
     record {
-      taken = Records (length rs);
+      taken = Ok (length rs);
       answers = slots_of (answers_of u d rs);
       written = length (flight_in u d rs);
       unit = end_of u d rs;
     }
 
 -- refused as a whole: nothing changes
-unfoldable pub whole_of : Unit → Taken → Received
+unfoldable pub whole_of : Unit → Result ℕ Untaken → Received
 whole_of u taken = record { taken = taken; answers = slots_of []; written = 0; unit = u }
 
 abbrev pub framed_to : Unit → List ℕ → Framing → Received
 framed_to u d (framed rs) = run_of u d rs
-framed_to u d (faulty fault at) = whole_of u (Misframed (Framed fault) at)
+framed_to u d (faulty fault at) = whole_of u (Err (Misframed (Framed fault) at))
 
 unfoldable pub received_of : Unit → List ℕ → ℕ → Received
-received_of u d room = pick (ltb room 128) (whole_of u (Refused Room)) (framed_to u d (framing_of d))
+received_of u d room = pick (ltb room 128) (whole_of u (Err (Refused Room))) (framed_to u d (framing_of d))
 
 -- "A success writes the counted bytes at the front and no others." (01)
 abbrev pub sent_of : Unit → List ℕ → Framing → List ℕ

@@ -1,25 +1,21 @@
 -- Send data and send an alert (02, P7; 01, "Refusal numbers": "Send: 16, 7, 8, 15, 6").
-use Rattle.std.specs.Prelude.{Bool, true, false, List, ℕ, length, eqb, ltb, leb}
+use Rattle.std.specs.Prelude.{Bool, true, false, List, ℕ, length, eqb, ltb, leb, Err, None, Ok, Option, Result, Some, ⊤}
+use Rattle.message.specs.declared.alert.Description.{Description}
+use Rattle.message.specs.declared.alert.Level.{Level}
+use Rattle.record.specs.declared.protection.Unwritten.{Unwritten}
 use Rattle.digest.specs.Pick.{pick}
 use Rattle.record.specs.Written.{record_of, written_of}
 use Rattle.record.specs.Protection.{next_record, wrote_by, output_by}
 use Rattle.record.specs.declared.keys.Sense.TheVariants.{FromUnit}
 use Rattle.record.specs.declared.protection.Protection.{Protection}
-use Rattle.record.specs.declared.protection.Wrote.{Wrote}
-use Rattle.record.specs.declared.protection.Wrote.TheVariants as W
+use Rattle.record.specs.declared.protection.Unwritten.TheVariants as W
 use Rattle.record.specs.declared.header.Content.{Content}
 use Rattle.record.specs.declared.header.Content.TheVariants as C
 use Rattle.message.specs.Alert.{level_of, sorted_of}
-use Rattle.message.specs.declared.alert.Graded.{Graded}
-use Rattle.message.specs.declared.alert.Graded.TheVariants as G
-use Rattle.message.specs.declared.alert.Sorted.{Sorted}
-use Rattle.message.specs.declared.alert.Sorted.TheVariants as D
 use Rattle.connection.specs.Send.{alert_body, clear_on}
 use Rattle.connection.specs.Sent.{sum_of}
 use Rattle.connection.specs.declared.refusal.Refusal.{Refusal}
 use Rattle.connection.specs.declared.refusal.Refusal.TheVariants.{Room, Ended, NotAllowed, Spent, Argument}
-use Rattle.connection.specs.declared.calls.Outcome.{Outcome}
-use Rattle.connection.specs.declared.calls.Outcome.TheVariants.{Done, Refused}
 use Rattle.unit.specs.Unit.{with_sent}
 use Rattle.unit.specs.declared.state.State.{State}
 use Rattle.unit.specs.declared.state.State.TheVariants as S
@@ -27,48 +23,48 @@ use Rattle.unit.specs.declared.send.Sent.{Sent}
 use Rattle.unit.specs.declared.unit.Unit.{Unit}
 
 -- 7 and 8, by the state: data and protected alerts in Opening and in Open
-abbrev pub may_protect : State → Outcome
-may_protect S.Idle = Refused NotAllowed
-may_protect S.Sent = Refused NotAllowed
-may_protect S.Replied = Refused NotAllowed
-may_protect S.Spec = Refused NotAllowed
-may_protect S.Opening = Done
-may_protect S.Open = Done
-may_protect S.Closed = Refused Ended
-may_protect S.Barred = Refused Ended
+abbrev pub may_protect : State → Result ⊤ Refusal
+may_protect S.Idle = Err NotAllowed
+may_protect S.Sent = Err NotAllowed
+may_protect S.Replied = Err NotAllowed
+may_protect S.Spec = Err NotAllowed
+may_protect S.Opening = Ok tt
+may_protect S.Open = Ok tt
+may_protect S.Closed = Err Ended
+may_protect S.Barred = Err Ended
 
 -- clear alerts in Sent, Replied and Spec
-abbrev pub may_clear : State → Outcome
-may_clear S.Idle = Refused NotAllowed
-may_clear S.Sent = Done
-may_clear S.Replied = Done
-may_clear S.Spec = Done
-may_clear S.Opening = Refused NotAllowed
-may_clear S.Open = Refused NotAllowed
-may_clear S.Closed = Refused Ended
-may_clear S.Barred = Refused Ended
+abbrev pub may_clear : State → Result ⊤ Refusal
+may_clear S.Idle = Err NotAllowed
+may_clear S.Sent = Ok tt
+may_clear S.Replied = Ok tt
+may_clear S.Spec = Ok tt
+may_clear S.Opening = Err NotAllowed
+may_clear S.Open = Err NotAllowed
+may_clear S.Closed = Err Ended
+may_clear S.Barred = Err Ended
 
 -- "A refusal changes neither buffer nor connection"
 abbrev pub unsent : Unit → Refusal → Sent
-unsent u refusal = record { outcome = Refused refusal; written = 0; unit = u }
+unsent u refusal = record { outcome = Err refusal; written = 0; unit = u }
 
 abbrev pub done_with : ℕ → Unit → Sent
-done_with written u = record { outcome = Done; written = written; unit = u }
+done_with written u = record { outcome = (Ok tt); written = written; unit = u }
 
 -- refused by the state, or what follows; and what the output then holds
-abbrev pub sent_if : Unit → Outcome → Sent → Sent
-sent_if u Done success = success
-sent_if u (Refused refusal) success = unsent u refusal
+abbrev pub sent_if : Unit → Result ⊤ Refusal → Sent → Sent
+sent_if u (Ok tt) success = success
+sent_if u (Err refusal) success = unsent u refusal
 
-abbrev pub output_if : List ℕ → Outcome → List ℕ → List ℕ
-output_if out Done success = success
-output_if out (Refused refusal) success = out
+abbrev pub output_if : List ℕ → Result ⊤ Refusal → List ℕ → List ℕ
+output_if out (Ok tt) success = success
+output_if out (Err refusal) success = out
 
 -- the next protected record of ours: 15, "sending never passes 65,535", then 6; else it is added to those that we sent
-abbrev pub wrote_to : Unit → List ℕ → Protection → Wrote → Sent
-wrote_to u bytes p W.Spent = unsent u Spent
-wrote_to u bytes p W.NoRoom = unsent u Room
-wrote_to u bytes p (W.Done size) = done_with size (with_sent u p (sum_of bytes))
+abbrev pub wrote_to : Unit → List ℕ → Protection → Result ℕ Unwritten → Sent
+wrote_to u bytes p (Err W.Spent) = unsent u Spent
+wrote_to u bytes p (Err W.NoRoom) = unsent u Room
+wrote_to u bytes p (Ok size) = done_with size (with_sent u p (sum_of bytes))
 
 unfoldable pub protected_sent : Unit → Content → List ℕ → ℕ → Sent
 protected_sent u content body room =
@@ -112,24 +108,24 @@ alert_output_by u true body out = output_if out (may_protect u.state) (output_by
 alert_output_by u false body out = output_if out (may_clear u.state) (clear_output u body out)
 
 -- 16: "level or description unknown, record lent for an alert over 1,400"
-abbrev pub alert_sent_as : Unit → Bool → List ℕ → ℕ → Graded → Sorted → Sent
-alert_sent_as u protected answered room (G.Is level) (D.Assigned description) =
+abbrev pub alert_sent_as : Unit → Bool → List ℕ → ℕ → Option Level → Option Description → Sent
+alert_sent_as u protected answered room (Some level) (Some description) =
     pick (ltb 1400 (length answered)) (unsent u Argument)
     (alert_sent_by u protected (alert_body level description answered) room)
-alert_sent_as u protected answered room (G.Is level) D.Unassigned = unsent u Argument
-alert_sent_as u protected answered room G.Unassigned (D.Assigned description) = unsent u Argument
-alert_sent_as u protected answered room G.Unassigned D.Unassigned = unsent u Argument
+alert_sent_as u protected answered room (Some level) None = unsent u Argument
+alert_sent_as u protected answered room None (Some description) = unsent u Argument
+alert_sent_as u protected answered room None None = unsent u Argument
 
 unfoldable pub alert_sent : Unit → Bool → ℕ → ℕ → List ℕ → ℕ → Sent
 alert_sent u protected level description answered room =
     alert_sent_as u protected answered room (level_of level) (sorted_of description)
 
-abbrev pub alert_output_as : Unit → Bool → List ℕ → List ℕ → Graded → Sorted → List ℕ
-alert_output_as u protected answered out (G.Is level) (D.Assigned description) =
+abbrev pub alert_output_as : Unit → Bool → List ℕ → List ℕ → Option Level → Option Description → List ℕ
+alert_output_as u protected answered out (Some level) (Some description) =
     pick (ltb 1400 (length answered)) out (alert_output_by u protected (alert_body level description answered) out)
-alert_output_as u protected answered out (G.Is level) D.Unassigned = out
-alert_output_as u protected answered out G.Unassigned (D.Assigned description) = out
-alert_output_as u protected answered out G.Unassigned D.Unassigned = out
+alert_output_as u protected answered out (Some level) None = out
+alert_output_as u protected answered out None (Some description) = out
+alert_output_as u protected answered out None None = out
 
 unfoldable pub alert_output : Unit → Bool → ℕ → ℕ → List ℕ → List ℕ → List ℕ
 alert_output u protected level description answered out =

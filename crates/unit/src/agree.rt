@@ -7,7 +7,7 @@ use crate::state::State;
 use crate::unit::Unit;
 use connection::refusal::Refusal;
 use message::acceptance::Plan;
-use message::agreement::Agreement;
+use message::agreement::Disagreed;
 use message::change::change;
 use message::offer::Offer;
 use message::{agreement, finished, offer};
@@ -37,9 +37,9 @@ pub(crate) fn agree(u: Unit, m: &[u8]) -> Judged
     let id = u.id;
     let offer = u.offer;
     match agreement::agree(m, &id, offer) {
-        Agreement::Malformed => judge_as(Answer::Refused(Refusal::Malformed), u),
-        Agreement::Unacceptable(_) => judge_as(Answer::Refused(Refusal::Unacceptable), u),
-        Agreement::Agreed(plan) => judge_as(Answer::Hello, agreed(u, m, plan)),
+        Err(Disagreed::Malformed) => judge_as(Answer::Refused(Refusal::Malformed), u),
+        Err(Disagreed::Unacceptable(_)) => judge_as(Answer::Refused(Refusal::Unacceptable), u),
+        Ok(plan) => judge_as(Answer::Hello, agreed(u, m, plan)),
     }
 }
 

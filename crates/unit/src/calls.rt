@@ -6,13 +6,12 @@ ghost use Rattle.unit.specs.declared.state.State.TheVariants.{Idle};
 
 use crate::state::State;
 use crate::unit::{Unit, blank, made};
-use connection::calls::Outcome;
 use connection::refusal::Refusal;
 
 // The outcome of a call, and the unit that it leaves.
 #[derive(Clone, Copy)]
 pub struct Called {
-    pub outcome: Outcome,
+    pub outcome: Result<(), Refusal>,
     pub unit: Unit,
 }
 
@@ -22,18 +21,18 @@ pub fn fresh(id: &[u8], secret: &[u8], width: u32) -> Called
     ensures { result ≡ fresh_of id.now secret.now width }
 {
     if id.len() != 8 {
-        return leave(Outcome::Refused(Refusal::Argument), blank());
+        return leave(Err(Refusal::Argument), blank());
     }
     if secret.len() != 20 {
-        return leave(Outcome::Refused(Refusal::Argument), blank());
+        return leave(Err(Refusal::Argument), blank());
     }
     if width < 32 {
-        return leave(Outcome::Refused(Refusal::Argument), blank());
+        return leave(Err(Refusal::Argument), blank());
     }
     if 64 < width {
-        return leave(Outcome::Refused(Refusal::Argument), blank());
+        return leave(Err(Refusal::Argument), blank());
     }
-    leave(Outcome::Done, planted(id, secret, width as u8))
+    leave(Ok(()), planted(id, secret, width as u8))
 }
 
 // Close leads anywhere but Barred to Closed.
@@ -42,14 +41,14 @@ pub fn close(u: Unit) -> Called
 {
     let state = u.state;
     match state {
-        State::Barred => leave(Outcome::Refused(Refusal::Ended), u),
-        State::Idle => leave(Outcome::Done, u.with_state(State::Closed)),
-        State::Sent => leave(Outcome::Done, u.with_state(State::Closed)),
-        State::Replied => leave(Outcome::Done, u.with_state(State::Closed)),
-        State::Spec => leave(Outcome::Done, u.with_state(State::Closed)),
-        State::Opening => leave(Outcome::Done, u.with_state(State::Closed)),
-        State::Open => leave(Outcome::Done, u.with_state(State::Closed)),
-        State::Closed => leave(Outcome::Done, u.with_state(State::Closed)),
+        State::Barred => leave(Err(Refusal::Ended), u),
+        State::Idle => leave(Ok(()), u.with_state(State::Closed)),
+        State::Sent => leave(Ok(()), u.with_state(State::Closed)),
+        State::Replied => leave(Ok(()), u.with_state(State::Closed)),
+        State::Spec => leave(Ok(()), u.with_state(State::Closed)),
+        State::Opening => leave(Ok(()), u.with_state(State::Closed)),
+        State::Open => leave(Ok(()), u.with_state(State::Closed)),
+        State::Closed => leave(Ok(()), u.with_state(State::Closed)),
     }
 }
 
@@ -59,18 +58,18 @@ pub fn start(u: Unit) -> Called
 {
     let state = u.state;
     match state {
-        State::Barred => leave(Outcome::Refused(Refusal::Ended), u),
-        State::Idle => leave(Outcome::Refused(Refusal::NotAllowed), u),
-        State::Sent => leave(Outcome::Refused(Refusal::NotAllowed), u),
-        State::Replied => leave(Outcome::Refused(Refusal::NotAllowed), u),
-        State::Spec => leave(Outcome::Refused(Refusal::NotAllowed), u),
-        State::Opening => leave(Outcome::Refused(Refusal::NotAllowed), u),
-        State::Open => leave(Outcome::Refused(Refusal::NotAllowed), u),
-        State::Closed => leave(Outcome::Done, u.reopened()),
+        State::Barred => leave(Err(Refusal::Ended), u),
+        State::Idle => leave(Err(Refusal::NotAllowed), u),
+        State::Sent => leave(Err(Refusal::NotAllowed), u),
+        State::Replied => leave(Err(Refusal::NotAllowed), u),
+        State::Spec => leave(Err(Refusal::NotAllowed), u),
+        State::Opening => leave(Err(Refusal::NotAllowed), u),
+        State::Open => leave(Err(Refusal::NotAllowed), u),
+        State::Closed => leave(Ok(()), u.reopened()),
     }
 }
 
-fn leave(outcome: Outcome, unit: Unit) -> Called
+fn leave(outcome: Result<(), Refusal>, unit: Unit) -> Called
     ensures { result ≡ leaving outcome unit }
 {
     Called { outcome, unit }

@@ -28,8 +28,8 @@ pub(crate) fn hear_alert(sent: SentRecords, window: Window, fragment: &[u8]) -> 
     ensures { result ≡ heard_alert sent window fragment.now }
 {
     match alert::read(fragment) {
-        alert::Reading::Malformed => refuse(window, Refusal::Malformed),
-        alert::Reading::WellFormed(a) => {
+        None => refuse(window, Refusal::Malformed),
+        Some(a) => {
             if !sent.matches(a.checksum) {
                 return refuse(window, Refusal::Checksum);
             }

@@ -9,10 +9,9 @@ use crate::agree::message_in;
 use crate::send::{Sent, done, refused};
 use crate::state::State;
 use crate::unit::Unit;
-use connection::calls::Outcome;
 use connection::refusal::Refusal;
 use message::offer;
-use message::offer::{Named, Offer};
+use message::offer::Offer;
 use record::checksum::checksum;
 use record::header::Content;
 use record::written::write_clear;
@@ -29,13 +28,13 @@ pub fn hello(u: Unit, random: &[u8], macs: &[u8], refresh: u32, out: &mut [u8]) 
     if 255 < refresh {
         return refused(u, Refusal::Argument);
     }
-    let Named::Are(kinds) = offer::kinds_of(macs) else {
+    let Some(kinds) = offer::kinds_of(macs) else {
         return refused(u, Refusal::Argument);
     };
     let state = u.state;
     match may_hello(state) {
-        Outcome::Refused(refusal) => refused(u, refusal),
-        Outcome::Done => {
+        Err(refusal) => refused(u, refusal),
+        Ok(()) => {
             let mut ours = [0u8; 16];
             digest::put(&mut ours, 0, random);
             let offer = Offer {
@@ -67,18 +66,18 @@ pub fn again(u: Unit, out: &mut [u8]) -> Sent
 }
 
 // A hello is written in Idle.
-fn may_hello(state: State) -> Outcome
+fn may_hello(state: State) -> Result<(), Refusal>
     ensures { result ≡ may_hello state }
 {
     match state {
-        State::Idle => Outcome::Done,
-        State::Sent => Outcome::Refused(Refusal::NotAllowed),
-        State::Replied => Outcome::Refused(Refusal::NotAllowed),
-        State::Spec => Outcome::Refused(Refusal::NotAllowed),
-        State::Opening => Outcome::Refused(Refusal::NotAllowed),
-        State::Open => Outcome::Refused(Refusal::NotAllowed),
-        State::Closed => Outcome::Refused(Refusal::Ended),
-        State::Barred => Outcome::Refused(Refusal::Ended),
+        State::Idle => Ok(()),
+        State::Sent => Err(Refusal::NotAllowed),
+        State::Replied => Err(Refusal::NotAllowed),
+        State::Spec => Err(Refusal::NotAllowed),
+        State::Opening => Err(Refusal::NotAllowed),
+        State::Open => Err(Refusal::NotAllowed),
+        State::Closed => Err(Refusal::Ended),
+        State::Barred => Err(Refusal::Ended),
     }
 }
 

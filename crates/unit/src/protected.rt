@@ -9,11 +9,11 @@ use crate::step::{Move, Step, lead, refuse};
 use connection::refusal::Refusal;
 use digest::Mac;
 use message::alert::{Description, Level};
-use message::finished::Verified;
+use message::finished::Unverified;
 use message::request::is_request;
 use message::{alert, finished};
 use record::keys::Sense;
-use record::protection::{Opened, Protection};
+use record::protection::{Protection, Unopened};
 use record::window::Window;
 
 // A protected record of an allowed kind: its type byte, its number, and its fragment, which stands at `at`.
@@ -35,10 +35,10 @@ pub(crate) fn unprotect(
     let opening = protection.open(Sense::FromShore, number, byte, fragment);
     let opened = opening.opened;
     match opened {
-        Opened::Forged => refuse(window, Refusal::Forged),
-        Opened::TooOld => refuse(window, Refusal::TooOld),
-        Opened::Repeated => refuse(window, Refusal::Repeated),
-        Opened::New(size) => {
+        Err(Unopened::Forged) => refuse(window, Refusal::Forged),
+        Err(Unopened::TooOld) => refuse(window, Refusal::TooOld),
+        Err(Unopened::Repeated) => refuse(window, Refusal::Repeated),
+        Ok(size) => {
             let left = opening.protection;
             content(
                 left.window,
@@ -98,8 +98,8 @@ fn alerted(window: Window, content: &[u8]) -> Step
     ensures { result ≡ alerted_by window content.now }
 {
     match alert::read(content) {
-        alert::Reading::Malformed => refuse(window, Refusal::Malformed),
-        alert::Reading::WellFormed(a) => {
+        None => refuse(window, Refusal::Malformed),
+        Some(a) => {
             let level = a.level;
             let description = a.description;
             match level {
@@ -136,9 +136,9 @@ fn verified(window: Window, mac: Mac, expected: [u8; 12], state: State, content:
     ensures { result ≡ verified_by window mac expected state content.now }
 {
     match finished::judge(content, &expected) {
-        Verified::Malformed => refuse(window, Refusal::Malformed),
-        Verified::Wrong => lead(Answer::Refused(Refusal::WrongFinished), window, Move::Close),
-        Verified::Right => opened(window, mac, state),
+        Err(Unverified::Malformed) => refuse(window, Refusal::Malformed),
+        Err(Unverified::Wrong) => lead(Answer::Refused(Refusal::WrongFinished), window, Move::Close),
+        Ok(()) => opened(window, mac, state),
     }
 }
 

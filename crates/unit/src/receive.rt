@@ -7,13 +7,13 @@ ghost use Rattle.unit.specs.Receive.{received_of, output_of, whole_of, run_of, f
 use crate::answer::{Answer, Slot, opens_by};
 use crate::judge::judge;
 use crate::unit::Unit;
-use connection::receive::Taken;
+use connection::receive::Untaken;
 use connection::refusal::Refusal;
 use record::datagram::{Outcome, Walk, walked};
 
 #[derive(Clone, Copy)]
 pub struct Received {
-    pub taken: Taken,
+    pub taken: Result<usize, Untaken>,
     // an answer for each record, and Nothing behind them
     pub answers: [Slot; 8],
     // how many bytes stand at the front of the output
@@ -27,18 +27,18 @@ pub fn receive(u: Unit, datagram: &[u8], out: &mut [u8]) -> Received
     ensures bytes { out.new ≡ output_of u datagram.now out.old }
 {
     if out.len() < 128 {
-        return whole(u, Taken::Refused(Refusal::Room));
+        return whole(u, Err(Untaken::Refused(Refusal::Room)));
     }
     let walk = walked(datagram);
     let outcome = walk.outcome;
     match outcome {
-        Outcome::Refused(fault, at) => whole(u, Taken::Misframed(Refusal::Framing(fault), at)),
+        Outcome::Refused(fault, at) => whole(u, Err(Untaken::Misframed(Refusal::Framing(fault), at))),
         Outcome::Sound => each(u, datagram, walk, out),
     }
 }
 
 // The datagram refused as a whole: nothing changes.
-fn whole(u: Unit, taken: Taken) -> Received
+fn whole(u: Unit, taken: Result<usize, Untaken>) -> Received
     ensures { result ≡ whole_of u taken }
 {
     let nothing = Slot {
@@ -78,7 +78,7 @@ fn each(u: Unit, d: &[u8], walk: Walk, out: &mut [u8]) -> Received
     let flight = left.flight;
     let written = put_flight(flight, opens, out);
     Received {
-        taken: Taken::Records(count),
+        taken: Ok(count),
         answers,
         written,
         unit: left,

@@ -6,20 +6,18 @@ ghost use Rattle.unit.specs.Send.{data_sent, data_output, alert_sent, alert_outp
 
 use crate::state::State;
 use crate::unit::Unit;
-use connection::calls::Outcome;
 use connection::refusal::Refusal;
 use message::alert;
-use message::alert::{Graded, Sorted};
 use record::checksum::checksum;
 use record::header::Content;
 use record::keys::Sense;
-use record::protection::Wrote;
+use record::protection::Unwritten;
 use record::written::write_clear;
 
 // The outcome of a call that writes, how many bytes stand at the front of the output, and the unit that it leaves.
 #[derive(Clone, Copy)]
 pub struct Sent {
-    pub outcome: Outcome,
+    pub outcome: Result<(), Refusal>,
     pub written: usize,
     pub unit: Unit,
 }
@@ -37,8 +35,8 @@ pub fn send_data(u: Unit, data: &[u8], out: &mut [u8]) -> Sent
     }
     let state = u.state;
     match may_protect(state) {
-        Outcome::Refused(refusal) => refused(u, refusal),
-        Outcome::Done => protected(u, Content::Data, data, out),
+        Err(refusal) => refused(u, refusal),
+        Ok(()) => protected(u, Content::Data, data, out),
     }
 }
 
@@ -55,10 +53,10 @@ pub fn send_alert(
     ensures exact { result ≡ alert_sent u protected level description answered.now (length out.old) }
     ensures bytes { out.new ≡ alert_output u protected level description answered.now out.old }
 {
-    let Graded::Is(graded) = alert::grade(level) else {
+    let Some(graded) = alert::grade(level) else {
         return refused(u, Refusal::Argument);
     };
-    let Sorted::Assigned(sorted) = alert::sort(description) else {
+    let Some(sorted) = alert::sort(description) else {
         return refused(u, Refusal::Argument);
     };
     if 1400 < answered.len() {
@@ -76,45 +74,45 @@ fn send_body(u: Unit, shut: bool, bytes: [u8; 6], out: &mut [u8]) -> Sent
     let state = u.state;
     if shut {
         return match may_protect(state) {
-            Outcome::Refused(refusal) => refused(u, refusal),
-            Outcome::Done => protected(u, Content::Alert, &bytes, out),
+            Err(refusal) => refused(u, refusal),
+            Ok(()) => protected(u, Content::Alert, &bytes, out),
         };
     }
     match may_clear(state) {
-        Outcome::Refused(refusal) => refused(u, refusal),
-        Outcome::Done => clear(u, &bytes, out),
+        Err(refusal) => refused(u, refusal),
+        Ok(()) => clear(u, &bytes, out),
     }
 }
 
 // Data and protected alerts are sent in Opening and in Open.
-fn may_protect(state: State) -> Outcome
+fn may_protect(state: State) -> Result<(), Refusal>
     ensures { result ≡ may_protect state }
 {
     match state {
-        State::Idle => Outcome::Refused(Refusal::NotAllowed),
-        State::Sent => Outcome::Refused(Refusal::NotAllowed),
-        State::Replied => Outcome::Refused(Refusal::NotAllowed),
-        State::Spec => Outcome::Refused(Refusal::NotAllowed),
-        State::Opening => Outcome::Done,
-        State::Open => Outcome::Done,
-        State::Closed => Outcome::Refused(Refusal::Ended),
-        State::Barred => Outcome::Refused(Refusal::Ended),
+        State::Idle => Err(Refusal::NotAllowed),
+        State::Sent => Err(Refusal::NotAllowed),
+        State::Replied => Err(Refusal::NotAllowed),
+        State::Spec => Err(Refusal::NotAllowed),
+        State::Opening => Ok(()),
+        State::Open => Ok(()),
+        State::Closed => Err(Refusal::Ended),
+        State::Barred => Err(Refusal::Ended),
     }
 }
 
 // Clear alerts are sent in Sent, Replied and Spec.
-fn may_clear(state: State) -> Outcome
+fn may_clear(state: State) -> Result<(), Refusal>
     ensures { result ≡ may_clear state }
 {
     match state {
-        State::Idle => Outcome::Refused(Refusal::NotAllowed),
-        State::Sent => Outcome::Done,
-        State::Replied => Outcome::Done,
-        State::Spec => Outcome::Done,
-        State::Opening => Outcome::Refused(Refusal::NotAllowed),
-        State::Open => Outcome::Refused(Refusal::NotAllowed),
-        State::Closed => Outcome::Refused(Refusal::Ended),
-        State::Barred => Outcome::Refused(Refusal::Ended),
+        State::Idle => Err(Refusal::NotAllowed),
+        State::Sent => Ok(()),
+        State::Replied => Ok(()),
+        State::Spec => Ok(()),
+        State::Opening => Err(Refusal::NotAllowed),
+        State::Open => Err(Refusal::NotAllowed),
+        State::Closed => Err(Refusal::Ended),
+        State::Barred => Err(Refusal::Ended),
     }
 }
 
@@ -127,9 +125,9 @@ fn protected(u: Unit, content: Content, body: &[u8], out: &mut [u8]) -> Sent
     let writing = protection.write(Sense::FromUnit, content, body, out);
     let wrote = writing.wrote;
     match wrote {
-        Wrote::Spent => refused(u, Refusal::Spent),
-        Wrote::NoRoom => refused(u, Refusal::Room),
-        Wrote::Done(size) => {
+        Err(Unwritten::Spent) => refused(u, Refusal::Spent),
+        Err(Unwritten::NoRoom) => refused(u, Refusal::Room),
+        Ok(size) => {
             let last = checksum(&out[..size]);
             done(u.with_sent(writing.protection, last), size)
         }
@@ -161,7 +159,7 @@ pub(crate) fn refused(u: Unit, refusal: Refusal) -> Sent
     ensures { result ≡ unsent u refusal }
 {
     Sent {
-        outcome: Outcome::Refused(refusal),
+        outcome: Err(refusal),
         written: 0,
         unit: u,
     }
@@ -171,7 +169,7 @@ pub(crate) fn done(u: Unit, written: usize) -> Sent
     ensures { result ≡ done_with written u }
 {
     Sent {
-        outcome: Outcome::Done,
+        outcome: Ok(()),
         written,
         unit: u,
     }

@@ -7,14 +7,14 @@ use lib.ListN.{length}
 use Rattle.message.specs.Hello.{read_of}
 use Rattle.message.specs.declared.hello.Place.{Place}
 use Rattle.message.specs.declared.hello.Hello.{Hello}
-use Rattle.message.specs.declared.hello.Reading.{Reading}
-use Rattle.message.specs.declared.hello.Reading.TheVariants as R
 use Rattle.message.specs.declared.acceptance.Condition.{Condition}
 use Rattle.message.specs.declared.acceptance.Condition.TheVariants as C
 use Rattle.message.proofs.Fields.{field_there}
 use Rattle.message.proofs.Rests.{short_there}
 use Rattle.message.proofs.Givens.{Walked, walked, suites_there, random_end, trusted_end, pairs_end, methods_end}
 use Rattle.why.specs.Hello.{field_for, place_in}
+use Rattle.std.specs.Prelude.{Err, Ok, Result}
+use Rattle.message.specs.declared.hello.Field.{Field}
 
 inside_of : (m : List ℕ) (h : Hello) → Walked m h → (condition : Condition) → (field_for h condition).from ≤ length m
 inside_of m h w C.Version = omega (arith, (field_there m 3 1 w.version).1, ap (λ (x : Hello). x.version.from) w.places)
@@ -34,9 +34,9 @@ inside_of m h w C.Numbering =
 place_inside : (m : List ℕ) (condition : Condition) → (place_in (read_of m) condition).from ≤ length m
 place_inside m condition = go (read_of m) refl
   where
-    go : (x : Reading) → read_of m ≡ x → (place_in x condition).from ≤ length m
-    go (R.WellFormed h) e = inside_of m h (walked m h e) condition
-    go (R.Malformed fault) e = omega arith
+    go : (x : Result Hello Field) → read_of m ≡ x → (place_in x condition).from ≤ length m
+    go (Ok h) e = inside_of m h (walked m h e) condition
+    go (Err fault) e = omega arith
 
 pub place_bound : (m : List ℕ) (condition : Condition) (p : Place) → p ≡ place_in (read_of m) condition → p.from ≤ length m
 place_bound m condition p e = rw e (place_inside m condition)

@@ -1,7 +1,8 @@
 -- Why a record is refused (02, "Why was this report dropped?"): "names the reason together with what bears on it". The refusal alone
 -- decides the reason, and its facts are read beside it: from the connection that the records before this one left, from the record and
 -- from the datagram.
-use Rattle.std.specs.Prelude.{Bool, true, false, List, ℕ, ◌+◌, eqb}
+use Rattle.std.specs.Prelude.{Bool, true, false, List, ℕ, ◌+◌, eqb, Err, Ok, Result}
+use Rattle.connection.specs.declared.receive.Untaken.{Untaken}
 use Rattle.digest.specs.Pick.{pick}
 use Rattle.digest.specs.Bytes.{word_at}
 use Rattle.record.specs.Protection.{content_under}
@@ -19,8 +20,7 @@ use Rattle.connection.specs.declared.answer.Answer.TheVariants as A
 use Rattle.connection.specs.declared.asked.Whom.{Whom}
 use Rattle.connection.specs.declared.handshake.Handshake.{Handshake}
 use Rattle.connection.specs.declared.connection.Connection.{Connection}
-use Rattle.connection.specs.declared.receive.Taken.{Taken}
-use Rattle.connection.specs.declared.receive.Taken.TheVariants as T
+use Rattle.connection.specs.declared.receive.Untaken.TheVariants as T
 use Rattle.connection.specs.declared.point.Point.{Point}
 use Rattle.why.specs.Framing.{fault_reason}
 use Rattle.why.specs.Hello.{field_of, unmet_of}
@@ -114,10 +114,10 @@ why_record p d index =
     }
 
 -- "A framing fault is the reason at every index."
-abbrev pub why_taken : Point → List ℕ → ℕ → Taken → Why
-why_taken p d index (T.Records count) = why_record p d index
-why_taken p d index (T.Refused refusal) = why_whole p.connection (reason_at p d 0 refusal)
-why_taken p d index (T.Misframed refusal at) = why_whole p.connection (reason_at p d at refusal)
+abbrev pub why_taken : Point → List ℕ → ℕ → Result ℕ Untaken → Why
+why_taken p d index (Ok count) = why_record p d index
+why_taken p d index (Err (T.Refused refusal)) = why_whole p.connection (reason_at p d 0 refusal)
+why_taken p d index (Err (T.Misframed refusal at)) = why_whole p.connection (reason_at p d at refusal)
 
 -- "an unknown edition is 16" (02, "Two editions of the algorithm list")
 abbrev pub is_edition : ℕ → Bool

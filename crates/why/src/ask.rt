@@ -16,7 +16,7 @@ use connection::asked::Whom;
 use connection::connection::Connection;
 use connection::handshake::Handshake;
 use connection::point::{Point, asked_at, point_at};
-use connection::receive::Taken;
+use connection::receive::Untaken;
 use connection::refusal::Refusal;
 use connection::state::{Kind, kind_of};
 use record::header::Content;
@@ -34,9 +34,9 @@ pub fn why(edition: u32, c: Connection, datagram: &[u8], random: &[u8], index: u
     let p = point_at(c, datagram, random, index);
     let taken = p.taken;
     match taken {
-        Taken::Records(_) => of_record(p, datagram, index),
-        Taken::Refused(refusal) => whole(p.connection, reason_at(p, datagram, 0, refusal)),
-        Taken::Misframed(refusal, at) => whole(p.connection, reason_at(p, datagram, at, refusal)),
+        Ok(_) => of_record(p, datagram, index),
+        Err(Untaken::Refused(refusal)) => whole(p.connection, reason_at(p, datagram, 0, refusal)),
+        Err(Untaken::Misframed(refusal, at)) => whole(p.connection, reason_at(p, datagram, at, refusal)),
     }
 }
 

@@ -4,9 +4,9 @@ ghost use Rattle.why.specs.Hello.{field_of, condition_in, place_in, field_for, u
 
 use crate::framing::less;
 use crate::reason::Reason;
-use message::acceptance::{Condition, Heard, hear};
+use message::acceptance::{Condition, Unheard, hear};
 use message::hello;
-use message::hello::{Field, Hello, Place, Reading};
+use message::hello::{Field, Hello, Place};
 
 // The first field at fault of a malformed hello, its size asked first.
 pub(crate) fn field_of(m: &[u8]) -> Field
@@ -16,8 +16,8 @@ pub(crate) fn field_of(m: &[u8]) -> Field
         return Field::Size;
     }
     match hello::read(m) {
-        Reading::WellFormed(_) => Field::Rest,
-        Reading::Malformed(fault) => fault,
+        Ok(_) => Field::Rest,
+        Err(fault) => fault,
     }
 }
 
@@ -35,22 +35,22 @@ pub(crate) fn unmet(at: usize, m: &[u8], planted: &[u8]) -> Reason
     }
 }
 
-fn condition_in(heard: Heard) -> Condition
+fn condition_in(heard: Result<Plan, Unheard>) -> Condition
     ensures { result ≡ condition_in heard }
 {
     match heard {
-        Heard::Accepted(_) => Condition::Numbering,
-        Heard::Unacceptable(condition) => condition,
-        Heard::Malformed(_) => Condition::Numbering,
+        Ok(_) => Condition::Numbering,
+        Err(Unheard::Unacceptable(condition)) => condition,
+        Err(Unheard::Malformed(_)) => Condition::Numbering,
     }
 }
 
-fn place_in(reading: Reading, condition: Condition) -> Place
+fn place_in(reading: Result<Hello, Field>, condition: Condition) -> Place
     ensures { result ≡ place_in reading condition }
 {
     match reading {
-        Reading::WellFormed(h) => field_for(h, condition),
-        Reading::Malformed(_) => Place { from: 0, end: 0 },
+        Ok(h) => field_for(h, condition),
+        Err(_) => Place { from: 0, end: 0 },
     }
 }
 

@@ -9,8 +9,6 @@ use Rattle.record.specs.Window.{Held}
 use Rattle.connection.specs.Calls.{fresh_of, closed_in, started_in}
 use Rattle.connection.specs.declared.connection.Connection.{Connection}
 use Rattle.connection.specs.declared.calls.Called.{Called}
-use Rattle.connection.specs.declared.calls.Outcome.{Outcome}
-use Rattle.connection.specs.declared.calls.Outcome.TheVariants.{Done, Refused}
 use Rattle.connection.specs.declared.refusal.Refusal.{Refusal}
 use Rattle.connection.specs.declared.refusal.Refusal.TheVariants as X
 use Rattle.connection.specs.declared.state.State.{State}
@@ -20,9 +18,10 @@ use Rattle.demands.specs.Calls.{FreshRow, fresh_16, fresh_done}
 use Rattle.demands.proofs.Calls.{fresh-of, fresh_row}
 use Rattle.demands.specs.Exactly.Calls.{WhyStart, ExactlyStart, WhyClose, ExactlyClose, WhyFresh, ExactlyFresh}
 use Rattle.demands.proofs.Exactly.Reasons.{Holds, refused_when, done-when, through}
+use Rattle.std.specs.Prelude.{Err, Ok, Result, ⊤}
 
 -- what comes back of a call is its outcome
-called_is : (o p : Outcome) → (called o ≡ called p) ↔ (o ≡ p)
+called_is : (o p : Result ⊤ Refusal) → (called o ≡ called p) ↔ (o ≡ p)
 called_is o p = (λ e. cc, ap called)
 
 -- ---- start again
@@ -35,7 +34,7 @@ start-holds h S.Open = inr (inr (inr refl))
 start-holds h S.Closed = refl
 start-holds h S.Barred = refl
 
-start-because : (h : Connection) (s : State) (x : Refusal) → WhyStart s x → (started_in h s).outcome ≡ Refused x
+start-because : (h : Connection) (s : State) (x : Refusal) → WhyStart s x → (started_in h s).outcome ≡ Err x
 start-because h s X.Ended e = ap (λ y. (started_in h y).outcome) e
 start-because h s X.NotAllowed (inl e) = ap (λ y. (started_in h y).outcome) e
 start-because h s X.NotAllowed (inr (inl e)) = ap (λ y. (started_in h y).outcome) e
@@ -59,12 +58,12 @@ exactly-start =
     record {
       refused = λ c x.
           let h : State = c.handshake.state in
-          through (called_is (started_in c h).outcome (Refused x))
+          through (called_is (started_in c h).outcome (Err x))
           (refused_when (WhyStart h) (h ≡ S.Closed) (started_in c h).outcome
           (start-holds c h) (start-because c h) x);
       goes = λ c.
           let h : State = c.handshake.state in
-          through (called_is (started_in c h).outcome Done)
+          through (called_is (started_in c h).outcome (Ok tt))
           (done-when (WhyStart h) (h ≡ S.Closed) (started_in c h).outcome
           (start-holds c h) (ap (λ y. (started_in c y).outcome)));
     }
@@ -79,7 +78,7 @@ close-holds h S.Open = λ e. let z : ◌≡◌ {A = ℕ} 0 1 = cc in omega arith
 close-holds h S.Closed = λ e. let z : ◌≡◌ {A = ℕ} 0 1 = cc in omega arith
 close-holds h S.Barred = refl
 
-close-because : (h : Connection) (s : State) (x : Refusal) → WhyClose s x → (closed_in h s).outcome ≡ Refused x
+close-because : (h : Connection) (s : State) (x : Refusal) → WhyClose s x → (closed_in h s).outcome ≡ Err x
 close-because h s X.Ended e = ap (λ y. (closed_in h y).outcome) e
 close-because h s (X.Framing fault) w = absurd w
 close-because h s X.Room w = absurd w
@@ -94,7 +93,7 @@ close-because h s X.Spent w = absurd w
 close-because h s X.Argument w = absurd w
 close-because h s X.WrongFinished w = absurd w
 
-close-goes : (h : Connection) (s : State) → s ≢ S.Barred → (closed_in h s).outcome ≡ Done
+close-goes : (h : Connection) (s : State) → s ≢ S.Barred → (closed_in h s).outcome ≡ Ok tt
 close-goes h S.Idle n = refl
 close-goes h S.Replied n = refl
 close-goes h S.Spec n = refl
@@ -108,12 +107,12 @@ exactly-close =
     record {
       refused = λ c x.
           let h : State = c.handshake.state in
-          through (called_is (closed_in c h).outcome (Refused x))
+          through (called_is (closed_in c h).outcome (Err x))
           (refused_when (WhyClose h) (h ≢ S.Barred) (closed_in c h).outcome
           (close-holds c h) (close-because c h) x);
       goes = λ c.
           let h : State = c.handshake.state in
-          through (called_is (closed_in c h).outcome Done)
+          through (called_is (closed_in c h).outcome (Ok tt))
           (done-when (WhyClose h) (h ≢ S.Barred) (closed_in c h).outcome
           (close-holds c h) (close-goes c h));
     }
@@ -135,10 +134,10 @@ module _ (id secret : List ℕ) (width : ℕ) where
   fresh_holds : Holds Why Goes (fresh_of id secret width).outcome
   fresh_holds = row-holds (fresh-of id secret width)
 
-  fresh-goes : Goes → (fresh_of id secret width).outcome ≡ Done
+  fresh-goes : Goes → (fresh_of id secret width).outcome ≡ Ok tt
   fresh-goes (eight, twenty, held) = ap (λ s. s.outcome) (fresh_row id secret width (fresh_done eight twenty held))
 
-  fresh-because : (x : Refusal) → Why x → (fresh_of id secret width).outcome ≡ Refused x
+  fresh-because : (x : Refusal) → Why x → (fresh_of id secret width).outcome ≡ Err x
   fresh-because X.Argument w = ap (λ s. s.outcome) (fresh_row id secret width (fresh_16 w))
   fresh-because (X.Framing fault) w = absurd w
   fresh-because X.Room w = absurd w

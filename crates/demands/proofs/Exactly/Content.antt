@@ -20,18 +20,15 @@ use Rattle.message.specs.Finished.{judged_of}
 use Rattle.message.specs.Handshake.{fills, finished}
 use Rattle.message.proofs.Written.{Filled, filled, fills_of}
 use Rattle.message.specs.declared.alert.Alert.{Alert}
-use Rattle.message.specs.declared.alert.Graded.{Graded}
-use Rattle.message.specs.declared.alert.Graded.TheVariants as G
-use Rattle.message.specs.declared.alert.Sorted.{Sorted}
-use Rattle.message.specs.declared.alert.Sorted.TheVariants as D
-use Rattle.message.specs.declared.alert.Reading.{Reading}
-use Rattle.message.specs.declared.alert.Reading.TheVariants as R
-use Rattle.message.specs.declared.finished.Verified.{Verified}
-use Rattle.message.specs.declared.finished.Verified.TheVariants as F
+use Rattle.message.specs.declared.finished.Unverified.TheVariants as F
 use Rattle.demands.specs.Exactly.Numbers.{is_assigned}
 use Rattle.demands.specs.Exactly.Record.{IsAlert, IsFinished}
 use Rattle.demands.proofs.Exactly.Reasons.{clash, decide}
 use Rattle.demands.proofs.Exactly.Sends.{LevelHolds, level_holds, SortedHolds, sorted-holds}
+use Rattle.std.specs.Prelude.{Err, None, Ok, Option, Result, Some, ⊤}
+use Rattle.message.specs.declared.alert.Description.{Description}
+use Rattle.message.specs.declared.alert.Level.{Level}
+use Rattle.message.specs.declared.finished.Unverified.{Unverified}
 
 -- ---- change cipher spec
 
@@ -56,17 +53,17 @@ not-change s n = decide (is_change s) (λ e. absurd (n (change-is s e))) (λ e. 
 
 -- ---- alerts
 
-abbrev pub AlertHolds : List ℕ → Reading → Type 0
-AlertHolds s R.Malformed = IsAlert s → ⊥
-AlertHolds s (R.WellFormed a) = IsAlert s × (a.checksum ≡ word_at s 2)
+abbrev pub AlertHolds : List ℕ → Option Alert → Type 0
+AlertHolds s None = IsAlert s → ⊥
+AlertHolds s (Some a) = IsAlert s × (a.checksum ≡ word_at s 2)
 
-leveled-holds : (s : List ℕ) → length s ≡ 6 → (g : Graded) (t : Sorted) → LevelHolds (get_or s 0 0) g
+leveled-holds : (s : List ℕ) → length s ≡ 6 → (g : Option Level) (t : Option Description) → LevelHolds (get_or s 0 0) g
     → SortedHolds (is_assigned (get_or s 1 0)) t
     → AlertHolds s (leveled g t (word_at s 2))
-leveled-holds s l (G.Is level) (D.Assigned d) (a, b) k = ((l, a, b, k), refl)
-leveled-holds s l (G.Is level) D.Unassigned ab k = λ w. let z : ◌≡◌ {A = ℕ} 0 1 = cc w.3 in omega arith
-leveled-holds s l G.Unassigned t (inl e) k = λ w. omega (arith, w.1)
-leveled-holds s l G.Unassigned t (inr e) k = λ w. omega (arith, w.2)
+leveled-holds s l (Some level) (Some d) (a, b) k = ((l, a, b, k), refl)
+leveled-holds s l (Some level) None ab k = λ w. let z : ◌≡◌ {A = ℕ} 0 1 = cc w.3 in omega arith
+leveled-holds s l None t (inl e) k = λ w. omega (arith, w.1)
+leveled-holds s l None t (inr e) k = λ w. omega (arith, w.2)
 
 pub alert-holds : (s : List ℕ) → AlertHolds s (alert_of s)
 unfolding alert_of
@@ -76,27 +73,27 @@ alert-holds s =
     (level_holds (get_or s 0 0)) (sorted-holds (get_or s 1 0))))
     (λ e. rw e (λ w. eqb-false (length s) 6 e w.0))
 
-pub not-alert : (s : List ℕ) → (IsAlert s → ⊥) → alert_of s ≡ R.Malformed
+pub not-alert : (s : List ℕ) → (IsAlert s → ⊥) → alert_of s ≡ None
 not-alert s n = go (alert_of s) (alert-holds s)
   where
-    go : (x : Reading) → AlertHolds s x → x ≡ R.Malformed
-    go R.Malformed w = refl
-    go (R.WellFormed a) w = absurd (n w.0)
+    go : (x : Option Alert) → AlertHolds s x → x ≡ None
+    go None w = refl
+    go (Some a) w = absurd (n w.0)
 
-pub is_alert : (s : List ℕ) → IsAlert s → (a : Alert) × (alert_of s ≡ R.WellFormed a) × (a.checksum ≡ word_at s 2)
+pub is_alert : (s : List ℕ) → IsAlert s → (a : Alert) × (alert_of s ≡ Some a) × (a.checksum ≡ word_at s 2)
 is_alert s i = go (alert_of s) refl (alert-holds s)
   where
-    go : (x : Reading) → alert_of s ≡ x → AlertHolds s x
-        → (a : Alert) × (alert_of s ≡ R.WellFormed a) × (a.checksum ≡ word_at s 2)
-    go R.Malformed e w = absurd (w i)
-    go (R.WellFormed a) e w = (a, e, w.1)
+    go : (x : Option Alert) → alert_of s ≡ x → AlertHolds s x
+        → (a : Alert) × (alert_of s ≡ Some a) × (a.checksum ≡ word_at s 2)
+    go None e w = absurd (w i)
+    go (Some a) e w = (a, e, w.1)
 
 -- ---- Finished
 
-abbrev pub FinishedHolds : List ℕ → List ℕ → Verified → Type 0
-FinishedHolds s expected F.Right = IsFinished s × (drop 3 s ≡ expected)
-FinishedHolds s expected F.Wrong = IsFinished s × (drop 3 s ≢ expected)
-FinishedHolds s expected F.Malformed = IsFinished s → ⊥
+abbrev pub FinishedHolds : List ℕ → List ℕ → Result ⊤ Unverified → Type 0
+FinishedHolds s expected (Ok tt) = IsFinished s × (drop 3 s ≡ expected)
+FinishedHolds s expected (Err F.Wrong) = IsFinished s × (drop 3 s ≢ expected)
+FinishedHolds s expected (Err F.Malformed) = IsFinished s → ⊥
 
 twelve-left : (s : List ℕ) → length s ≡ 15 → part_of s 3 15 ≡ drop 3 s
 twelve-left s l = take_all 12 (drop 3 s) (omega (arith, length-drop 3 s))
@@ -125,18 +122,18 @@ finished-holds s expected =
     omega arith)))
     (λ a. rw a (λ i. eqb-false (length s) 15 a i.0))
 
-pub not_finished : (s expected : List ℕ) → (IsFinished s → ⊥) → judged_of s expected ≡ F.Malformed
+pub not_finished : (s expected : List ℕ) → (IsFinished s → ⊥) → judged_of s expected ≡ Err F.Malformed
 not_finished s expected n = go (judged_of s expected) (finished-holds s expected)
   where
-    go : (x : Verified) → FinishedHolds s expected x → x ≡ F.Malformed
-    go F.Right w = absurd (n w.0)
-    go F.Wrong w = absurd (n w.0)
-    go F.Malformed w = refl
+    go : (x : Result ⊤ Unverified) → FinishedHolds s expected x → x ≡ Err F.Malformed
+    go (Ok tt) w = absurd (n w.0)
+    go (Err F.Wrong) w = absurd (n w.0)
+    go (Err F.Malformed) w = refl
 
-pub wrong_finished : (s expected : List ℕ) → IsFinished s → drop 3 s ≢ expected → judged_of s expected ≡ F.Wrong
+pub wrong_finished : (s expected : List ℕ) → IsFinished s → drop 3 s ≢ expected → judged_of s expected ≡ Err F.Wrong
 wrong_finished s expected i n = go (judged_of s expected) (finished-holds s expected)
   where
-    go : (x : Verified) → FinishedHolds s expected x → x ≡ F.Wrong
-    go F.Right w = absurd (n w.1)
-    go F.Wrong w = refl
-    go F.Malformed w = absurd (w i)
+    go : (x : Result ⊤ Unverified) → FinishedHolds s expected x → x ≡ Err F.Wrong
+    go (Ok tt) w = absurd (n w.1)
+    go (Err F.Wrong) w = refl
+    go (Err F.Malformed) w = absurd (w i)

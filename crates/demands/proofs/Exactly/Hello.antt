@@ -20,19 +20,17 @@ use Rattle.message.specs.Hello.{read_of}
 use Rattle.message.specs.Values.{Values, values_at}
 use Rattle.message.proofs.Written.{places_of, read_written, written_read}
 use Rattle.message.specs.declared.acceptance.Condition.TheVariants as N
-use Rattle.message.specs.declared.acceptance.Acceptance.{Acceptance}
-use Rattle.message.specs.declared.acceptance.Acceptance.TheVariants as A
 use Rattle.message.specs.declared.acceptance.Condition.{Condition}
-use Rattle.message.specs.declared.acceptance.Heard.{Heard}
-use Rattle.message.specs.declared.acceptance.Heard.TheVariants as H
+use Rattle.message.specs.declared.acceptance.Unheard.TheVariants as H
 use Rattle.message.specs.declared.hello.Field.{Field}
 use Rattle.message.specs.declared.hello.Hello.{Hello}
-use Rattle.message.specs.declared.hello.Reading.{Reading}
-use Rattle.message.specs.declared.hello.Reading.TheVariants as R
 use Rattle.demands.specs.Exactly.Numbers.{is_among}
 use Rattle.demands.specs.Facts.{FirstUnmet}
 use Rattle.demands.specs.Exactly.Record.{Bytes, WellFormedHello, OffersPair, Acceptable}
 use Rattle.demands.proofs.Exactly.Reasons.{clash, decide}
+use Rattle.std.specs.Prelude.{Err, Ok, Result}
+use Rattle.message.specs.declared.acceptance.Plan.{Plan}
+use Rattle.message.specs.declared.acceptance.Unheard.{Unheard}
 
 -- ---- a part of bytes is bytes
 
@@ -103,9 +101,9 @@ null_is (x ∷ s) = ap (pick (eqb x 0) true) (null_is s)
 
 -- ---- acceptance
 
-abbrev AcceptHolds : Values → List ℕ → Acceptance → Type 0
-AcceptHolds v id (A.Accepted plan) = Acceptable v id
-AcceptHolds v id (A.Unacceptable condition) = FirstUnmet v id condition
+abbrev AcceptHolds : Values → List ℕ → Result Plan Condition → Type 0
+AcceptHolds v id (Ok plan) = Acceptable v id
+AcceptHolds v id (Err condition) = FirstUnmet v id condition
 
 module _ (v : Values) (id : List ℕ) where
   paired-holds : v.version ≡ 1 → v.session ≡ id → (l : Listed) → ListedHolds v.suites l
@@ -147,14 +145,14 @@ module _ (v : Values) (id : List ℕ) where
 -- ---- a message that is to be a ClientHello
 
 module _ (m id : List ℕ) where
-  abbrev pub HeardHolds : Heard → Type 0
-  HeardHolds (H.Accepted plan) = Unit
-  HeardHolds (H.Unacceptable condition) = (w : WellFormedHello m) × FirstUnmet w.values id condition
-  HeardHolds (H.Malformed fault) = WellFormedHello m → ⊥
+  abbrev pub HeardHolds : Result Plan Unheard → Type 0
+  HeardHolds (Ok plan) = Unit
+  HeardHolds (Err (H.Unacceptable condition)) = (w : WellFormedHello m) × FirstUnmet w.values id condition
+  HeardHolds (Err (H.Malformed fault)) = WellFormedHello m → ⊥
 
   -- what is written of values is read as well formed
-  pub reads_so : (w : WellFormedHello m) → read_of m ≡ R.WellFormed (places_of w.values)
-  reads_so w = subst (λ l. read_of l ≡ R.WellFormed (places_of w.values)) w.layout
+  pub reads_so : (w : WellFormedHello m) → read_of m ≡ Ok (places_of w.values)
+  reads_so w = subst (λ l. read_of l ≡ Ok (places_of w.values)) w.layout
       (written_read w.values w.can).0
 
   pub values-so : (w : WellFormedHello m) → values_at m (places_of w.values) ≡ w.values
@@ -165,35 +163,35 @@ module _ (m id : List ℕ) where
   unfolding heard_of
   heard-holds b = go (read_of m) refl
     where
-      accepted-as : (h : Hello) → read_of m ≡ R.WellFormed h → (a : Acceptance) → AcceptHolds (values_at m h) id a
+      accepted-as : (h : Hello) → read_of m ≡ Ok h → (a : Result Plan Condition) → AcceptHolds (values_at m h) id a
           → HeardHolds (judged a)
-      accepted-as h e (A.Accepted plan) x = tt
-      accepted-as h e (A.Unacceptable condition) x =
+      accepted-as h e (Ok plan) x = tt
+      accepted-as h e (Err condition) x =
           let written = read_written m b h e in
           (record { values = values_at m h; can = written.0; layout = written.1 }, x)
 
-      go : (r : Reading) → read_of m ≡ r → HeardHolds (heard_as m id r)
-      go (R.WellFormed h) e = accepted-as h e (acceptance_of (values_at m h) id) (accept-holds (values_at m h) id)
-      go (R.Malformed fault) e = λ w. let t : R.Malformed fault ≡ R.WellFormed (places_of w.values) = sym e
+      go : (r : Result Hello Field) → read_of m ≡ r → HeardHolds (heard_as m id r)
+      go (Ok h) e = accepted-as h e (acceptance_of (values_at m h) id) (accept-holds (values_at m h) id)
+      go (Err fault) e = λ w. let t : Err fault ≡ Ok (places_of w.values) = sym e
           ∙ reads_so w in let n : ◌≡◌ {A = ℕ} 0 1 = cc in omega arith
 
-  pub not-hello : Bytes m → (WellFormedHello m → ⊥) → (fault : Field) × (heard_of m id ≡ H.Malformed fault)
+  pub not-hello : Bytes m → (WellFormedHello m → ⊥) → (fault : Field) × (heard_of m id ≡ Err (H.Malformed fault))
   unfolding heard_of
   not-hello b n = go (read_of m) refl
     where
-      go : (r : Reading) → read_of m ≡ r → (fault : Field) × (heard_as m id r ≡ H.Malformed fault)
-      go (R.WellFormed h) e =
+      go : (r : Result Hello Field) → read_of m ≡ r → (fault : Field) × (heard_as m id r ≡ Err (H.Malformed fault))
+      go (Ok h) e =
           let written = read_written m b h e in
           absurd (n (record { values = values_at m h; can = written.0; layout = written.1 }))
-      go (R.Malformed fault) e = (fault, refl)
+      go (Err fault) e = (fault, refl)
 
   pub not-acceptable : (w : WellFormedHello m) → (Acceptable w.values id → ⊥)
-      → (condition : Condition) × (heard_of m id ≡ H.Unacceptable condition)
+      → (condition : Condition) × (heard_of m id ≡ Err (H.Unacceptable condition))
   unfolding heard_of
   not-acceptable w n =
       let (condition, e) = go (acceptance_of w.values id) (accept-holds w.values id) in
       (condition, ap (heard_as m id) (reads_so w) ∙ ap (λ v. judged (acceptance_of v id)) (values-so w) ∙ ap judged e)
     where
-      go : (a : Acceptance) → AcceptHolds w.values id a → (condition : Condition) × (a ≡ A.Unacceptable condition)
-      go (A.Accepted plan) x = absurd (n x)
-      go (A.Unacceptable condition) x = (condition, refl)
+      go : (a : Result Plan Condition) → AcceptHolds w.values id a → (condition : Condition) × (a ≡ Err condition)
+      go (Ok plan) x = absurd (n x)
+      go (Err condition) x = (condition, refl)

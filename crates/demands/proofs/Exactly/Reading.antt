@@ -16,9 +16,9 @@ use Rattle.record.specs.Reader.{read_of, read_as, framed_of, head_of, size_of, p
 use Rattle.record.specs.declared.header.Kind.{Kind}
 use Rattle.record.specs.declared.reader.Record.{Record}
 use Rattle.record.specs.declared.reader.Fault.TheVariants as F
-use Rattle.record.specs.declared.reader.Reading.TheVariants.{Sound, Refused}
 use Rattle.demands.specs.Exactly.Whole.{type_at, long_at, numbered_at, reserved_at, content_at, head_at, size_at, WrongType, RightType, HeaderPasses, WrongFragment, SoundAt}
 use Rattle.demands.proofs.Exactly.Reasons.{decide}
+use Rattle.std.specs.Prelude.{Err, Ok}
 
 -- ---- the reader's tests, over the part alone
 
@@ -41,16 +41,16 @@ made_of s =
     }
 
 module _ (s : List ℕ) (some : 0 < length s) where
-  part_type : sound_kind (kind_at s) ≡ false → read_of s ≡ Refused F.Kind
+  part_type : sound_kind (kind_at s) ≡ false → read_of s ≡ Err F.Kind
   unfolding read_of read_as
   part_type k = rw (ne_eqb (length s) 0 (λ e. omega arith), k) refl
 
-  part-head : sound_kind (kind_at s) ≡ true → length s < head_of (kind_at s) → read_of s ≡ Refused F.Header
+  part-head : sound_kind (kind_at s) ≡ true → length s < head_of (kind_at s) → read_of s ≡ Err F.Header
   unfolding read_of read_as
   part-head k l = rw (ne_eqb (length s) 0 (λ e. omega arith), k, lt-ltb (length s) (head_of (kind_at s)) l) refl
 
   part-empty : sound_kind (kind_at s) ≡ true → head_of (kind_at s) ≤ length s → size_of s (kind_at s) ≡ 0
-      → read_of s ≡ Refused F.Fragment
+      → read_of s ≡ Err F.Fragment
   unfolding read_of read_as framed_of
   part-empty k l z =
       rw (
@@ -62,7 +62,7 @@ module _ (s : List ℕ) (some : 0 < length s) where
       ) refl
 
   part_past : sound_kind (kind_at s) ≡ true → head_of (kind_at s) ≤ length s → 0 < size_of s (kind_at s)
-      → length s < head_of (kind_at s) + size_of s (kind_at s) → read_of s ≡ Refused F.Fragment
+      → length s < head_of (kind_at s) + size_of s (kind_at s) → read_of s ≡ Err F.Fragment
   unfolding read_of read_as framed_of
   part_past k l z p =
       let h : ℕ = head_of (kind_at s) in
@@ -77,7 +77,7 @@ module _ (s : List ℕ) (some : 0 < length s) where
       ) refl
 
   part_sound : sound_kind (kind_at s) ≡ true → head_of (kind_at s) ≤ length s → 0 < size_of s (kind_at s)
-      → head_of (kind_at s) + size_of s (kind_at s) ≤ length s → read_of s ≡ Sound (made_of s)
+      → head_of (kind_at s) + size_of s (kind_at s) ≤ length s → read_of s ≡ Ok (made_of s)
   unfolding read_of read_as framed_of
   part_sound k l z p =
       let h : ℕ = head_of (kind_at s) in
@@ -194,14 +194,14 @@ module _ (d : List ℕ) (at : ℕ) where
     some_left : 0 < length part
     some_left = omega (arith, left_is)
 
-    pub read-type : WrongType d at → read_of part ≡ Refused F.Kind
+    pub read-type : WrongType d at → read_of part ≡ Err F.Kind
     read-type w = part_type part some_left (wrong_type w)
 
-    pub read_head : RightType d at → HeaderPasses d at → read_of part ≡ Refused F.Header
+    pub read_head : RightType d at → HeaderPasses d at → read_of part ≡ Err F.Header
     read_head r p = part-head part some_left (right-type r) (omega (arith, left_is, head-is))
 
     pub read-fragment : RightType d at → at + head_at d at ≤ length d → WrongFragment d at
-        → read_of part ≡ Refused F.Fragment
+        → read_of part ≡ Err F.Fragment
     read-fragment r l (inl z) = part-empty part some_left (right-type r) (omega (arith, left_is, head-is)) (size_is ∙ z)
     read-fragment r l (inr p) =
         decide (eqb (size_at d at) 0)
@@ -214,7 +214,7 @@ module _ (d : List ℕ) (at : ℕ) where
 
     pub read_sound : RightType d at → at + head_at d at ≤ length d → 0 < size_at d at
         → at + head_at d at + size_at d at ≤ length d
-        → read_of part ≡ Sound (made_of part)
+        → read_of part ≡ Ok (made_of part)
     read_sound r l z p =
         part_sound part some_left (right-type r) (omega (arith, left_is, head-is)) (omega (arith, size_is))
         (omega (arith, left_is, head-is, size_is))

@@ -6,11 +6,10 @@ use mathlib.Core.Logic.{◌↔◌}
 use mathlib.Core.Bool.{Bool, true, false}
 use Prim.Native.Nat.{ℕ}
 use native.Mathlib.Omega.{arith}
-use Rattle.connection.specs.declared.calls.Outcome.{Outcome}
-use Rattle.connection.specs.declared.calls.Outcome.TheVariants.{Done, Refused}
 use Rattle.connection.specs.declared.refusal.Refusal.{Refusal}
 use Rattle.record.specs.Header.{content_of}
 use Rattle.demands.specs.Exactly.Numbers.{Numbered, ContentsNumbered}
+use Rattle.std.specs.Prelude.{Err, Ok, Result, ⊤}
 
 pub contents-numbered : ContentsNumbered
 unfolding content_of
@@ -47,17 +46,17 @@ pub decide : {P : Type 0} (b : Bool) → (b ≡ true → P) → (b ≡ false →
 decide true y n = y refl
 decide false y n = n refl
 
-abbrev pub Holds : (Refusal → Type 0) → Type 0 → Outcome → Type 0
-Holds Why Goes Done = Goes
-Holds Why Goes (Refused x) = Why x
+abbrev pub Holds : (Refusal → Type 0) → Type 0 → Result ⊤ Refusal → Type 0
+Holds Why Goes (Ok tt) = Goes
+Holds Why Goes (Err x) = Why x
 
-pub refused_when : (Why : Refusal → Type 0) (Goes : Type 0) (o : Outcome) → Holds Why Goes o
-    → ((x : Refusal) → Why x → o ≡ Refused x)
-    → (x : Refusal) → (o ≡ Refused x) ↔ Why x
+pub refused_when : (Why : Refusal → Type 0) (Goes : Type 0) (o : Result ⊤ Refusal) → Holds Why Goes o
+    → ((x : Refusal) → Why x → o ≡ Err x)
+    → (x : Refusal) → (o ≡ Err x) ↔ Why x
 refused_when Why Goes o h b x = (λ e. subst (Holds Why Goes) e h, b x)
 
-pub done-when : (Why : Refusal → Type 0) (Goes : Type 0) (o : Outcome) → Holds Why Goes o → (Goes → o ≡ Done)
-    → (o ≡ Done) ↔ Goes
+pub done-when : (Why : Refusal → Type 0) (Goes : Type 0) (o : Result ⊤ Refusal) → Holds Why Goes o → (Goes → o ≡ Ok tt)
+    → (o ≡ Ok tt) ↔ Goes
 done-when Why Goes o h b = (λ e. subst (Holds Why Goes) e h, b)
 
 -- one after the other

@@ -18,9 +18,8 @@ use Rattle.record.specs.declared.header.Content.{Content}
 use Rattle.record.specs.declared.header.Content.TheVariants as C
 use Rattle.record.specs.declared.reader.Record.{Record}
 use Rattle.record.specs.declared.window.Window.{Window}
-use Rattle.message.specs.declared.acceptance.Heard.TheVariants as H
-use Rattle.message.specs.declared.alert.Reading.TheVariants as R
-use Rattle.message.specs.declared.finished.Verified.TheVariants as F
+use Rattle.message.specs.declared.acceptance.Unheard.TheVariants as H
+use Rattle.message.specs.declared.finished.Unverified.TheVariants as F
 use Rattle.connection.specs.Judge.{judged_record, fragment_of}
 use Rattle.connection.specs.declared.answer.Answer.{Answer}
 use Rattle.connection.specs.declared.answer.Answer.TheVariants as W
@@ -40,6 +39,7 @@ use Rattle.demands.proofs.Exactly.Content.{change-not, not-change, AlertHolds, a
 use Rattle.demands.proofs.Exactly.Hello.{bytes_take, bytes_drop, HeardHolds, heard-holds, not-hello, not-acceptable, unmet-not}
 use Rattle.connection.specs.declared.sent.SentRecords.{SentRecords}
 use Rattle.connection.specs.Sent.{matches_of}
+use Rattle.std.specs.Prelude.{Err, Some}
 
 -- an answer that refuses has its reason
 abbrev pub AnswerHolds : (Refusal → Type 0) → Answer → Type 0
@@ -100,7 +100,7 @@ module _ (h : Handshake) (sent : SentRecords) (numbers random : List ℕ) (windo
   row-why (row_reply plan g e) = tt
   row-why (row_hello_malformed fault g e) = bad_hello g (subst (HeardHolds f h.id) e (heard-holds f h.id bytes))
   row-why (row_unacceptable condition g e) =
-      let (w, u) : HeardHolds f h.id (H.Unacceptable condition) = subst (HeardHolds f h.id) e (heard-holds f h.id bytes) in
+      let (w, u) : HeardHolds f h.id (Err (H.Unacceptable condition)) = subst (HeardHolds f h.id) e (heard-holds f h.id bytes) in
       (g, (w, unmet-not w.values h.id condition u))
   row-why (row_resent s i z e) = tt
   row-why (row_returned x) = tt
@@ -108,7 +108,7 @@ module _ (h : Handshake) (sent : SentRecords) (numbers random : List ℕ) (windo
   row-why (row_change_malformed s p c e) = bad_change s p c (change-not f e)
   row-why (row_clear_malformed s p c e) = bad_alert s p c (subst (AlertHolds f) e (alert-holds f))
   row-why (row_checksum a s p c e n) =
-      let w : AlertHolds f (R.WellFormed a) = subst (AlertHolds f) e (alert-holds f) in (s, p, c, w.0, ap (matches_of sent) (sym w.1) ∙ n)
+      let w : AlertHolds f (Some a) = subst (AlertHolds f) e (alert-holds f) in (s, p, c, w.0, ap (matches_of sent) (sym w.1) ∙ n)
   row-why (row_clear_warning a s p c e k l) = tt
   row-why (row_clear_critical a s p c e k l) = tt
   row-why (row_clear_fatal a s p c e k l) = tt
@@ -124,7 +124,7 @@ module _ (h : Handshake) (sent : SentRecords) (numbers random : List ℕ) (windo
   row-why (row_open c w n s e m) = tt
   row-why (row_again c w n s e m) = tt
   row-why (row_wrong_finished c w n e m) =
-      let x : FinishedHolds c h.expected F.Wrong = subst (FinishedHolds c h.expected) m (finished-holds c h.expected) in
+      let x : FinishedHolds c h.expected (Err F.Wrong) = subst (FinishedHolds c h.expected) m (finished-holds c h.expected) in
       (c, newly c w n, e, x.0, x.1)
 
   -- ---- each reason has its row

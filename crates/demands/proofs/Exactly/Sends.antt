@@ -14,15 +14,9 @@ use Rattle.record.specs.declared.header.Content.TheVariants as C
 use Rattle.message.specs.Alert.{level_of, sorted_of, among, descriptions, description_number}
 use Rattle.message.specs.declared.alert.Description.{Description}
 use Rattle.message.specs.declared.alert.Level.{Level}
-use Rattle.message.specs.declared.alert.Graded.{Graded}
-use Rattle.message.specs.declared.alert.Graded.TheVariants as G
-use Rattle.message.specs.declared.alert.Sorted.{Sorted}
-use Rattle.message.specs.declared.alert.Sorted.TheVariants as D
 use Rattle.connection.specs.Send.{and_then, may_data, may_protect, may_clear, numbered_by, data_refused, alert_refused, sent_to, done, data_outcome, data_sent, alert_body, alert_outcome, next_alert, alert_sent, alert_sent_as, next_protected, sender_of, after_send}
 use Rattle.connection.proofs.Sending.{next_size, clear_size}
 use Rattle.connection.specs.declared.connection.Connection.{Connection}
-use Rattle.connection.specs.declared.calls.Outcome.{Outcome}
-use Rattle.connection.specs.declared.calls.Outcome.TheVariants.{Done, Refused}
 use Rattle.connection.specs.declared.handshake.Handshake.{Handshake}
 use Rattle.connection.specs.declared.refusal.Refusal.{Refusal}
 use Rattle.connection.specs.declared.refusal.Refusal.TheVariants as X
@@ -33,36 +27,37 @@ use Rattle.demands.specs.Table.{Over}
 use Rattle.demands.specs.Exactly.Numbers.{is_among, is_assigned}
 use Rattle.demands.specs.Exactly.Sends.{DataFits, WhyData, DataGoes, ExactlyData, AlertFits, AlertMay, AlertMayNot, alert_number_of, alert_code_of, WhyAlert, AlertGoes, ExactlyAlert}
 use Rattle.demands.proofs.Exactly.Reasons.{decide, Holds, refused_when, done-when, through}
+use Rattle.std.specs.Prelude.{Err, None, Ok, Option, Result, Some, ⊤}
 
 -- ---- what comes back of a send is its outcome
 
-sent-refused : (c h : Connection) (next out : List ℕ) (o : Outcome) (x : Refusal)
-    → ((sent_as (sent_to c (done next h) o) out).result ≡ sent (Refused x) 0) ↔ (o ≡ Refused x)
-sent-refused c h next out Done x = (λ e. cc, λ e. let z : ◌≡◌ {A = ℕ} 0 1 = cc in absurd (omega arith))
-sent-refused c h next out (Refused y) x = (λ e. cc, λ e. ap (λ z. sent z 0) e)
+sent-refused : (c h : Connection) (next out : List ℕ) (o : Result ⊤ Refusal) (x : Refusal)
+    → ((sent_as (sent_to c (done next h) o) out).result ≡ sent (Err x) 0) ↔ (o ≡ Err x)
+sent-refused c h next out (Ok tt) x = (λ e. cc, λ e. let z : ◌≡◌ {A = ℕ} 0 1 = cc in absurd (omega arith))
+sent-refused c h next out (Err y) x = (λ e. cc, λ e. ap (λ z. sent z 0) e)
 
-sent-done : (c h : Connection) (next out : List ℕ) (o : Outcome) (n : ℕ) → length next ≡ n
-    → ((sent_as (sent_to c (done next h) o) out).result ≡ sent Done n) ↔ (o ≡ Done)
-sent-done c h next out Done n l = (λ e. refl, λ e. ap (sent Done) l)
-sent-done c h next out (Refused y) n l = (λ e. cc, λ e. let z : ◌≡◌ {A = ℕ} 0 1 = cc in absurd (omega arith))
+sent-done : (c h : Connection) (next out : List ℕ) (o : Result ⊤ Refusal) (n : ℕ) → length next ≡ n
+    → ((sent_as (sent_to c (done next h) o) out).result ≡ sent (Ok tt) n) ↔ (o ≡ Ok tt)
+sent-done c h next out (Ok tt) n l = (λ e. refl, λ e. ap (sent (Ok tt)) l)
+sent-done c h next out (Err y) n l = (λ e. cc, λ e. let z : ◌≡◌ {A = ℕ} 0 1 = cc in absurd (omega arith))
 
 -- ---- 15, then 6
 
-spent : (number size room : ℕ) → 65535 < number → numbered_by number size room ≡ Refused X.Spent
+spent : (number size room : ℕ) → 65535 < number → numbered_by number size room ≡ Err X.Spent
 unfolding numbered_by
 spent number size room h = rw (lt-ltb 65535 number h) refl
 
-no_room : (number size room : ℕ) → number ≤ 65535 → room < size → numbered_by number size room ≡ Refused X.Room
+no_room : (number size room : ℕ) → number ≤ 65535 → room < size → numbered_by number size room ≡ Err X.Room
 unfolding numbered_by
 no_room number size room h l = rw (le-ltb 65535 number h, lt-ltb room size l) refl
 
-goes_out : (number size room : ℕ) → number ≤ 65535 → size ≤ room → numbered_by number size room ≡ Done
+goes_out : (number size room : ℕ) → number ≤ 65535 → size ≤ room → numbered_by number size room ≡ Ok tt
 unfolding numbered_by
 goes_out number size room h l = rw (le-ltb 65535 number h, le-ltb room size l) refl
 
 -- by the number and the room
-by_number : (P : Outcome → Type 0) (number size room : ℕ) → (65535 < number → P (Refused X.Spent))
-    → (number ≤ 65535 → room < size → P (Refused X.Room)) → (number ≤ 65535 → size ≤ room → P Done)
+by_number : (P : Result ⊤ Refusal → Type 0) (number size room : ℕ) → (65535 < number → P (Err X.Spent))
+    → (number ≤ 65535 → room < size → P (Err X.Room)) → (number ≤ 65535 → size ≤ room → P (Ok tt))
     → P (numbered_by number size room)
 by_number P number size room a b c =
     decide (ltb 65535 number) (λ e. subst P (sym (spent number size room (ltb-true 65535 number e)))
@@ -88,11 +83,11 @@ module _ (state : State) (size number code room : ℕ) where
   unfolding data_refused
   data-past f = rw (ne_eqb size 0 (λ e. omega (arith, f.0)), le-ltb 1300 size f.1) refl
 
-  data-none : size ≡ 0 → data_refused state size number code room ≡ Refused X.Argument
+  data-none : size ≡ 0 → data_refused state size number code room ≡ Err X.Argument
   unfolding data_refused
   data-none e = rw (eq-eqb size 0 e) refl
 
-  data-much : 1300 < size → data_refused state size number code room ≡ Refused X.Argument
+  data-much : 1300 < size → data_refused state size number code room ≡ Err X.Argument
   unfolding data_refused
   data-much l = rw (ne_eqb size 0 (λ e. omega arith), lt-ltb 1300 size l) refl
 
@@ -101,7 +96,7 @@ module _ (state : State) (size number code room : ℕ) where
       → data_refused state size number code room ≡ and_then (may_data s) (numbered_by number (3 + size + code) room)
   data-in s e f = data-past f ∙ ap (λ x. and_then (may_data x) (numbered_by number (3 + size + code) room)) e
 
-  data-because : (x : Refusal) → Why x → data_refused state size number code room ≡ Refused x
+  data-because : (x : Refusal) → Why x → data_refused state size number code room ≡ Err x
   data-because X.Argument (inl e) = data-none e
   data-because X.Argument (inr l) = data-much l
   data-because X.Ended (f, inl e) = data-in S.Closed e f
@@ -120,7 +115,7 @@ module _ (state : State) (size number code room : ℕ) where
   data-because X.Checksum w = absurd w
   data-because X.WrongFinished w = absurd w
 
-  data-goes : Goes → data_refused state size number code room ≡ Done
+  data-goes : Goes → data_refused state size number code room ≡ Ok tt
   data-goes (f, e, n, l) = data-in S.Open e f ∙ goes_out number (3 + size + code) room n l
 
   data_state_lem : (s : State) → state ≡ s → DataFits size
@@ -172,9 +167,9 @@ exactly-data =
 
 -- ---- a level and a description, known or not
 
-abbrev pub LevelHolds : ℕ → Graded → Type 0
-LevelHolds n (G.Is l) = (1 ≤ n) × (n ≤ 3)
-LevelHolds n G.Unassigned = (n ≡ 0) ⊎ (3 < n)
+abbrev pub LevelHolds : ℕ → Option Level → Type 0
+LevelHolds n (Some l) = (1 ≤ n) × (n ≤ 3)
+LevelHolds n None = (n ≡ 0) ⊎ (3 < n)
 
 pub level_holds : (n : ℕ) → LevelHolds n (level_of n)
 unfolding level_of
@@ -186,9 +181,9 @@ level_holds n =
     (decide (eqb n 0) (λ z. inl (eqb-true n 0 z))
     (λ z. inr (omega (arith, eqb-false n 0 z, eqb-false n 1 a, eqb-false n 2 b, eqb-false n 3 c)))))))
 
-abbrev pub SortedHolds : Bool → Sorted → Type 0
-SortedHolds known (D.Assigned d) = known ≡ true
-SortedHolds known D.Unassigned = known ≡ false
+abbrev pub SortedHolds : Bool → Option Description → Type 0
+SortedHolds known (Some d) = known ≡ true
+SortedHolds known None = known ≡ false
 
 among-holds : (ds : List Description) (n : ℕ) → SortedHolds (is_among (map description_number ds) n) (among ds n)
 unfolding among is_among
@@ -203,46 +198,46 @@ sorted-holds n = among-holds descriptions n
 -- ---- send an alert
 
 -- what comes back, by level and description
-abbrev alert_outcome_in : Bool → Handshake → ℕ → ℕ → Graded → Sorted → Outcome
-alert_outcome_in protected h lent room (G.Is level) (D.Assigned description) = alert_outcome protected h lent room
-alert_outcome_in protected h lent room (G.Is level) D.Unassigned = Refused X.Argument
-alert_outcome_in protected h lent room G.Unassigned (D.Assigned description) = Refused X.Argument
-alert_outcome_in protected h lent room G.Unassigned D.Unassigned = Refused X.Argument
+abbrev alert_outcome_in : Bool → Handshake → ℕ → ℕ → Option Level → Option Description → Result ⊤ Refusal
+alert_outcome_in protected h lent room (Some level) (Some description) = alert_outcome protected h lent room
+alert_outcome_in protected h lent room (Some level) None = Err X.Argument
+alert_outcome_in protected h lent room None (Some description) = Err X.Argument
+alert_outcome_in protected h lent room None None = Err X.Argument
 
-alert_refused_lem : (c : Connection) (protected : Bool) (answered out : List ℕ) (g : Graded) (s : Sorted) (x : Refusal)
-    → ((sent_as (alert_sent_as c protected answered (length out) g s) out).result ≡ sent (Refused x) 0)
-    ↔ (alert_outcome_in protected (sender_of protected c) (length answered) (length out) g s ≡ Refused x)
-alert_refused_lem c protected answered out (G.Is level) (D.Assigned description) x =
+alert_refused_lem : (c : Connection) (protected : Bool) (answered out : List ℕ) (g : Option Level) (s : Option Description) (x : Refusal)
+    → ((sent_as (alert_sent_as c protected answered (length out) g s) out).result ≡ sent (Err x) 0)
+    ↔ (alert_outcome_in protected (sender_of protected c) (length answered) (length out) g s ≡ Err x)
+alert_refused_lem c protected answered out (Some level) (Some description) x =
     let next : List ℕ = next_alert protected (sender_of protected c) (alert_body level description answered) in
     sent-refused c (after_send protected c next) next out
     (alert_outcome protected (sender_of protected c) (length answered) (length out)) x
-alert_refused_lem c protected answered out (G.Is level) D.Unassigned x = (λ e. cc, λ e. ap (λ z. sent z 0) e)
-alert_refused_lem c protected answered out G.Unassigned (D.Assigned description) x = (λ e. cc, λ e. ap (λ z. sent z 0) e)
-alert_refused_lem c protected answered out G.Unassigned D.Unassigned x = (λ e. cc, λ e. ap (λ z. sent z 0) e)
+alert_refused_lem c protected answered out (Some level) None x = (λ e. cc, λ e. ap (λ z. sent z 0) e)
+alert_refused_lem c protected answered out None (Some description) x = (λ e. cc, λ e. ap (λ z. sent z 0) e)
+alert_refused_lem c protected answered out None None x = (λ e. cc, λ e. ap (λ z. sent z 0) e)
 
 alert-size : (protected : Bool) (h : Handshake) (level : Level) (description : Description) (answered : List ℕ)
     → length (next_alert protected h (alert_body level description answered)) ≡ 9 + alert_code_of protected h
 alert-size true h level description answered = next_size h C.Alert (alert_body level description answered)
 alert-size false h level description answered = clear_size h (alert_body level description answered)
 
-alert_done : (c : Connection) (protected : Bool) (answered out : List ℕ) (g : Graded) (s : Sorted)
-    → ((sent_as (alert_sent_as c protected answered (length out) g s) out).result ≡ sent Done
+alert_done : (c : Connection) (protected : Bool) (answered out : List ℕ) (g : Option Level) (s : Option Description)
+    → ((sent_as (alert_sent_as c protected answered (length out) g s) out).result ≡ sent (Ok tt)
     (9 + alert_code_of protected (sender_of protected c)))
-    ↔ (alert_outcome_in protected (sender_of protected c) (length answered) (length out) g s ≡ Done)
-alert_done c protected answered out (G.Is level) (D.Assigned description) =
+    ↔ (alert_outcome_in protected (sender_of protected c) (length answered) (length out) g s ≡ Ok tt)
+alert_done c protected answered out (Some level) (Some description) =
     let next : List ℕ = next_alert protected (sender_of protected c) (alert_body level description answered) in
     sent-done c (after_send protected c next) next out
     (alert_outcome protected (sender_of protected c) (length answered) (length out)) (9 + alert_code_of protected (sender_of protected c))
     (alert-size protected (sender_of protected c) level description answered)
-alert_done c protected answered out (G.Is level) D.Unassigned =
+alert_done c protected answered out (Some level) None =
     (λ e. cc, λ e. let z : ◌≡◌ {A = ℕ} 0 1 = cc in absurd (omega arith))
-alert_done c protected answered out G.Unassigned (D.Assigned description) =
+alert_done c protected answered out None (Some description) =
     (λ e. cc, λ e. let z : ◌≡◌ {A = ℕ} 0 1 = cc in absurd (omega arith))
-alert_done c protected answered out G.Unassigned D.Unassigned =
+alert_done c protected answered out None None =
     (λ e. cc, λ e. let z : ◌≡◌ {A = ℕ} 0 1 = cc in absurd (omega arith))
 
 -- by the sense, which states may
-abbrev may : Bool → State → Outcome
+abbrev may : Bool → State → Result ⊤ Refusal
 may true state = may_protect state
 may false state = may_clear state
 
@@ -259,50 +254,50 @@ module _ (protected : Bool) (state : State) (level description lent number code 
   abbrev GoesA : Type 0
   GoesA = AlertGoes protected state level description lent number code room
 
-  abbrev outcome : Outcome
+  abbrev outcome : Result ⊤ Refusal
   outcome = alert_refused (may protected state) lent number code room
 
   alert-past : lent ≤ 1400 → outcome ≡ and_then (may protected state) (numbered_by number (9 + code) room)
   unfolding alert_refused
   alert-past l = rw (le-ltb 1400 lent l) refl
 
-  alert-much : 1400 < lent → outcome ≡ Refused X.Argument
+  alert-much : 1400 < lent → outcome ≡ Err X.Argument
   unfolding alert_refused
   alert-much l = rw (lt-ltb 1400 lent l) refl
 
-  alert-in : (s : State) (o : Outcome) → state ≡ s → may protected s ≡ o → lent ≤ 1400
+  alert-in : (s : State) (o : Result ⊤ Refusal) → state ≡ s → may protected s ≡ o → lent ≤ 1400
       → outcome ≡ and_then o (numbered_by number (9 + code) room)
   alert-in s o e m l = alert-past l ∙ ap (λ x. and_then x (numbered_by number (9 + code) room)) (ap (may protected) e ∙ m)
 
-  may-done : (b : Bool) → AlertMay b state → may b state ≡ Done
+  may-done : (b : Bool) → AlertMay b state → may b state ≡ Ok tt
   may-done true (inl e) = ap may_protect e
   may-done true (inr (inl e)) = ap may_protect e
   may-done true (inr (inr e)) = ap may_protect e
   may-done false (inl e) = ap may_clear e
   may-done false (inr e) = ap may_clear e
 
-  may-not : (b : Bool) → AlertMayNot b state → may b state ≡ Refused X.NotAllowed
+  may-not : (b : Bool) → AlertMayNot b state → may b state ≡ Err X.NotAllowed
   may-not true e = ap may_protect e
   may-not false (inl e) = ap may_clear e
   may-not false (inr e) = ap may_clear e
 
-  may-over : (b : Bool) → Over state → may b state ≡ Refused X.Ended
+  may-over : (b : Bool) → Over state → may b state ≡ Err X.Ended
   may-over true (inl e) = ap may_protect e
   may-over true (inr e) = ap may_protect e
   may-over false (inl e) = ap may_clear e
   may-over false (inr e) = ap may_clear e
 
   -- where the arguments of 16 that are numbers fit
-  alert-because : (x : Refusal) → 1 ≤ level → level ≤ 3 → is_assigned description ≡ true → WhyA x → outcome ≡ Refused x
+  alert-because : (x : Refusal) → 1 ≤ level → level ≤ 3 → is_assigned description ≡ true → WhyA x → outcome ≡ Err x
   alert-because X.Argument a b k (inl e) = absurd (omega arith)
   alert-because X.Argument a b k (inr (inl l)) = absurd (omega arith)
   alert-because X.Argument a b k (inr (inr (inl e))) = let z : ◌≡◌ {A = ℕ} 0 1 = cc in absurd (omega arith)
   alert-because X.Argument a b k (inr (inr (inr l))) = alert-much l
-  alert-because X.Ended a b k (f, o) = alert-in state (Refused X.Ended) refl (may-over protected o) f.3
-  alert-because X.NotAllowed a b k (f, n) = alert-in state (Refused X.NotAllowed) refl (may-not protected n) f.3
-  alert-because X.Spent a b k (f, m, l) = alert-in state Done refl (may-done protected m) f.3
+  alert-because X.Ended a b k (f, o) = alert-in state (Err X.Ended) refl (may-over protected o) f.3
+  alert-because X.NotAllowed a b k (f, n) = alert-in state (Err X.NotAllowed) refl (may-not protected n) f.3
+  alert-because X.Spent a b k (f, m, l) = alert-in state (Ok tt) refl (may-done protected m) f.3
       ∙ spent number (9 + code) room l
-  alert-because X.Room a b k (f, m, n, l) = alert-in state Done refl (may-done protected m) f.3
+  alert-because X.Room a b k (f, m, n, l) = alert-in state (Ok tt) refl (may-done protected m) f.3
       ∙ no_room number (9 + code) room n l
   alert-because (X.Framing fault) a b k w = absurd w
   alert-because X.Forged a b k w = absurd w
@@ -313,11 +308,11 @@ module _ (protected : Bool) (state : State) (level description lent number code 
   alert-because X.Checksum a b k w = absurd w
   alert-because X.WrongFinished a b k w = absurd w
 
-  alert_goes : GoesA → outcome ≡ Done
-  alert_goes (f, m, n, l) = alert-in state Done refl (may-done protected m) f.3 ∙ goes_out number (9 + code) room n l
+  alert_goes : GoesA → outcome ≡ Ok tt
+  alert_goes (f, m, n, l) = alert-in state (Ok tt) refl (may-done protected m) f.3 ∙ goes_out number (9 + code) room n l
 
   -- where they do not: 16, and no other
-  alert-unknown : (x : Refusal) → (AlertFits level description lent → ⊥) → WhyA x → Refused X.Argument ≡ Refused x
+  alert-unknown : (x : Refusal) → (AlertFits level description lent → ⊥) → WhyA x → Err X.Argument ≡ Err x
   alert-unknown X.Argument bad w = refl
   alert-unknown X.Ended bad w = absurd (bad w.0)
   alert-unknown X.NotAllowed bad w = absurd (bad w.0)
@@ -367,7 +362,7 @@ alert-holds : (protected : Bool) (state : State) (level description lent number 
     (AlertGoes protected state level description lent number code room)
     (alert_refused (may protected state) lent number code room)
 alert-holds protected state level description lent number code room a b k =
-    let H : Outcome → Type 0 = Holds (WhyAlert protected state level description lent number code room)
+    let H : Result ⊤ Refusal → Type 0 = Holds (WhyAlert protected state level description lent number code room)
     (AlertGoes protected state level description lent number code room) in
     decide (ltb 1400 lent)
     (λ e. subst H (sym (alert-much protected state level description lent number code room (ltb-true 1400 lent e)))
@@ -396,39 +391,39 @@ module _ (protected : Bool) (h : Handshake) (level description lent room : ℕ) 
   by_level (inl e) = inl e
   by_level (inr l) = inr (inl l)
 
-  in-holds : (g : Graded) (s : Sorted) → LevelHolds level g → SortedHolds (is_assigned description) s
+  in-holds : (g : Option Level) (s : Option Description) → LevelHolds level g → SortedHolds (is_assigned description) s
       → Holds WhyIn GoesIn (alert_outcome_in protected h lent room g s)
-  in-holds (G.Is l) (D.Assigned d) (a, b) k =
+  in-holds (Some l) (Some d) (a, b) k =
       subst (Holds WhyIn GoesIn) (sym (outcome-is protected h lent room))
       (alert-holds protected h.state level description lent (alert_number_of protected h) (alert_code_of protected h) room a b k)
-  in-holds (G.Is l) D.Unassigned ab k = inr (inr (inl k))
-  in-holds G.Unassigned (D.Assigned d) u k = by_level u
-  in-holds G.Unassigned D.Unassigned u k = by_level u
+  in-holds (Some l) None ab k = inr (inr (inl k))
+  in-holds None (Some d) u k = by_level u
+  in-holds None None u k = by_level u
 
-  in-because : (g : Graded) (s : Sorted) → LevelHolds level g → SortedHolds (is_assigned description) s
-      → (x : Refusal) → WhyIn x → alert_outcome_in protected h lent room g s ≡ Refused x
-  in-because (G.Is l) (D.Assigned d) (a, b) k x w =
+  in-because : (g : Option Level) (s : Option Description) → LevelHolds level g → SortedHolds (is_assigned description) s
+      → (x : Refusal) → WhyIn x → alert_outcome_in protected h lent room g s ≡ Err x
+  in-because (Some l) (Some d) (a, b) k x w =
       outcome-is protected h lent room
       ∙ alert-because protected h.state level description lent (alert_number_of protected h)
       (alert_code_of protected h) room x a b k w
-  in-because (G.Is l) D.Unassigned ab k x w =
+  in-because (Some l) None ab k x w =
       alert-unknown protected h.state level description lent (alert_number_of protected h) (alert_code_of protected h) room x
       (undescribed k) w
-  in-because G.Unassigned (D.Assigned d) u k x w =
+  in-because None (Some d) u k x w =
       alert-unknown protected h.state level description lent (alert_number_of protected h) (alert_code_of protected h) room x
       (unlevelled u) w
-  in-because G.Unassigned D.Unassigned u k x w =
+  in-because None None u k x w =
       alert-unknown protected h.state level description lent (alert_number_of protected h) (alert_code_of protected h) room x
       (unlevelled u) w
 
-  in-goes : (g : Graded) (s : Sorted) → LevelHolds level g → SortedHolds (is_assigned description) s
-      → GoesIn → alert_outcome_in protected h lent room g s ≡ Done
-  in-goes (G.Is l) (D.Assigned d) ab k w =
+  in-goes : (g : Option Level) (s : Option Description) → LevelHolds level g → SortedHolds (is_assigned description) s
+      → GoesIn → alert_outcome_in protected h lent room g s ≡ Ok tt
+  in-goes (Some l) (Some d) ab k w =
       outcome-is protected h lent room
       ∙ alert_goes protected h.state level description lent (alert_number_of protected h) (alert_code_of protected h) room w
-  in-goes (G.Is l) D.Unassigned ab k w = absurd (undescribed k w.0)
-  in-goes G.Unassigned (D.Assigned d) u k w = absurd (unlevelled u w.0)
-  in-goes G.Unassigned D.Unassigned u k w = absurd (unlevelled u w.0)
+  in-goes (Some l) None ab k w = absurd (undescribed k w.0)
+  in-goes None (Some d) u k w = absurd (unlevelled u w.0)
+  in-goes None None u k w = absurd (unlevelled u w.0)
 
 pub exactly-alert : ExactlyAlert step_of
 unfolding step_of alert_sent

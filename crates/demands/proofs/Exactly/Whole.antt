@@ -14,11 +14,10 @@ use Rattle.record.specs.Datagram.{Framing, framed, faulty, after, framing_from, 
 use Rattle.record.specs.declared.reader.Record.{Record}
 use Rattle.record.specs.declared.reader.Fault.{Fault}
 use Rattle.record.specs.declared.reader.Fault.TheVariants as F
-use Rattle.record.specs.declared.reader.Reading.TheVariants.{Refused}
 use Rattle.connection.specs.Receive.{received_of, framed_to, run_of, whole_of, slots_of}
 use Rattle.connection.specs.declared.answer.Slot.{Slot}
 use Rattle.connection.specs.declared.connection.Connection.{Connection}
-use Rattle.connection.specs.declared.receive.Taken.TheVariants as T
+use Rattle.connection.specs.declared.receive.Untaken.TheVariants as T
 use Rattle.connection.specs.declared.receive.Received.{Received}
 use Rattle.connection.specs.declared.refusal.Refusal.{Refusal}
 use Rattle.connection.specs.declared.refusal.Refusal.TheVariants as X
@@ -26,6 +25,7 @@ use Rattle.demands.specs.Runs.{receive, Result, received, sent, called, step_of}
 use Rattle.demands.specs.Exactly.Whole.{head_at, size_at, SoundAt, start_of, SoundBefore, SizeFits, Reached, WhyFaulty, WhyMisframed, WhyWhole, CallFits, SoundlyFramed, ExactlyReceive}
 use Rattle.demands.proofs.Exactly.Reasons.{decide}
 use Rattle.demands.proofs.Exactly.Reading.{made_of, read-type, read_head, read-fragment, read_sound, used-is, by-record}
+use Rattle.std.specs.Prelude.{Err, Ok}
 
 module _ (d : List ℕ) where
   -- ---- one step of the walk
@@ -42,7 +42,7 @@ module _ (d : List ℕ) where
   unfolding framing_from
   step-ninth at h = rw (ne_eqb (length (drop at d)) 0 (λ e. omega (arith, length-drop at d))) refl
 
-  step-fault : (room at : ℕ) (f : Fault) → at < length d → read_of (drop at d) ≡ Refused f
+  step-fault : (room at : ℕ) (f : Fault) → at < length d → read_of (drop at d) ≡ Err f
       → walk (suc room) at ≡ faulty f at
   unfolding framing_from
   step-fault room at f h e = rw (ne_eqb (length (drop at d)) 0 (λ z. omega (arith, length-drop at d)), e) refl
@@ -148,7 +148,7 @@ module _ (d : List ℕ) where
   size-fault (inr l) = rw (ne_eqb (length d) 0 (λ e. omega arith), lt-ltb 1400 (length d) l) refl
 
   -- the fault of the record where the walk stands
-  here-fault : (n at : ℕ) (f : Fault) → n < 8 → (h : Reached d n at) → read_of (drop at d) ≡ Refused f
+  here-fault : (n at : ℕ) (f : Fault) → n < 8 → (h : Reached d n at) → read_of (drop at d) ≡ Err f
       → framing_of d ≡ faulty f at
   here-fault n at f few h e =
       let room : ℕ = 8 - suc n in
@@ -209,9 +209,9 @@ module _ (d : List ℕ) where
 
 -- what comes back of a receive has its reason
 abbrev ResultHolds : List ℕ → ℕ → ℕ → Result → Type 0
-ResultHolds d random room (received (T.Refused x) answers written) = WhyWhole random room x
-ResultHolds d random room (received (T.Misframed x at) answers written) = CallFits random room × WhyMisframed d x at
-ResultHolds d random room (received (T.Records n) answers written) = CallFits random room × SoundlyFramed d n
+ResultHolds d random room (received (Err (T.Refused x)) answers written) = WhyWhole random room x
+ResultHolds d random room (received (Err (T.Misframed x at)) answers written) = CallFits random room × WhyMisframed d x at
+ResultHolds d random room (received (Ok n) answers written) = CallFits random room × SoundlyFramed d n
 ResultHolds d random room (sent outcome written) = Unit
 ResultHolds d random room (called outcome) = Unit
 
@@ -222,11 +222,11 @@ module _ (c : Connection) (d random out : List ℕ) where
   abbrev H : Result → Type 0
   H = ResultHolds d (length random) (length out)
 
-  is-argument : length random ≢ 16 → result ≡ received (T.Refused X.Argument) (slots_of []) 0
+  is-argument : length random ≢ 16 → result ≡ received (Err (T.Refused X.Argument)) (slots_of []) 0
   unfolding step_of received_of whole_of
   is-argument r = rw (ne_eqb (length random) 16 r) refl
 
-  is-room : length random ≡ 16 → length out < 128 → result ≡ received (T.Refused X.Room) (slots_of []) 0
+  is-room : length random ≡ 16 → length out < 128 → result ≡ received (Err (T.Refused X.Room)) (slots_of []) 0
   unfolding step_of received_of whole_of
   is-room r o = rw (eq-eqb (length random) 16 r, lt-ltb (length out) 128 o) refl
 
@@ -256,7 +256,7 @@ module _ (c : Connection) (d random out : List ℕ) where
       (λ r. let a = eqb-false (length random) 16 r in subst H (sym (is-argument a)) a)
 
   whole-because : (x : Refusal) → WhyWhole (length random) (length out) x
-      → result ≡ received (T.Refused x) (slots_of []) 0
+      → result ≡ received (Err (T.Refused x)) (slots_of []) 0
   whole-because X.Argument w = is-argument w
   whole-because X.Room (r, o) = is-room r o
   whole-because (X.Framing fault) w = absurd w
@@ -271,12 +271,12 @@ module _ (c : Connection) (d random out : List ℕ) where
   whole-because X.Spent w = absurd w
   whole-because X.WrongFinished w = absurd w
 
-  by-fault : (f : Fault) (at : ℕ) → result_by (faulty f at) ≡ received (T.Misframed (X.Framing f) at) (slots_of []) 0
+  by-fault : (f : Fault) (at : ℕ) → result_by (faulty f at) ≡ received (Err (T.Misframed (X.Framing f) at)) (slots_of []) 0
   unfolding whole_of
   by-fault f at = refl
 
   misframed-because : (x : Refusal) (at : ℕ) → CallFits (length random) (length out) → WhyMisframed d x at
-      → result ≡ received (T.Misframed x at) (slots_of []) 0
+      → result ≡ received (Err (T.Misframed x at)) (slots_of []) 0
   misframed-because (X.Framing f) at fits w = is_framed fits ∙ ap result_by (faulty-because d f at w) ∙ by-fault f at
   misframed-because X.Room at fits w = absurd w
   misframed-because X.Ended at fits w = absurd w
@@ -291,19 +291,19 @@ module _ (c : Connection) (d random out : List ℕ) where
   misframed-because X.Argument at fits w = absurd w
   misframed-because X.WrongFinished at fits w = absurd w
 
-  by-records : (rs : List Record) → (framed_to c random d (framed rs)).taken ≡ T.Records (length rs)
+  by-records : (rs : List Record) → (framed_to c random d (framed rs)).taken ≡ Ok (length rs)
   unfolding run_of
   by-records rs = refl
 
   taken-because : (n : ℕ) → CallFits (length random) (length out) → SoundlyFramed d n
-      → (answers : List Slot) × (written : ℕ) × (result ≡ received (T.Records n) answers written)
+      → (answers : List Slot) × (written : ℕ) × (result ≡ received (Ok n) answers written)
   taken-because n fits s =
       let (rs, f, l) = framed-because d n s in
       let r : Received = framed_to c random d (framed rs) in (
         r.answers,
         r.written,
         is_framed fits ∙ ap result_by f
-            ∙ ap (λ t. received t r.answers r.written) (by-records rs ∙ ap T.Records l),
+            ∙ ap (λ t. received t r.answers r.written) (by-records rs ∙ ap Ok l),
       )
 
 pub exactly-receive : ExactlyReceive step_of

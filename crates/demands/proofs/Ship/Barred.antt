@@ -13,15 +13,7 @@ use Rattle.record.specs.declared.header.Content.TheVariants as C
 use Rattle.record.specs.declared.reader.Record.{Record}
 use Rattle.message.specs.Alert.{level_of, sorted_of}
 use Rattle.message.specs.Offer.{kinds_named}
-use Rattle.message.specs.declared.alert.Graded.{Graded}
-use Rattle.message.specs.declared.alert.Graded.TheVariants as G
-use Rattle.message.specs.declared.alert.Sorted.{Sorted}
-use Rattle.message.specs.declared.alert.Sorted.TheVariants as D
-use Rattle.message.specs.declared.offer.Named.{Named}
-use Rattle.message.specs.declared.offer.Named.TheVariants.{Are, Others}
 use Rattle.connection.specs.Send.{alert_body}
-use Rattle.connection.specs.declared.calls.Outcome.{Outcome}
-use Rattle.connection.specs.declared.calls.Outcome.TheVariants.{Done, Refused}
 use Rattle.connection.specs.declared.refusal.Refusal.TheVariants as X
 use Rattle.unit.specs.Agree.{agreed_with}
 use Rattle.unit.specs.Answer.{opens_by, opens_to}
@@ -50,6 +42,11 @@ use Rattle.demands.proofs.Ship.Changes.{data-alike, alert-alike, again_same, hel
 use Rattle.demands.proofs.Ship.HandedOut.{kind-content, content-kind-in}
 use Rattle.demands.proofs.Ship.Refusals.{refused_call}
 use Rattle.demands.proofs.Ship.LeftOut.{over-seven}
+use Rattle.std.specs.Prelude.{Err, None, Ok, Option, Result, Some, ⊤}
+use Rattle.connection.specs.declared.refusal.Refusal.{Refusal}
+use Rattle.message.specs.declared.alert.Description.{Description}
+use Rattle.message.specs.declared.alert.Level.{Level}
+use Rattle.message.specs.declared.offer.Kinds.{Kinds}
 
 -- ---- for good
 
@@ -86,13 +83,13 @@ module _ (u : Ship) (barred : u.state ≡ S.Barred) where
   unfolding step_of received_of output_of whole_of
   receive-same d out = decide (ltb (length out) 128) (λ e. rw e (refl, refl, refl)) (λ e. rw e (framed-same d out (framing_of d)))
 
-  no-protect : may_protect u.state ≡ Refused X.Ended
+  no-protect : may_protect u.state ≡ Err X.Ended
   no-protect = ap may_protect barred
 
-  no-clear : may_clear u.state ≡ Refused X.Ended
+  no-clear : may_clear u.state ≡ Err X.Ended
   no-clear = ap may_clear barred
 
-  no_hello : may_hello u.state ≡ Refused X.Ended
+  no_hello : may_hello u.state ≡ Err X.Ended
   no_hello = ap may_hello barred
 
   data-not : (bytes : List ℕ) (room : ℕ) → NotDone (data_sent u bytes room).outcome
@@ -106,21 +103,21 @@ module _ (u : Ship) (barred : u.state ≡ S.Barred) where
   by-not true body room = rw no-protect tt
   by-not false body room = rw no-clear tt
 
-  as-not : (protected : Bool) (answered : List ℕ) (room : ℕ) (g : Graded) (s : Sorted) → NotDone (alert_sent_as u protected answered room g s).outcome
-  as-not protected answered room (G.Is level) (D.Assigned description) =
+  as-not : (protected : Bool) (answered : List ℕ) (room : ℕ) (g : Option Level) (s : Option Description) → NotDone (alert_sent_as u protected answered room g s).outcome
+  as-not protected answered room (Some level) (Some description) =
       decide (ltb 1400 (length answered)) (λ f. rw f tt) (λ f. rw f (by-not protected (alert_body level description answered) room))
-  as-not protected answered room (G.Is level) D.Unassigned = tt
-  as-not protected answered room G.Unassigned (D.Assigned description) = tt
-  as-not protected answered room G.Unassigned D.Unassigned = tt
+  as-not protected answered room (Some level) None = tt
+  as-not protected answered room None (Some description) = tt
+  as-not protected answered room None None = tt
 
   alert-not : (protected : Bool) (level description : ℕ) (answered : List ℕ) (room : ℕ)
       → NotDone (alert_sent u protected level description answered room).outcome
   unfolding alert_sent
   alert-not protected level description answered room = as-not protected answered room (level_of level) (sorted_of description)
 
-  named-not : (random : List ℕ) (refresh room : ℕ) (n : Named) → NotDone (hello_as u random refresh room n).outcome
-  named-not random refresh room (Are kinds) = rw no_hello tt
-  named-not random refresh room Others = tt
+  named-not : (random : List ℕ) (refresh room : ℕ) (n : Option Kinds) → NotDone (hello_as u random refresh room n).outcome
+  named-not random refresh room (Some kinds) = rw no_hello tt
+  named-not random refresh room None = tt
 
   hello-not : (random macs : List ℕ) (refresh room : ℕ) → NotDone (hello_sent u random macs refresh room).outcome
   unfolding hello_sent
@@ -216,14 +213,14 @@ module _ (u : Ship) (not : u.state ≢ S.Barred) where
         fatal = l;
       }
 
-  named-state : (random : List ℕ) (refresh room : ℕ) (n : Named) → may_hello u.state ≡ Done → (hello_as u random refresh room n).unit.state ≢ S.Barred
+  named-state : (random : List ℕ) (refresh room : ℕ) (n : Option Kinds) → may_hello u.state ≡ Ok tt → (hello_as u random refresh room n).unit.state ≢ S.Barred
   unfolding greeted_with
-  named-state random refresh room (Are kinds) m =
+  named-state random refresh room (Some kinds) m =
       decide (leb (length (hello_datagram u.id random (offer_of kinds refresh))) room)
       (λ f. rw (m, f) (λ e. let y : ◌≡◌ {A = ℕ} 0 1 = cc in omega arith)) (λ f. rw (m, f) not)
-  named-state random refresh room Others m = not
+  named-state random refresh room None m = not
 
-  hello-state : (random macs : List ℕ) (refresh room : ℕ) → may_hello u.state ≡ Done → (hello_sent u random macs refresh room).unit.state ≢ S.Barred
+  hello-state : (random macs : List ℕ) (refresh room : ℕ) → may_hello u.state ≡ Ok tt → (hello_sent u random macs refresh room).unit.state ≢ S.Barred
   unfolding hello_sent
   hello-state random macs refresh room m =
       decide (eqb (length random) 16)
@@ -250,9 +247,9 @@ module _ (u : Ship) (not : u.state ≢ S.Barred) where
   start-state S.Closed e = let z : ◌≡◌ {A = ℕ} 0 1 = cc in omega arith
   start-state S.Barred e = not e
 
-  greet-state : (random macs : List ℕ) (refresh room : ℕ) (o : Outcome) → may_hello u.state ≡ o → (hello_sent u random macs refresh room).unit.state ≢ S.Barred
-  greet-state random macs refresh room Done m = hello-state random macs refresh room m
-  greet-state random macs refresh room (Refused x) m = λ e. not (sym (ap (λ v. v.state) (hello-refused u random macs refresh room x m)) ∙ e)
+  greet-state : (random macs : List ℕ) (refresh room : ℕ) (o : Result ⊤ Refusal) → may_hello u.state ≡ o → (hello_sent u random macs refresh room).unit.state ≢ S.Barred
+  greet-state random macs refresh room (Ok tt) m = hello-state random macs refresh room m
+  greet-state random macs refresh room (Err x) m = λ e. not (sym (ap (λ v. v.state) (hello-refused u random macs refresh room x m)) ∙ e)
 
   only-fatal : (e : Event) → (next u e).state ≡ S.Barred → FatalUnderCode u e
   only-fatal (took d r) e = row-fatal d r (row_of u d r) e

@@ -12,20 +12,11 @@ use Rattle.record.specs.declared.header.Content.{Content}
 use Rattle.record.specs.declared.header.Content.TheVariants as C
 use Rattle.record.specs.declared.keys.Sense.TheVariants.{FromUnit}
 use Rattle.record.specs.declared.protection.Protection.{Protection}
-use Rattle.record.specs.declared.protection.Wrote.{Wrote}
-use Rattle.record.specs.declared.protection.Wrote.TheVariants as W
+use Rattle.record.specs.declared.protection.Unwritten.TheVariants as W
 use Rattle.message.specs.Alert.{level_of, sorted_of}
 use Rattle.message.specs.Offer.{kinds_named}
-use Rattle.message.specs.declared.alert.Graded.{Graded}
-use Rattle.message.specs.declared.alert.Graded.TheVariants as G
-use Rattle.message.specs.declared.alert.Sorted.{Sorted}
-use Rattle.message.specs.declared.alert.Sorted.TheVariants as D
-use Rattle.message.specs.declared.offer.Named.{Named}
-use Rattle.message.specs.declared.offer.Named.TheVariants.{Are, Others}
 use Rattle.connection.specs.Send.{alert_body, clear_on}
 use Rattle.connection.specs.Sent.{sum_of}
-use Rattle.connection.specs.declared.calls.Outcome.{Outcome}
-use Rattle.connection.specs.declared.calls.Outcome.TheVariants.{Done, Refused}
 use Rattle.connection.specs.declared.refusal.Refusal.{Refusal}
 use Rattle.connection.specs.declared.refusal.Refusal.TheVariants as X
 use Rattle.unit.specs.Unit.{with_sent, flight_of}
@@ -37,6 +28,11 @@ use Rattle.unit.specs.declared.state.State.TheVariants as S
 use Rattle.unit.specs.declared.unit.Unit.{Unit as Ship}
 use Rattle.demands.specs.Ship.Changes.{Alike, SendsChangeOnly, AgainChangesNothing}
 use Rattle.demands.specs.Ship.Table.{Up}
+use Rattle.std.specs.Prelude.{Err, None, Ok, Option, Result, Some, ⊤}
+use Rattle.message.specs.declared.alert.Description.{Description}
+use Rattle.message.specs.declared.alert.Level.{Level}
+use Rattle.message.specs.declared.offer.Kinds.{Kinds}
+use Rattle.record.specs.declared.protection.Unwritten.{Unwritten}
 
 module _ (u : Ship) where
   pub alike : Alike u u
@@ -69,15 +65,15 @@ module _ (u : Ship) where
   pick-alike true x y ax ay = ax
   pick-alike false x y ax ay = ay
 
-  if-alike : (o : Outcome) (x : Sent) → Alike u x.unit → Alike u (sent_if u o x).unit
-  if-alike Done x a = a
-  if-alike (Refused y) x a = alike
+  if-alike : (o : Result ⊤ Refusal) (x : Sent) → Alike u x.unit → Alike u (sent_if u o x).unit
+  if-alike (Ok tt) x a = a
+  if-alike (Err y) x a = alike
 
-  wrote-alike : (bytes : List ℕ) (p : Protection) (w : Wrote) → p.keys ≡ u.protection.keys → p.window ≡ u.protection.window
+  wrote-alike : (bytes : List ℕ) (p : Protection) (w : Result ℕ Unwritten) → p.keys ≡ u.protection.keys → p.window ≡ u.protection.window
       → Alike u (wrote_to u bytes p w).unit
-  wrote-alike bytes p W.Spent ek ew = alike
-  wrote-alike bytes p W.NoRoom ek ew = alike
-  wrote-alike bytes p (W.Done size) ek ew = sent-alike p (sum_of bytes) ek ew
+  wrote-alike bytes p (Err W.Spent) ek ew = alike
+  wrote-alike bytes p (Err W.NoRoom) ek ew = alike
+  wrote-alike bytes p (Ok size) ek ew = sent-alike p (sum_of bytes) ek ew
 
   protected-alike : (content : Content) (body : List ℕ) (room : ℕ) → Alike u (protected_sent u content body room).unit
   unfolding protected_sent wrote_by
@@ -85,7 +81,7 @@ module _ (u : Ship) where
       told (ltb 65535 u.protection.protected) (ltb room (length (next_record u.protection FromUnit content body)))
     where
       told : (a b : Bool)
-          → let v = pick a (writing W.Spent u.protection) (pick b (writing W.NoRoom u.protection) (writing (W.Done (length (next_record u.protection FromUnit content body))) (counted_on u.protection))) in
+          → let v = pick a (writing (Err W.Spent) u.protection) (pick b (writing (Err W.NoRoom) u.protection) (writing (Ok (length (next_record u.protection FromUnit content body))) (counted_on u.protection))) in
           Alike u (wrote_to u (next_record u.protection FromUnit content body) v.protection v.wrote).unit
       told true b = alike
       told false true = alike
@@ -113,13 +109,13 @@ module _ (u : Ship) where
   by_alike true body room = if-alike (may_protect u.state) (protected_sent u C.Alert body room) (protected-alike C.Alert body room)
   by_alike false body room = if-alike (may_clear u.state) (clear_sent u body room) (clear-alike body room)
 
-  as-alike : (protected : Bool) (answered : List ℕ) (room : ℕ) (g : Graded) (s : Sorted) → Alike u (alert_sent_as u protected answered room g s).unit
-  as-alike protected answered room (G.Is level) (D.Assigned description) =
+  as-alike : (protected : Bool) (answered : List ℕ) (room : ℕ) (g : Option Level) (s : Option Description) → Alike u (alert_sent_as u protected answered room g s).unit
+  as-alike protected answered room (Some level) (Some description) =
       pick-alike (ltb 1400 (length answered)) (unsent u X.Argument) (alert_sent_by u protected (alert_body level description answered) room) alike
       (by_alike protected (alert_body level description answered) room)
-  as-alike protected answered room (G.Is level) D.Unassigned = alike
-  as-alike protected answered room G.Unassigned (D.Assigned description) = alike
-  as-alike protected answered room G.Unassigned D.Unassigned = alike
+  as-alike protected answered room (Some level) None = alike
+  as-alike protected answered room None (Some description) = alike
+  as-alike protected answered room None None = alike
 
   pub alert-alike : (protected : Bool) (level description : ℕ) (answered : List ℕ) (room : ℕ)
       → Alike u (alert_sent u protected level description answered room).unit
@@ -153,11 +149,11 @@ module _ (u : Ship) where
   pick_same true x y ex ey = ex
   pick_same false x y ex ey = ey
 
-  hello-as : (random : List ℕ) (refresh room : ℕ) (n : Named) (x : Refusal) → may_hello u.state ≡ Refused x → (hello_as u random refresh room n).unit ≡ u
-  hello-as random refresh room (Are kinds) x e = ap (λ o. (sent_if u o (greeted_with u random (offer_of kinds refresh) room)).unit) e
-  hello-as random refresh room Others x e = refl
+  hello-as : (random : List ℕ) (refresh room : ℕ) (n : Option Kinds) (x : Refusal) → may_hello u.state ≡ Err x → (hello_as u random refresh room n).unit ≡ u
+  hello-as random refresh room (Some kinds) x e = ap (λ o. (sent_if u o (greeted_with u random (offer_of kinds refresh) room)).unit) e
+  hello-as random refresh room None x e = refl
 
-  pub hello-refused : (random macs : List ℕ) (refresh room : ℕ) (x : Refusal) → may_hello u.state ≡ Refused x
+  pub hello-refused : (random macs : List ℕ) (refresh room : ℕ) (x : Refusal) → may_hello u.state ≡ Err x
       → (hello_sent u random macs refresh room).unit ≡ u
   unfolding hello_sent
   hello-refused random macs refresh room x e =

@@ -21,17 +21,9 @@ use Rattle.record.proofs.Protecting.{record_under_length}
 use Rattle.message.specs.Alert.{level_of, sorted_of}
 use Rattle.message.specs.Offer.{kinds_named, pairs_size, offer_hello}
 use Rattle.message.specs.declared.alert.Description.{Description}
-use Rattle.message.specs.declared.alert.Graded.{Graded}
-use Rattle.message.specs.declared.alert.Graded.TheVariants as G
 use Rattle.message.specs.declared.alert.Level.{Level}
-use Rattle.message.specs.declared.alert.Sorted.{Sorted}
-use Rattle.message.specs.declared.alert.Sorted.TheVariants as D
 use Rattle.message.specs.declared.offer.Kinds.{Kinds as Offers}
-use Rattle.message.specs.declared.offer.Named.{Named}
-use Rattle.message.specs.declared.offer.Named.TheVariants.{Are, Others}
 use Rattle.connection.specs.Send.{alert_body}
-use Rattle.connection.specs.declared.calls.Outcome.{Outcome}
-use Rattle.connection.specs.declared.calls.Outcome.TheVariants.{Done, Refused}
 use Rattle.connection.specs.declared.refusal.Refusal.{Refusal}
 use Rattle.connection.specs.declared.refusal.Refusal.TheVariants as X
 use Rattle.unit.specs.Calls.{fresh_of, closed_in, started_in}
@@ -53,30 +45,31 @@ use Rattle.demands.specs.Ship.ExactlyCalls.{AlertMay, alert_number_of, alert_cod
 use Rattle.demands.specs.Ship.ExactlyCalls.{WhyClose, close_7, ExactlyClose, WhyStart, start_7, start_8, ExactlyStart}
 use Rattle.demands.proofs.Exactly.Reasons.{clash, decide}
 use Rattle.demands.proofs.Exactly.Sends.{LevelHolds, level_holds, SortedHolds, sorted-holds}
+use Rattle.std.specs.Prelude.{Err, None, Ok, Option, Some, ⊤}
 
 -- ---- an outcome and what it wrote
 
-abbrev OutcomeHolds : (Refusal → Type 0) → Type 0 → ℕ → ℕ → Outcome → Type 0
-OutcomeHolds Why Goes size written Done = Goes × (written ≡ size)
-OutcomeHolds Why Goes size written (Refused x) = Why x × (written ≡ 0)
+abbrev OutcomeHolds : (Refusal → Type 0) → Type 0 → ℕ → ℕ → Result ⊤ Refusal → Type 0
+OutcomeHolds Why Goes size written (Ok tt) = Goes × (written ≡ size)
+OutcomeHolds Why Goes size written (Err x) = Why x × (written ≡ 0)
 
 abbrev SentHolds : (Refusal → Type 0) → Type 0 → ℕ → Sent → Type 0
 SentHolds Why Goes size s = OutcomeHolds Why Goes size s.written s.outcome
 
-abbrev outcome_in : Result → Outcome
-outcome_in (received taken answers written) = Done
+abbrev outcome_in : Result → Result ⊤ Refusal
+outcome_in (received taken answers written) = Ok tt
 outcome_in (sent outcome written) = outcome
 outcome_in (called outcome) = outcome
 
 module _ (Why : Refusal → Type 0) (Goes : Type 0) (size : ℕ) (s : Sent) (h : SentHolds Why Goes size s) where
-  refused-exactly : ((x : Refusal) → Why x → s.outcome ≡ Refused x) → (x : Refusal)
-      → (sent s.outcome s.written ≡ sent (Refused x) 0) ↔ Why x
+  refused-exactly : ((x : Refusal) → Why x → s.outcome ≡ Err x) → (x : Refusal)
+      → (sent s.outcome s.written ≡ sent (Err x) 0) ↔ Why x
   refused-exactly b x = (
     λ e. (subst (OutcomeHolds Why Goes size s.written) (ap outcome_in e) h).0,
     λ w. let e = b x w in ap₂ sent e (subst (OutcomeHolds Why Goes size s.written) e h).1,
   )
 
-  goes-exactly : (Goes → s.outcome ≡ Done) → (sent s.outcome s.written ≡ sent Done size) ↔ Goes
+  goes-exactly : (Goes → s.outcome ≡ Ok tt) → (sent s.outcome s.written ≡ sent (Ok tt) size) ↔ Goes
   goes-exactly b = (
     λ e. (subst (OutcomeHolds Why Goes size s.written) (ap outcome_in e) h).0,
     λ w. let e = b w in ap₂ sent e (subst (OutcomeHolds Why Goes size s.written) e h).1,
@@ -84,49 +77,49 @@ module _ (Why : Refusal → Type 0) (Goes : Type 0) (size : ℕ) (s : Sent) (h :
 
 -- ---- what a state may
 
-up_protects : (s : State) → Up s → may_protect s ≡ Done
+up_protects : (s : State) → Up s → may_protect s ≡ Ok tt
 up_protects s (inl e) = ap may_protect e
 up_protects s (inr e) = ap may_protect e
 
-down-protects : (s : State) → Down s → may_protect s ≡ Refused X.NotAllowed
+down-protects : (s : State) → Down s → may_protect s ≡ Err X.NotAllowed
 down-protects s (inl e) = ap may_protect e
 down-protects s (inr (inl e)) = ap may_protect e
 down-protects s (inr (inr (inl e))) = ap may_protect e
 down-protects s (inr (inr (inr e))) = ap may_protect e
 
-over-protects : (s : State) → Over s → may_protect s ≡ Refused X.Ended
+over-protects : (s : State) → Over s → may_protect s ≡ Err X.Ended
 over-protects s (inl e) = ap may_protect e
 over-protects s (inr e) = ap may_protect e
 
-midway-clears : (s : State) → Midway s → may_clear s ≡ Done
+midway-clears : (s : State) → Midway s → may_clear s ≡ Ok tt
 midway-clears s (inl e) = ap may_clear e
 midway-clears s (inr (inl e)) = ap may_clear e
 midway-clears s (inr (inr e)) = ap may_clear e
 
-not-midway-clears : (s : State) → (s ≡ S.Idle) ⊎ Up s → may_clear s ≡ Refused X.NotAllowed
+not-midway-clears : (s : State) → (s ≡ S.Idle) ⊎ Up s → may_clear s ≡ Err X.NotAllowed
 not-midway-clears s (inl e) = ap may_clear e
 not-midway-clears s (inr (inl e)) = ap may_clear e
 not-midway-clears s (inr (inr e)) = ap may_clear e
 
-over-clears : (s : State) → Over s → may_clear s ≡ Refused X.Ended
+over-clears : (s : State) → Over s → may_clear s ≡ Err X.Ended
 over-clears s (inl e) = ap may_clear e
 over-clears s (inr e) = ap may_clear e
 
-abbrev MayHolds : Type 0 → Type 0 → Type 0 → Outcome → Type 0
-MayHolds May MayNot Ends Done = May
-MayHolds May MayNot Ends (Refused X.NotAllowed) = MayNot
-MayHolds May MayNot Ends (Refused X.Ended) = Ends
-MayHolds May MayNot Ends (Refused (X.Framing fault)) = ⊥
-MayHolds May MayNot Ends (Refused X.Room) = ⊥
-MayHolds May MayNot Ends (Refused X.Forged) = ⊥
-MayHolds May MayNot Ends (Refused X.TooOld) = ⊥
-MayHolds May MayNot Ends (Refused X.Repeated) = ⊥
-MayHolds May MayNot Ends (Refused X.Malformed) = ⊥
-MayHolds May MayNot Ends (Refused X.Unacceptable) = ⊥
-MayHolds May MayNot Ends (Refused X.Checksum) = ⊥
-MayHolds May MayNot Ends (Refused X.Spent) = ⊥
-MayHolds May MayNot Ends (Refused X.Argument) = ⊥
-MayHolds May MayNot Ends (Refused X.WrongFinished) = ⊥
+abbrev MayHolds : Type 0 → Type 0 → Type 0 → Result ⊤ Refusal → Type 0
+MayHolds May MayNot Ends (Ok tt) = May
+MayHolds May MayNot Ends (Err X.NotAllowed) = MayNot
+MayHolds May MayNot Ends (Err X.Ended) = Ends
+MayHolds May MayNot Ends (Err (X.Framing fault)) = ⊥
+MayHolds May MayNot Ends (Err X.Room) = ⊥
+MayHolds May MayNot Ends (Err X.Forged) = ⊥
+MayHolds May MayNot Ends (Err X.TooOld) = ⊥
+MayHolds May MayNot Ends (Err X.Repeated) = ⊥
+MayHolds May MayNot Ends (Err X.Malformed) = ⊥
+MayHolds May MayNot Ends (Err X.Unacceptable) = ⊥
+MayHolds May MayNot Ends (Err X.Checksum) = ⊥
+MayHolds May MayNot Ends (Err X.Spent) = ⊥
+MayHolds May MayNot Ends (Err X.Argument) = ⊥
+MayHolds May MayNot Ends (Err X.WrongFinished) = ⊥
 
 protect-holds : (s : State) → MayHolds (Up s) (Down s) (Over s) (may_protect s)
 protect-holds S.Idle = inl refl
@@ -160,22 +153,22 @@ hello-holds S.Barred = inr refl
 
 -- by the state, then what follows
 module _ (u : Ship) (May MayNot Ends : Type 0) (Why : Refusal → Type 0) (Goes : Type 0) (size : ℕ) (s : Sent) where
-  if-holds : (o : Outcome) → MayHolds May MayNot Ends o → (MayNot → Why X.NotAllowed) → (Ends → Why X.Ended)
+  if-holds : (o : Result ⊤ Refusal) → MayHolds May MayNot Ends o → (MayNot → Why X.NotAllowed) → (Ends → Why X.Ended)
       → (May → SentHolds Why Goes size s) → SentHolds Why Goes size (sent_if u o s)
-  if-holds Done h n e b = b h
-  if-holds (Refused X.NotAllowed) h n e b = (n h, refl)
-  if-holds (Refused X.Ended) h n e b = (e h, refl)
-  if-holds (Refused (X.Framing fault)) h n e b = absurd h
-  if-holds (Refused X.Room) h n e b = absurd h
-  if-holds (Refused X.Forged) h n e b = absurd h
-  if-holds (Refused X.TooOld) h n e b = absurd h
-  if-holds (Refused X.Repeated) h n e b = absurd h
-  if-holds (Refused X.Malformed) h n e b = absurd h
-  if-holds (Refused X.Unacceptable) h n e b = absurd h
-  if-holds (Refused X.Checksum) h n e b = absurd h
-  if-holds (Refused X.Spent) h n e b = absurd h
-  if-holds (Refused X.Argument) h n e b = absurd h
-  if-holds (Refused X.WrongFinished) h n e b = absurd h
+  if-holds (Ok tt) h n e b = b h
+  if-holds (Err X.NotAllowed) h n e b = (n h, refl)
+  if-holds (Err X.Ended) h n e b = (e h, refl)
+  if-holds (Err (X.Framing fault)) h n e b = absurd h
+  if-holds (Err X.Room) h n e b = absurd h
+  if-holds (Err X.Forged) h n e b = absurd h
+  if-holds (Err X.TooOld) h n e b = absurd h
+  if-holds (Err X.Repeated) h n e b = absurd h
+  if-holds (Err X.Malformed) h n e b = absurd h
+  if-holds (Err X.Unacceptable) h n e b = absurd h
+  if-holds (Err X.Checksum) h n e b = absurd h
+  if-holds (Err X.Spent) h n e b = absurd h
+  if-holds (Err X.Argument) h n e b = absurd h
+  if-holds (Err X.WrongFinished) h n e b = absurd h
 
 -- ---- a protected record: 15, then 6
 
@@ -186,16 +179,16 @@ module _ (u : Ship) (content : Content) (body : List ℕ) (room : ℕ) where
   size_is : length (next_record u.protection FromUnit content body) ≡ record_size
   size_is = record_under_length u.protection.keys FromUnit content u.protection.protected body ∙ omega arith
 
-  protected-spent : 65535 < u.protection.protected → (protected_sent u content body room).outcome ≡ Refused X.Spent
+  protected-spent : 65535 < u.protection.protected → (protected_sent u content body room).outcome ≡ Err X.Spent
   unfolding protected_sent wrote_by
   protected-spent l = rw (lt-ltb 65535 u.protection.protected l) refl
 
-  protected-room : u.protection.protected ≤ 65535 → room < record_size → (protected_sent u content body room).outcome ≡ Refused X.Room
+  protected-room : u.protection.protected ≤ 65535 → room < record_size → (protected_sent u content body room).outcome ≡ Err X.Room
   unfolding protected_sent wrote_by
   protected-room l m =
       rw (le-ltb 65535 u.protection.protected l, lt-ltb room (length (next_record u.protection FromUnit content body)) (omega (arith, size_is))) refl
 
-  protected_done : u.protection.protected ≤ 65535 → record_size ≤ room → (protected_sent u content body room).outcome ≡ Done
+  protected_done : u.protection.protected ≤ 65535 → record_size ≤ room → (protected_sent u content body room).outcome ≡ Ok tt
   unfolding protected_sent wrote_by
   protected_done l m =
       rw (le-ltb 65535 u.protection.protected l, le-ltb room (length (next_record u.protection FromUnit content body)) (omega (arith, size_is))) refl
@@ -225,10 +218,10 @@ module _ (u : Ship) (bytes : List ℕ) (room : ℕ) where
   unfolding data_sent
   data-past f = rw (ne_eqb (length bytes) 0 (λ e. omega (arith, f.0)), le-ltb 1300 (length bytes) f.1) refl
 
-  data-in : (o : Outcome) → DataFits (length bytes) → may_protect u.state ≡ o → data_sent u bytes room ≡ sent_if u o (protected_sent u C.Data bytes room)
+  data-in : (o : Result ⊤ Refusal) → DataFits (length bytes) → may_protect u.state ≡ o → data_sent u bytes room ≡ sent_if u o (protected_sent u C.Data bytes room)
   data-in o f e = data-past f ∙ ap (λ x. sent_if u x (protected_sent u C.Data bytes room)) e
 
-  data-because : (x : Refusal) → DataWhy x → (data_sent u bytes room).outcome ≡ Refused x
+  data-because : (x : Refusal) → DataWhy x → (data_sent u bytes room).outcome ≡ Err x
   unfolding data_sent
   data-because (X.Framing _) x3 = elim x3 [ ]
   data-because X.Forged x3 = elim x3 [ ]
@@ -240,16 +233,16 @@ module _ (u : Ship) (bytes : List ℕ) (room : ℕ) where
   data-because X.WrongFinished x9 = elim x9 [ ]
   data-because X.Argument (data_16 (inl e)) = rw (eq-eqb (length bytes) 0 e) refl
   data-because X.Argument (data_16 (inr l)) = rw (ne_eqb (length bytes) 0 (λ e. omega arith), lt-ltb 1300 (length bytes) l) refl
-  data-because X.Ended (data_7 f o) = ap (λ s. s.outcome) (data-in (Refused X.Ended) f (over-protects u.state o))
-  data-because X.NotAllowed (data_8 f o) = ap (λ s. s.outcome) (data-in (Refused X.NotAllowed) f (down-protects u.state o))
+  data-because X.Ended (data_7 f o) = ap (λ s. s.outcome) (data-in (Err X.Ended) f (over-protects u.state o))
+  data-because X.NotAllowed (data_8 f o) = ap (λ s. s.outcome) (data-in (Err X.NotAllowed) f (down-protects u.state o))
   data-because X.Spent (data_15 f o l) =
-      ap (λ s. s.outcome) (data-in Done f (up_protects u.state o)) ∙ protected-spent u C.Data bytes room l
+      ap (λ s. s.outcome) (data-in (Ok tt) f (up_protects u.state o)) ∙ protected-spent u C.Data bytes room l
   data-because X.Room (data_6 f o n l) =
-      ap (λ s. s.outcome) (data-in Done f (up_protects u.state o)) ∙ protected-room u C.Data bytes room n l
+      ap (λ s. s.outcome) (data-in (Ok tt) f (up_protects u.state o)) ∙ protected-room u C.Data bytes room n l
 
-  data-goes : DataGoes → (data_sent u bytes room).outcome ≡ Done
+  data-goes : DataGoes → (data_sent u bytes room).outcome ≡ Ok tt
   data-goes (f, o, n, l) =
-      ap (λ s. s.outcome) (data-in Done f (up_protects u.state o)) ∙ protected_done u C.Data bytes room n l
+      ap (λ s. s.outcome) (data-in (Ok tt) f (up_protects u.state o)) ∙ protected_done u C.Data bytes room n l
 
   data-holds : SentHolds DataWhy DataGoes (3 + length bytes + size_of u.protection.keys.mac) (data_sent u bytes room)
   unfolding data_sent
@@ -285,15 +278,15 @@ module _ (u : Ship) (level : Level) (description : Description) (answered : List
   clear_size : length (next_clear u body) ≡ 9
   clear_size = record_length false false C.Alert u.protection.clear body ∙ omega arith
 
-  clear-spent : 65535 < u.protection.clear → (clear_sent u body room).outcome ≡ Refused X.Spent
+  clear-spent : 65535 < u.protection.clear → (clear_sent u body room).outcome ≡ Err X.Spent
   unfolding clear_sent
   clear-spent l = rw (lt-ltb 65535 u.protection.clear l) refl
 
-  clear_room : u.protection.clear ≤ 65535 → room < 9 → (clear_sent u body room).outcome ≡ Refused X.Room
+  clear_room : u.protection.clear ≤ 65535 → room < 9 → (clear_sent u body room).outcome ≡ Err X.Room
   unfolding clear_sent
   clear_room l m = rw (le-ltb 65535 u.protection.clear l, lt-leb (length (next_clear u body)) room (omega (arith, clear_size))) refl
 
-  clear-done : u.protection.clear ≤ 65535 → 9 ≤ room → (clear_sent u body room).outcome ≡ Done
+  clear-done : u.protection.clear ≤ 65535 → 9 ≤ room → (clear_sent u body room).outcome ≡ Ok tt
   unfolding clear_sent
   clear-done l m = rw (le-ltb 65535 u.protection.clear l, le-leb (length (next_clear u body)) room (omega (arith, clear_size))) refl
 
@@ -334,19 +327,19 @@ module _ (u : Ship) (level description : ℕ) (answered : List ℕ) (room : ℕ)
         (λ o. clear-sent-holds u l k answered room (AlertWhy false) (AlertGoes false) (λ n. alert_15 fits o n)
         (λ n m. alert_6 fits o n m) (λ n m. (fits, o, n, m)))
 
-  as-holds : (protected : Bool) (g : Graded) (s : Sorted) → LevelHolds level g → SortedHolds (is_assigned description) s
+  as-holds : (protected : Bool) (g : Option Level) (s : Option Description) → LevelHolds level g → SortedHolds (is_assigned description) s
       → SentHolds (AlertWhy protected) (AlertGoes protected) (9 + alert_code_of protected u) (alert_sent_as u protected answered room g s)
-  as-holds protected (G.Is l) (D.Assigned k) (a, b) e =
+  as-holds protected (Some l) (Some k) (a, b) e =
       decide (ltb 1400 (length answered))
       (λ f. rw f (alert_16 (λ w. omega (arith, ltb-true 1400 (length answered) f, w.3)), refl))
       (λ f. rw f (by-holds (a, b, e, ltb-false 1400 (length answered) f) l k protected))
-  as-holds protected (G.Is l) D.Unassigned h e = (alert_16 (λ w. clash (sym w.2 ∙ e)), refl)
-  as-holds protected G.Unassigned (D.Assigned k) h e = (alert_16 (λ w. not-level h w), refl)
+  as-holds protected (Some l) None h e = (alert_16 (λ w. clash (sym w.2 ∙ e)), refl)
+  as-holds protected None (Some k) h e = (alert_16 (λ w. not-level h w), refl)
     where
       not-level : (level ≡ 0) ⊎ (3 < level) → AlertFits level description (length answered) → ⊥
       not-level (inl z) w = omega (arith, w.0)
       not-level (inr z) w = omega (arith, w.1)
-  as-holds protected G.Unassigned D.Unassigned h e = (alert_16 (λ w. clash (sym w.2 ∙ e)), refl)
+  as-holds protected None None h e = (alert_16 (λ w. clash (sym w.2 ∙ e)), refl)
 
   alert-holds : (protected : Bool)
       → SentHolds (AlertWhy protected) (AlertGoes protected) (9 + alert_code_of protected u) (alert_sent u protected level description answered room)
@@ -359,14 +352,14 @@ module _ (u : Ship) (level description : ℕ) (answered : List ℕ) (room : ℕ)
   unfolding alert_sent
   alert-past protected f = go (level_of level) (sorted_of description) (level_holds level) (sorted-holds description)
     where
-      go : (g : Graded) (s : Sorted) → LevelHolds level g → SortedHolds (is_assigned description) s
+      go : (g : Option Level) (s : Option Description) → LevelHolds level g → SortedHolds (is_assigned description) s
           → (l : Level) × (k : Description) × (alert_sent_as u protected answered room g s ≡ alert_sent_by u protected (alert_body l k answered) room)
-      go (G.Is l) (D.Assigned k) a e = (l, k, rw (le-ltb 1400 (length answered) f.3) refl)
-      go (G.Is l) D.Unassigned a e = clash (sym f.2 ∙ e)
-      go G.Unassigned s (inl z) e = absurd (omega (arith, f.0))
-      go G.Unassigned s (inr z) e = absurd (omega (arith, f.1))
+      go (Some l) (Some k) a e = (l, k, rw (le-ltb 1400 (length answered) f.3) refl)
+      go (Some l) None a e = clash (sym f.2 ∙ e)
+      go None s (inl z) e = absurd (omega (arith, f.0))
+      go None s (inr z) e = absurd (omega (arith, f.1))
 
-  alert-because : (protected : Bool) (x : Refusal) → AlertWhy protected x → (alert_sent u protected level description answered room).outcome ≡ Refused x
+  alert-because : (protected : Bool) (x : Refusal) → AlertWhy protected x → (alert_sent u protected level description answered room).outcome ≡ Err x
   unfolding alert_sent_by
   alert-because protected (X.Framing _) x3 = elim x3 [ ]
   alert-because protected X.Forged x3 = elim x3 [ ]
@@ -378,24 +371,24 @@ module _ (u : Ship) (level description : ℕ) (answered : List ℕ) (room : ℕ)
   alert-because protected X.WrongFinished x9 = elim x9 [ ]
   alert-because protected X.Argument (alert_16 n) = unfit (alert_sent u protected level description answered room) (alert-holds protected)
     where
-      unfit : (s : Sent) → SentHolds (AlertWhy protected) (AlertGoes protected) (9 + alert_code_of protected u) s → s.outcome ≡ Refused X.Argument
+      unfit : (s : Sent) → SentHolds (AlertWhy protected) (AlertGoes protected) (9 + alert_code_of protected u) s → s.outcome ≡ Err X.Argument
       unfit s h = by s.outcome h
         where
-          by : (o : Outcome) → OutcomeHolds (AlertWhy protected) (AlertGoes protected) (9 + alert_code_of protected u) s.written o → o ≡ Refused X.Argument
-          by Done (g, e) = absurd (n g.0)
-          by (Refused (X.Framing _)) (w, e) = elim w [ ]
-          by (Refused X.Forged) (w, e) = elim w [ ]
-          by (Refused X.TooOld) (w, e) = elim w [ ]
-          by (Refused X.Repeated) (w, e) = elim w [ ]
-          by (Refused X.Malformed) (w, e) = elim w [ ]
-          by (Refused X.Unacceptable) (w, e) = elim w [ ]
-          by (Refused X.Checksum) (w, e) = elim w [ ]
-          by (Refused X.WrongFinished) (w, e) = elim w [ ]
-          by (Refused X.Argument) (alert_16 m, e) = refl
-          by (Refused X.Ended) (alert_7 f o, e) = absurd (n f)
-          by (Refused X.NotAllowed) (alert_8 f o, e) = absurd (n f)
-          by (Refused X.Spent) (alert_15 f o l, e) = absurd (n f)
-          by (Refused X.Room) (alert_6 f o l m, e) = absurd (n f)
+          by : (o : Result ⊤ Refusal) → OutcomeHolds (AlertWhy protected) (AlertGoes protected) (9 + alert_code_of protected u) s.written o → o ≡ Err X.Argument
+          by (Ok tt) (g, e) = absurd (n g.0)
+          by (Err (X.Framing _)) (w, e) = elim w [ ]
+          by (Err X.Forged) (w, e) = elim w [ ]
+          by (Err X.TooOld) (w, e) = elim w [ ]
+          by (Err X.Repeated) (w, e) = elim w [ ]
+          by (Err X.Malformed) (w, e) = elim w [ ]
+          by (Err X.Unacceptable) (w, e) = elim w [ ]
+          by (Err X.Checksum) (w, e) = elim w [ ]
+          by (Err X.WrongFinished) (w, e) = elim w [ ]
+          by (Err X.Argument) (alert_16 m, e) = refl
+          by (Err X.Ended) (alert_7 f o, e) = absurd (n f)
+          by (Err X.NotAllowed) (alert_8 f o, e) = absurd (n f)
+          by (Err X.Spent) (alert_15 f o l, e) = absurd (n f)
+          by (Err X.Room) (alert_6 f o l m, e) = absurd (n f)
   alert-because true X.Ended (alert_7 f o) =
       let t = alert-past true f in
       ap (λ s. s.outcome) t.2 ∙ ap (λ x. (sent_if u x (protected_sent u C.Alert (alert_body t.0 t.1 answered) room)).outcome) (over-protects u.state o)
@@ -425,7 +418,7 @@ module _ (u : Ship) (level description : ℕ) (answered : List ℕ) (room : ℕ)
       ap (λ s. s.outcome) t.2 ∙ ap (λ x. (sent_if u x (clear_sent u (alert_body t.0 t.1 answered) room)).outcome) (midway-clears u.state o)
       ∙ clear_room u t.0 t.1 answered room n m
 
-  alert_goes : (protected : Bool) → AlertGoes protected → (alert_sent u protected level description answered room).outcome ≡ Done
+  alert_goes : (protected : Bool) → AlertGoes protected → (alert_sent u protected level description answered room).outcome ≡ Ok tt
   unfolding alert_sent_by
   alert_goes true (f, o, n, m) =
       let t = alert-past true f in
@@ -453,9 +446,9 @@ exactly-alert =
 -- ---- hello
 
 -- the kinds that are named
-abbrev NamedHolds : List ℕ → Named → Type 0
-NamedHolds macs (Are kinds) = Kinds macs × (pairs_size kinds ≡ length macs + length macs)
-NamedHolds macs Others = Kinds macs → ⊥
+abbrev NamedHolds : List ℕ → Option Kinds → Type 0
+NamedHolds macs (Some kinds) = Kinds macs × (pairs_size kinds ≡ length macs + length macs)
+NamedHolds macs None = Kinds macs → ⊥
 
 named-holds : (macs : List ℕ) → NamedHolds macs (kinds_named macs)
 unfolding kinds_named
@@ -487,10 +480,10 @@ module _ (u : Ship) (id8 : length u.id ≡ 8) (random macs : List ℕ) (refresh 
       record_length false false C.Handshake 0 (offer_hello random u.id (offer_of kinds refresh))
       ∙ omega (arith, hello_size_lem random u.id (offer_of kinds refresh) lr id8, e)
 
-  named-sent : (lr : length random ≡ 16) (l : refresh ≤ 255) (n : Named) → NamedHolds macs n
+  named-sent : (lr : length random ≡ 16) (l : refresh ≤ 255) (n : Option Kinds) → NamedHolds macs n
       → SentHolds HelloWhy HelloGoes (hello_size macs) (hello_as u random refresh room n)
   unfolding greeted_with
-  named-sent lr l (Are kinds) (k, e) =
+  named-sent lr l (Some kinds) (k, e) =
       let fits : HelloFits (length random) macs refresh = (lr, l, k) in
       let n : ℕ = length (hello_datagram u.id random (offer_of kinds refresh)) in
       let size = said-size kinds lr e in
@@ -499,7 +492,7 @@ module _ (u : Ship) (id8 : length u.id ≡ 8) (random macs : List ℕ) (refresh 
       (λ o. decide (leb n room)
       (λ f. rw f ((fits, o, omega (arith, leb-true n room f, size)), size))
       (λ f. rw f (hello_6 fits o (omega (arith, leb-false n room f, size)), refl)))
-  named-sent lr l Others h = (hello_16 (λ f. h f.2), refl)
+  named-sent lr l None h = (hello_16 (λ f. h f.2), refl)
 
   hello-sent-holds : SentHolds HelloWhy HelloGoes (hello_size macs) (hello_sent u random macs refresh room)
   unfolding hello_sent
@@ -533,103 +526,103 @@ module _ (u : Ship) (id8 : length u.id ≡ 8) (random macs : List ℕ) (refresh 
   over-not (inr e) (inr (inr f)) = let y = sym e ∙ f in let z : ◌≡◌ {A = ℕ} 0 1 = cc in absurd (omega arith)
 
   -- an outcome that holds is the only one for which there is a reason
-  only : (o : Outcome) (written : ℕ) → OutcomeHolds HelloWhy HelloGoes (hello_size macs) written o → (x : Refusal) → HelloWhy x → o ≡ Refused x
-  only Done written ((f, i, l), e) (X.Framing _) x13 = elim x13 [ ]
-  only Done written ((f, i, l), e) X.Forged x13 = elim x13 [ ]
-  only Done written ((f, i, l), e) X.TooOld x14 = elim x14 [ ]
-  only Done written ((f, i, l), e) X.Repeated x15 = elim x15 [ ]
-  only Done written ((f, i, l), e) X.Malformed x16 = elim x16 [ ]
-  only Done written ((f, i, l), e) X.Unacceptable x17 = elim x17 [ ]
-  only Done written ((f, i, l), e) X.Checksum x18 = elim x18 [ ]
-  only Done written ((f, i, l), e) X.Spent x19 = elim x19 [ ]
-  only Done written ((f, i, l), e) X.WrongFinished x20 = elim x20 [ ]
-  only (Refused (X.Framing _)) written (w, e) _ _ = elim w [ ]
-  only (Refused X.Room) written (hello_6 f i l, e) (X.Framing _) x22 = elim x22 [ ]
-  only (Refused X.Room) written (hello_6 f i l, e) X.Forged x22 = elim x22 [ ]
-  only (Refused X.Room) written (hello_6 f i l, e) X.TooOld x23 = elim x23 [ ]
-  only (Refused X.Room) written (hello_6 f i l, e) X.Repeated x24 = elim x24 [ ]
-  only (Refused X.Room) written (hello_6 f i l, e) X.Malformed x25 = elim x25 [ ]
-  only (Refused X.Room) written (hello_6 f i l, e) X.Unacceptable x26 = elim x26 [ ]
-  only (Refused X.Room) written (hello_6 f i l, e) X.Checksum x27 = elim x27 [ ]
-  only (Refused X.Room) written (hello_6 f i l, e) X.Spent x28 = elim x28 [ ]
-  only (Refused X.Room) written (hello_6 f i l, e) X.WrongFinished x29 = elim x29 [ ]
-  only (Refused X.Ended) written (hello_7 f o, e) (X.Framing _) x23 = elim x23 [ ]
-  only (Refused X.Ended) written (hello_7 f o, e) X.Forged x23 = elim x23 [ ]
-  only (Refused X.Ended) written (hello_7 f o, e) X.TooOld x24 = elim x24 [ ]
-  only (Refused X.Ended) written (hello_7 f o, e) X.Repeated x25 = elim x25 [ ]
-  only (Refused X.Ended) written (hello_7 f o, e) X.Malformed x26 = elim x26 [ ]
-  only (Refused X.Ended) written (hello_7 f o, e) X.Unacceptable x27 = elim x27 [ ]
-  only (Refused X.Ended) written (hello_7 f o, e) X.Checksum x28 = elim x28 [ ]
-  only (Refused X.Ended) written (hello_7 f o, e) X.Spent x29 = elim x29 [ ]
-  only (Refused X.Ended) written (hello_7 f o, e) X.WrongFinished x30 = elim x30 [ ]
-  only (Refused X.NotAllowed) written (hello_8 f o, e) (X.Framing _) x24 = elim x24 [ ]
-  only (Refused X.NotAllowed) written (hello_8 f o, e) X.Forged x24 = elim x24 [ ]
-  only (Refused X.NotAllowed) written (hello_8 f o, e) X.TooOld x25 = elim x25 [ ]
-  only (Refused X.NotAllowed) written (hello_8 f o, e) X.Repeated x26 = elim x26 [ ]
-  only (Refused X.NotAllowed) written (hello_8 f o, e) X.Malformed x27 = elim x27 [ ]
-  only (Refused X.NotAllowed) written (hello_8 f o, e) X.Unacceptable x28 = elim x28 [ ]
-  only (Refused X.NotAllowed) written (hello_8 f o, e) X.Checksum x29 = elim x29 [ ]
-  only (Refused X.NotAllowed) written (hello_8 f o, e) X.Spent x30 = elim x30 [ ]
-  only (Refused X.NotAllowed) written (hello_8 f o, e) X.WrongFinished x31 = elim x31 [ ]
-  only (Refused X.Forged) written (w, e) _ _ = elim w [ ]
-  only (Refused X.TooOld) written (w, e) _ _ = elim w [ ]
-  only (Refused X.Repeated) written (w, e) _ _ = elim w [ ]
-  only (Refused X.Malformed) written (w, e) _ _ = elim w [ ]
-  only (Refused X.Unacceptable) written (w, e) _ _ = elim w [ ]
-  only (Refused X.Checksum) written (w, e) _ _ = elim w [ ]
-  only (Refused X.Spent) written (w, e) _ _ = elim w [ ]
-  only (Refused X.Argument) written (hello_16 m, e) (X.Framing _) x32 = elim x32 [ ]
-  only (Refused X.Argument) written (hello_16 m, e) X.Forged x32 = elim x32 [ ]
-  only (Refused X.Argument) written (hello_16 m, e) X.TooOld x33 = elim x33 [ ]
-  only (Refused X.Argument) written (hello_16 m, e) X.Repeated x34 = elim x34 [ ]
-  only (Refused X.Argument) written (hello_16 m, e) X.Malformed x35 = elim x35 [ ]
-  only (Refused X.Argument) written (hello_16 m, e) X.Unacceptable x36 = elim x36 [ ]
-  only (Refused X.Argument) written (hello_16 m, e) X.Checksum x37 = elim x37 [ ]
-  only (Refused X.Argument) written (hello_16 m, e) X.Spent x38 = elim x38 [ ]
-  only (Refused X.Argument) written (hello_16 m, e) X.WrongFinished x39 = elim x39 [ ]
-  only (Refused X.WrongFinished) written (w, e) _ _ = elim w [ ]
-  only Done written ((f, i, l), e) X.Argument (hello_16 n) = absurd (n f)
-  only Done written ((f, i, l), e) X.Ended (hello_7 g o) = clash-state i (inl o)
-  only Done written ((f, i, l), e) X.NotAllowed (hello_8 g o) = clash-state i (inr o)
-  only Done written ((f, i, l), e) X.Room (hello_6 g j m) = absurd (omega arith)
-  only (Refused X.Argument) written (hello_16 m, e) X.Argument (hello_16 n) = refl
-  only (Refused X.Argument) written (hello_16 m, e) X.Ended (hello_7 g o) = absurd (m g)
-  only (Refused X.Argument) written (hello_16 m, e) X.NotAllowed (hello_8 g o) = absurd (m g)
-  only (Refused X.Argument) written (hello_16 m, e) X.Room (hello_6 g j l) = absurd (m g)
-  only (Refused X.Ended) written (hello_7 f o, e) X.Argument (hello_16 n) = absurd (n f)
-  only (Refused X.Ended) written (hello_7 f o, e) X.Ended (hello_7 g p) = refl
-  only (Refused X.Ended) written (hello_7 f o, e) X.NotAllowed (hello_8 g p) = over-not o p
-  only (Refused X.Ended) written (hello_7 f o, e) X.Room (hello_6 g j l) = clash-state j (inl o)
-  only (Refused X.NotAllowed) written (hello_8 f o, e) X.Argument (hello_16 n) = absurd (n f)
-  only (Refused X.NotAllowed) written (hello_8 f o, e) X.Ended (hello_7 g p) = over-not p o
-  only (Refused X.NotAllowed) written (hello_8 f o, e) X.NotAllowed (hello_8 g p) = refl
-  only (Refused X.NotAllowed) written (hello_8 f o, e) X.Room (hello_6 g j l) = clash-state j (inr o)
-  only (Refused X.Room) written (hello_6 f i l, e) X.Argument (hello_16 n) = absurd (n f)
-  only (Refused X.Room) written (hello_6 f i l, e) X.Ended (hello_7 g p) = clash-state i (inl p)
-  only (Refused X.Room) written (hello_6 f i l, e) X.NotAllowed (hello_8 g p) = clash-state i (inr p)
-  only (Refused X.Room) written (hello_6 f i l, e) X.Room (hello_6 g j m) = refl
+  only : (o : Result ⊤ Refusal) (written : ℕ) → OutcomeHolds HelloWhy HelloGoes (hello_size macs) written o → (x : Refusal) → HelloWhy x → o ≡ Err x
+  only (Ok tt) written ((f, i, l), e) (X.Framing _) x13 = elim x13 [ ]
+  only (Ok tt) written ((f, i, l), e) X.Forged x13 = elim x13 [ ]
+  only (Ok tt) written ((f, i, l), e) X.TooOld x14 = elim x14 [ ]
+  only (Ok tt) written ((f, i, l), e) X.Repeated x15 = elim x15 [ ]
+  only (Ok tt) written ((f, i, l), e) X.Malformed x16 = elim x16 [ ]
+  only (Ok tt) written ((f, i, l), e) X.Unacceptable x17 = elim x17 [ ]
+  only (Ok tt) written ((f, i, l), e) X.Checksum x18 = elim x18 [ ]
+  only (Ok tt) written ((f, i, l), e) X.Spent x19 = elim x19 [ ]
+  only (Ok tt) written ((f, i, l), e) X.WrongFinished x20 = elim x20 [ ]
+  only (Err (X.Framing _)) written (w, e) _ _ = elim w [ ]
+  only (Err X.Room) written (hello_6 f i l, e) (X.Framing _) x22 = elim x22 [ ]
+  only (Err X.Room) written (hello_6 f i l, e) X.Forged x22 = elim x22 [ ]
+  only (Err X.Room) written (hello_6 f i l, e) X.TooOld x23 = elim x23 [ ]
+  only (Err X.Room) written (hello_6 f i l, e) X.Repeated x24 = elim x24 [ ]
+  only (Err X.Room) written (hello_6 f i l, e) X.Malformed x25 = elim x25 [ ]
+  only (Err X.Room) written (hello_6 f i l, e) X.Unacceptable x26 = elim x26 [ ]
+  only (Err X.Room) written (hello_6 f i l, e) X.Checksum x27 = elim x27 [ ]
+  only (Err X.Room) written (hello_6 f i l, e) X.Spent x28 = elim x28 [ ]
+  only (Err X.Room) written (hello_6 f i l, e) X.WrongFinished x29 = elim x29 [ ]
+  only (Err X.Ended) written (hello_7 f o, e) (X.Framing _) x23 = elim x23 [ ]
+  only (Err X.Ended) written (hello_7 f o, e) X.Forged x23 = elim x23 [ ]
+  only (Err X.Ended) written (hello_7 f o, e) X.TooOld x24 = elim x24 [ ]
+  only (Err X.Ended) written (hello_7 f o, e) X.Repeated x25 = elim x25 [ ]
+  only (Err X.Ended) written (hello_7 f o, e) X.Malformed x26 = elim x26 [ ]
+  only (Err X.Ended) written (hello_7 f o, e) X.Unacceptable x27 = elim x27 [ ]
+  only (Err X.Ended) written (hello_7 f o, e) X.Checksum x28 = elim x28 [ ]
+  only (Err X.Ended) written (hello_7 f o, e) X.Spent x29 = elim x29 [ ]
+  only (Err X.Ended) written (hello_7 f o, e) X.WrongFinished x30 = elim x30 [ ]
+  only (Err X.NotAllowed) written (hello_8 f o, e) (X.Framing _) x24 = elim x24 [ ]
+  only (Err X.NotAllowed) written (hello_8 f o, e) X.Forged x24 = elim x24 [ ]
+  only (Err X.NotAllowed) written (hello_8 f o, e) X.TooOld x25 = elim x25 [ ]
+  only (Err X.NotAllowed) written (hello_8 f o, e) X.Repeated x26 = elim x26 [ ]
+  only (Err X.NotAllowed) written (hello_8 f o, e) X.Malformed x27 = elim x27 [ ]
+  only (Err X.NotAllowed) written (hello_8 f o, e) X.Unacceptable x28 = elim x28 [ ]
+  only (Err X.NotAllowed) written (hello_8 f o, e) X.Checksum x29 = elim x29 [ ]
+  only (Err X.NotAllowed) written (hello_8 f o, e) X.Spent x30 = elim x30 [ ]
+  only (Err X.NotAllowed) written (hello_8 f o, e) X.WrongFinished x31 = elim x31 [ ]
+  only (Err X.Forged) written (w, e) _ _ = elim w [ ]
+  only (Err X.TooOld) written (w, e) _ _ = elim w [ ]
+  only (Err X.Repeated) written (w, e) _ _ = elim w [ ]
+  only (Err X.Malformed) written (w, e) _ _ = elim w [ ]
+  only (Err X.Unacceptable) written (w, e) _ _ = elim w [ ]
+  only (Err X.Checksum) written (w, e) _ _ = elim w [ ]
+  only (Err X.Spent) written (w, e) _ _ = elim w [ ]
+  only (Err X.Argument) written (hello_16 m, e) (X.Framing _) x32 = elim x32 [ ]
+  only (Err X.Argument) written (hello_16 m, e) X.Forged x32 = elim x32 [ ]
+  only (Err X.Argument) written (hello_16 m, e) X.TooOld x33 = elim x33 [ ]
+  only (Err X.Argument) written (hello_16 m, e) X.Repeated x34 = elim x34 [ ]
+  only (Err X.Argument) written (hello_16 m, e) X.Malformed x35 = elim x35 [ ]
+  only (Err X.Argument) written (hello_16 m, e) X.Unacceptable x36 = elim x36 [ ]
+  only (Err X.Argument) written (hello_16 m, e) X.Checksum x37 = elim x37 [ ]
+  only (Err X.Argument) written (hello_16 m, e) X.Spent x38 = elim x38 [ ]
+  only (Err X.Argument) written (hello_16 m, e) X.WrongFinished x39 = elim x39 [ ]
+  only (Err X.WrongFinished) written (w, e) _ _ = elim w [ ]
+  only (Ok tt) written ((f, i, l), e) X.Argument (hello_16 n) = absurd (n f)
+  only (Ok tt) written ((f, i, l), e) X.Ended (hello_7 g o) = clash-state i (inl o)
+  only (Ok tt) written ((f, i, l), e) X.NotAllowed (hello_8 g o) = clash-state i (inr o)
+  only (Ok tt) written ((f, i, l), e) X.Room (hello_6 g j m) = absurd (omega arith)
+  only (Err X.Argument) written (hello_16 m, e) X.Argument (hello_16 n) = refl
+  only (Err X.Argument) written (hello_16 m, e) X.Ended (hello_7 g o) = absurd (m g)
+  only (Err X.Argument) written (hello_16 m, e) X.NotAllowed (hello_8 g o) = absurd (m g)
+  only (Err X.Argument) written (hello_16 m, e) X.Room (hello_6 g j l) = absurd (m g)
+  only (Err X.Ended) written (hello_7 f o, e) X.Argument (hello_16 n) = absurd (n f)
+  only (Err X.Ended) written (hello_7 f o, e) X.Ended (hello_7 g p) = refl
+  only (Err X.Ended) written (hello_7 f o, e) X.NotAllowed (hello_8 g p) = over-not o p
+  only (Err X.Ended) written (hello_7 f o, e) X.Room (hello_6 g j l) = clash-state j (inl o)
+  only (Err X.NotAllowed) written (hello_8 f o, e) X.Argument (hello_16 n) = absurd (n f)
+  only (Err X.NotAllowed) written (hello_8 f o, e) X.Ended (hello_7 g p) = over-not p o
+  only (Err X.NotAllowed) written (hello_8 f o, e) X.NotAllowed (hello_8 g p) = refl
+  only (Err X.NotAllowed) written (hello_8 f o, e) X.Room (hello_6 g j l) = clash-state j (inr o)
+  only (Err X.Room) written (hello_6 f i l, e) X.Argument (hello_16 n) = absurd (n f)
+  only (Err X.Room) written (hello_6 f i l, e) X.Ended (hello_7 g p) = clash-state i (inl p)
+  only (Err X.Room) written (hello_6 f i l, e) X.NotAllowed (hello_8 g p) = clash-state i (inr p)
+  only (Err X.Room) written (hello_6 f i l, e) X.Room (hello_6 g j m) = refl
 
-  only-done : (o : Outcome) (written : ℕ) → OutcomeHolds HelloWhy HelloGoes (hello_size macs) written o → HelloGoes → o ≡ Done
-  only-done Done written h g = refl
-  only-done (Refused (X.Framing _)) written (w, e) g = elim w [ ]
-  only-done (Refused X.Forged) written (w, e) g = elim w [ ]
-  only-done (Refused X.TooOld) written (w, e) g = elim w [ ]
-  only-done (Refused X.Repeated) written (w, e) g = elim w [ ]
-  only-done (Refused X.Malformed) written (w, e) g = elim w [ ]
-  only-done (Refused X.Unacceptable) written (w, e) g = elim w [ ]
-  only-done (Refused X.Checksum) written (w, e) g = elim w [ ]
-  only-done (Refused X.Spent) written (w, e) g = elim w [ ]
-  only-done (Refused X.WrongFinished) written (w, e) g = elim w [ ]
-  only-done (Refused X.Argument) written (hello_16 n, e) (f, i, l) = absurd (n f)
-  only-done (Refused X.Ended) written (hello_7 g o, e) (f, i, l) = clash-state i (inl o)
-  only-done (Refused X.NotAllowed) written (hello_8 g o, e) (f, i, l) = clash-state i (inr o)
-  only-done (Refused X.Room) written (hello_6 g j m, e) (f, i, l) = absurd (omega arith)
+  only-done : (o : Result ⊤ Refusal) (written : ℕ) → OutcomeHolds HelloWhy HelloGoes (hello_size macs) written o → HelloGoes → o ≡ Ok tt
+  only-done (Ok tt) written h g = refl
+  only-done (Err (X.Framing _)) written (w, e) g = elim w [ ]
+  only-done (Err X.Forged) written (w, e) g = elim w [ ]
+  only-done (Err X.TooOld) written (w, e) g = elim w [ ]
+  only-done (Err X.Repeated) written (w, e) g = elim w [ ]
+  only-done (Err X.Malformed) written (w, e) g = elim w [ ]
+  only-done (Err X.Unacceptable) written (w, e) g = elim w [ ]
+  only-done (Err X.Checksum) written (w, e) g = elim w [ ]
+  only-done (Err X.Spent) written (w, e) g = elim w [ ]
+  only-done (Err X.WrongFinished) written (w, e) g = elim w [ ]
+  only-done (Err X.Argument) written (hello_16 n, e) (f, i, l) = absurd (n f)
+  only-done (Err X.Ended) written (hello_7 g o, e) (f, i, l) = clash-state i (inl o)
+  only-done (Err X.NotAllowed) written (hello_8 g o, e) (f, i, l) = clash-state i (inr o)
+  only-done (Err X.Room) written (hello_6 g j m, e) (f, i, l) = absurd (omega arith)
 
-  hello-because : (x : Refusal) → HelloWhy x → (hello_sent u random macs refresh room).outcome ≡ Refused x
+  hello-because : (x : Refusal) → HelloWhy x → (hello_sent u random macs refresh room).outcome ≡ Err x
   hello-because x w =
       only (hello_sent u random macs refresh room).outcome (hello_sent u random macs refresh room).written hello-sent-holds x w
 
-  hello-goes : HelloGoes → (hello_sent u random macs refresh room).outcome ≡ Done
+  hello-goes : HelloGoes → (hello_sent u random macs refresh room).outcome ≡ Ok tt
   hello-goes w = only-done (hello_sent u random macs refresh room).outcome (hello_sent u random macs refresh room).written hello-sent-holds w
 
 pub exactly-hello : ExactlyHello step_of
@@ -674,19 +667,19 @@ module _ (u : Ship) (room : ℕ) where
   again-holds S.Closed = (again_7 (inl refl), refl)
   again-holds S.Barred = (again_7 (inr refl), refl)
 
-  said-room : (bytes : List ℕ) → room < length bytes → (said_again u bytes room).outcome ≡ Refused X.Room
+  said-room : (bytes : List ℕ) → room < length bytes → (said_again u bytes room).outcome ≡ Err X.Room
   unfolding said_again
   said-room bytes l = rw (lt-leb (length bytes) room l) refl
 
-  said-done : (bytes : List ℕ) → length bytes ≤ room → (said_again u bytes room).outcome ≡ Done
+  said-done : (bytes : List ℕ) → length bytes ≤ room → (said_again u bytes room).outcome ≡ Ok tt
   unfolding said_again
   said-done bytes l = rw (le-leb (length bytes) room l) refl
 
   -- at a state that is known
-  again-at : (s t : State) → s ≡ t → (o : Outcome) → ((again_in u t room).outcome ≡ o) → (again_in u s room).outcome ≡ o
+  again-at : (s t : State) → s ≡ t → (o : Result ⊤ Refusal) → ((again_in u t room).outcome ≡ o) → (again_in u s room).outcome ≡ o
   again-at s t e o h = ap (λ x. (again_in u x room).outcome) e ∙ h
 
-  again-because : (s : State) (x : Refusal) → AgainWhy s x → (again_in u s room).outcome ≡ Refused x
+  again-because : (s : State) (x : Refusal) → AgainWhy s x → (again_in u s room).outcome ≡ Err x
   again-because s (X.Framing _) x3 = elim x3 [ ]
   again-because s X.Forged x3 = elim x3 [ ]
   again-because s X.TooOld x4 = elim x4 [ ]
@@ -697,24 +690,24 @@ module _ (u : Ship) (room : ℕ) where
   again-because s X.Spent x9 = elim x9 [ ]
   again-because s X.Argument x10 = elim x10 [ ]
   again-because s X.WrongFinished x11 = elim x11 [ ]
-  again-because s X.Ended (again_7 (inl e)) = again-at s S.Closed e (Refused X.Ended) refl
-  again-because s X.Ended (again_7 (inr e)) = again-at s S.Barred e (Refused X.Ended) refl
-  again-because s X.NotAllowed (again_8 (inl e)) = again-at s S.Idle e (Refused X.NotAllowed) refl
-  again-because s X.NotAllowed (again_8 (inr e)) = again-at s S.Open e (Refused X.NotAllowed) refl
+  again-because s X.Ended (again_7 (inl e)) = again-at s S.Closed e (Err X.Ended) refl
+  again-because s X.Ended (again_7 (inr e)) = again-at s S.Barred e (Err X.Ended) refl
+  again-because s X.NotAllowed (again_8 (inl e)) = again-at s S.Idle e (Err X.NotAllowed) refl
+  again-because s X.NotAllowed (again_8 (inr e)) = again-at s S.Open e (Err X.NotAllowed) refl
   again-because s X.Room (again_6 (inl (inl e)) l) =
-      again-at s S.Sent e (Refused X.Room) (said-room (hello_said u) (subst (λ t. room < length (again_bytes u t)) e l))
+      again-at s S.Sent e (Err X.Room) (said-room (hello_said u) (subst (λ t. room < length (again_bytes u t)) e l))
   again-because s X.Room (again_6 (inl (inr (inl e))) l) =
-      again-at s S.Replied e (Refused X.Room) (said-room (hello_said u) (subst (λ t. room < length (again_bytes u t)) e l))
+      again-at s S.Replied e (Err X.Room) (said-room (hello_said u) (subst (λ t. room < length (again_bytes u t)) e l))
   again-because s X.Room (again_6 (inl (inr (inr e))) l) =
-      again-at s S.Spec e (Refused X.Room) (said-room (hello_said u) (subst (λ t. room < length (again_bytes u t)) e l))
+      again-at s S.Spec e (Err X.Room) (said-room (hello_said u) (subst (λ t. room < length (again_bytes u t)) e l))
   again-because s X.Room (again_6 (inr e) l) =
-      again-at s S.Opening e (Refused X.Room) (said-room (flight_of u) (subst (λ t. room < length (again_bytes u t)) e l))
+      again-at s S.Opening e (Err X.Room) (said-room (flight_of u) (subst (λ t. room < length (again_bytes u t)) e l))
 
-  again-goes : (s : State) → AgainGoes s → (again_in u s room).outcome ≡ Done
-  again-goes s (inl (inl e), l) = again-at s S.Sent e Done (said-done (hello_said u) (subst (λ t. length (again_bytes u t) ≤ room) e l))
-  again-goes s (inl (inr (inl e)), l) = again-at s S.Replied e Done (said-done (hello_said u) (subst (λ t. length (again_bytes u t) ≤ room) e l))
-  again-goes s (inl (inr (inr e)), l) = again-at s S.Spec e Done (said-done (hello_said u) (subst (λ t. length (again_bytes u t) ≤ room) e l))
-  again-goes s (inr e, l) = again-at s S.Opening e Done (said-done (flight_of u) (subst (λ t. length (again_bytes u t) ≤ room) e l))
+  again-goes : (s : State) → AgainGoes s → (again_in u s room).outcome ≡ Ok tt
+  again-goes s (inl (inl e), l) = again-at s S.Sent e (Ok tt) (said-done (hello_said u) (subst (λ t. length (again_bytes u t) ≤ room) e l))
+  again-goes s (inl (inr (inl e)), l) = again-at s S.Replied e (Ok tt) (said-done (hello_said u) (subst (λ t. length (again_bytes u t) ≤ room) e l))
+  again-goes s (inl (inr (inr e)), l) = again-at s S.Spec e (Ok tt) (said-done (hello_said u) (subst (λ t. length (again_bytes u t) ≤ room) e l))
+  again-goes s (inr e, l) = again-at s S.Opening e (Ok tt) (said-done (flight_of u) (subst (λ t. length (again_bytes u t) ≤ room) e l))
 
 pub exactly-again : ExactlyAgain step_of
 unfolding step_of
@@ -730,15 +723,15 @@ exactly-again =
 
 -- ---- close, start again, fresh
 
-abbrev CallHolds : (Refusal → Type 0) → Type 0 → Outcome → Type 0
-CallHolds Why Goes Done = Goes
-CallHolds Why Goes (Refused x) = Why x
+abbrev CallHolds : (Refusal → Type 0) → Type 0 → Result ⊤ Refusal → Type 0
+CallHolds Why Goes (Ok tt) = Goes
+CallHolds Why Goes (Err x) = Why x
 
-called_refused : (Why : Refusal → Type 0) (Goes : Type 0) (o : Outcome) → CallHolds Why Goes o → ((x : Refusal) → Why x → o ≡ Refused x)
-    → (x : Refusal) → (called o ≡ called (Refused x)) ↔ Why x
+called_refused : (Why : Refusal → Type 0) (Goes : Type 0) (o : Result ⊤ Refusal) → CallHolds Why Goes o → ((x : Refusal) → Why x → o ≡ Err x)
+    → (x : Refusal) → (called o ≡ called (Err x)) ↔ Why x
 called_refused Why Goes o h b x = (λ e. subst (CallHolds Why Goes) (ap outcome_in e) h, λ w. ap called (b x w))
 
-called-goes : (Why : Refusal → Type 0) (Goes : Type 0) (o : Outcome) → CallHolds Why Goes o → (Goes → o ≡ Done) → (called o ≡ called Done) ↔ Goes
+called-goes : (Why : Refusal → Type 0) (Goes : Type 0) (o : Result ⊤ Refusal) → CallHolds Why Goes o → (Goes → o ≡ Ok tt) → (called o ≡ called (Ok tt)) ↔ Goes
 called-goes Why Goes o h b = (λ e. subst (CallHolds Why Goes) (ap outcome_in e) h, λ w. ap called (b w))
 
 module _ (u : Ship) where
@@ -752,7 +745,7 @@ module _ (u : Ship) where
   close-holds S.Closed = λ e. let z : ◌≡◌ {A = ℕ} 0 1 = cc in omega arith
   close-holds S.Barred = close_7 refl
 
-  close-because : (s : State) (x : Refusal) → WhyClose s x → (closed_in u s).outcome ≡ Refused x
+  close-because : (s : State) (x : Refusal) → WhyClose s x → (closed_in u s).outcome ≡ Err x
   close-because s (X.Framing _) x3 = elim x3 [ ]
   close-because s X.Room x3 = elim x3 [ ]
   close-because s X.NotAllowed x4 = elim x4 [ ]
@@ -767,7 +760,7 @@ module _ (u : Ship) where
   close-because s X.WrongFinished x13 = elim x13 [ ]
   close-because s X.Ended (close_7 e) = ap (λ t. (closed_in u t).outcome) e
 
-  close-goes : (s : State) → s ≢ S.Barred → (closed_in u s).outcome ≡ Done
+  close-goes : (s : State) → s ≢ S.Barred → (closed_in u s).outcome ≡ Ok tt
   close-goes S.Idle n = refl
   close-goes S.Sent n = refl
   close-goes S.Replied n = refl
@@ -787,7 +780,7 @@ module _ (u : Ship) where
   start-holds S.Closed = refl
   start-holds S.Barred = start_7 refl
 
-  start-because : (s : State) (x : Refusal) → WhyStart s x → (started_in u s).outcome ≡ Refused x
+  start-because : (s : State) (x : Refusal) → WhyStart s x → (started_in u s).outcome ≡ Err x
   start-because s (X.Framing _) x3 = elim x3 [ ]
   start-because s X.Room x3 = elim x3 [ ]
   start-because s X.Forged x4 = elim x4 [ ]
@@ -849,61 +842,61 @@ module _ (id secret : List ℕ) (width : ℕ) where
   fresh-clash (a, b, h) (inr (inr (inl l))) = absurd (omega (arith, h.0))
   fresh-clash (a, b, h) (inr (inr (inr l))) = absurd (omega (arith, h.1))
 
-  fresh-because : (o : Outcome) → CallHolds FreshWhy FreshGoes o → (x : Refusal) → FreshWhy x → o ≡ Refused x
-  fresh-because Done h (X.Framing _) x6 = elim x6 [ ]
-  fresh-because Done h X.Room x6 = elim x6 [ ]
-  fresh-because Done h X.Ended x7 = elim x7 [ ]
-  fresh-because Done h X.NotAllowed x8 = elim x8 [ ]
-  fresh-because Done h X.Forged x9 = elim x9 [ ]
-  fresh-because Done h X.TooOld x10 = elim x10 [ ]
-  fresh-because Done h X.Repeated x11 = elim x11 [ ]
-  fresh-because Done h X.Malformed x12 = elim x12 [ ]
-  fresh-because Done h X.Unacceptable x13 = elim x13 [ ]
-  fresh-because Done h X.Checksum x14 = elim x14 [ ]
-  fresh-because Done h X.Spent x15 = elim x15 [ ]
-  fresh-because Done h X.WrongFinished x16 = elim x16 [ ]
-  fresh-because (Refused (X.Framing _)) h _ _ = elim h [ ]
-  fresh-because (Refused X.Room) h _ _ = elim h [ ]
-  fresh-because (Refused X.Ended) h _ _ = elim h [ ]
-  fresh-because (Refused X.NotAllowed) h _ _ = elim h [ ]
-  fresh-because (Refused X.Forged) h _ _ = elim h [ ]
-  fresh-because (Refused X.TooOld) h _ _ = elim h [ ]
-  fresh-because (Refused X.Repeated) h _ _ = elim h [ ]
-  fresh-because (Refused X.Malformed) h _ _ = elim h [ ]
-  fresh-because (Refused X.Unacceptable) h _ _ = elim h [ ]
-  fresh-because (Refused X.Checksum) h _ _ = elim h [ ]
-  fresh-because (Refused X.Spent) h _ _ = elim h [ ]
-  fresh-because (Refused X.Argument) h (X.Framing _) x22 = elim x22 [ ]
-  fresh-because (Refused X.Argument) h X.Room x22 = elim x22 [ ]
-  fresh-because (Refused X.Argument) h X.Ended x23 = elim x23 [ ]
-  fresh-because (Refused X.Argument) h X.NotAllowed x24 = elim x24 [ ]
-  fresh-because (Refused X.Argument) h X.Forged x25 = elim x25 [ ]
-  fresh-because (Refused X.Argument) h X.TooOld x26 = elim x26 [ ]
-  fresh-because (Refused X.Argument) h X.Repeated x27 = elim x27 [ ]
-  fresh-because (Refused X.Argument) h X.Malformed x28 = elim x28 [ ]
-  fresh-because (Refused X.Argument) h X.Unacceptable x29 = elim x29 [ ]
-  fresh-because (Refused X.Argument) h X.Checksum x30 = elim x30 [ ]
-  fresh-because (Refused X.Argument) h X.Spent x31 = elim x31 [ ]
-  fresh-because (Refused X.Argument) h X.WrongFinished x32 = elim x32 [ ]
-  fresh-because (Refused X.WrongFinished) h _ _ = elim h [ ]
-  fresh-because Done h X.Argument (fresh_16 w) = fresh-clash h w
-  fresh-because (Refused X.Argument) h X.Argument (fresh_16 w) = refl
+  fresh-because : (o : Result ⊤ Refusal) → CallHolds FreshWhy FreshGoes o → (x : Refusal) → FreshWhy x → o ≡ Err x
+  fresh-because (Ok tt) h (X.Framing _) x6 = elim x6 [ ]
+  fresh-because (Ok tt) h X.Room x6 = elim x6 [ ]
+  fresh-because (Ok tt) h X.Ended x7 = elim x7 [ ]
+  fresh-because (Ok tt) h X.NotAllowed x8 = elim x8 [ ]
+  fresh-because (Ok tt) h X.Forged x9 = elim x9 [ ]
+  fresh-because (Ok tt) h X.TooOld x10 = elim x10 [ ]
+  fresh-because (Ok tt) h X.Repeated x11 = elim x11 [ ]
+  fresh-because (Ok tt) h X.Malformed x12 = elim x12 [ ]
+  fresh-because (Ok tt) h X.Unacceptable x13 = elim x13 [ ]
+  fresh-because (Ok tt) h X.Checksum x14 = elim x14 [ ]
+  fresh-because (Ok tt) h X.Spent x15 = elim x15 [ ]
+  fresh-because (Ok tt) h X.WrongFinished x16 = elim x16 [ ]
+  fresh-because (Err (X.Framing _)) h _ _ = elim h [ ]
+  fresh-because (Err X.Room) h _ _ = elim h [ ]
+  fresh-because (Err X.Ended) h _ _ = elim h [ ]
+  fresh-because (Err X.NotAllowed) h _ _ = elim h [ ]
+  fresh-because (Err X.Forged) h _ _ = elim h [ ]
+  fresh-because (Err X.TooOld) h _ _ = elim h [ ]
+  fresh-because (Err X.Repeated) h _ _ = elim h [ ]
+  fresh-because (Err X.Malformed) h _ _ = elim h [ ]
+  fresh-because (Err X.Unacceptable) h _ _ = elim h [ ]
+  fresh-because (Err X.Checksum) h _ _ = elim h [ ]
+  fresh-because (Err X.Spent) h _ _ = elim h [ ]
+  fresh-because (Err X.Argument) h (X.Framing _) x22 = elim x22 [ ]
+  fresh-because (Err X.Argument) h X.Room x22 = elim x22 [ ]
+  fresh-because (Err X.Argument) h X.Ended x23 = elim x23 [ ]
+  fresh-because (Err X.Argument) h X.NotAllowed x24 = elim x24 [ ]
+  fresh-because (Err X.Argument) h X.Forged x25 = elim x25 [ ]
+  fresh-because (Err X.Argument) h X.TooOld x26 = elim x26 [ ]
+  fresh-because (Err X.Argument) h X.Repeated x27 = elim x27 [ ]
+  fresh-because (Err X.Argument) h X.Malformed x28 = elim x28 [ ]
+  fresh-because (Err X.Argument) h X.Unacceptable x29 = elim x29 [ ]
+  fresh-because (Err X.Argument) h X.Checksum x30 = elim x30 [ ]
+  fresh-because (Err X.Argument) h X.Spent x31 = elim x31 [ ]
+  fresh-because (Err X.Argument) h X.WrongFinished x32 = elim x32 [ ]
+  fresh-because (Err X.WrongFinished) h _ _ = elim h [ ]
+  fresh-because (Ok tt) h X.Argument (fresh_16 w) = fresh-clash h w
+  fresh-because (Err X.Argument) h X.Argument (fresh_16 w) = refl
 
-  fresh-goes : (o : Outcome) → CallHolds FreshWhy FreshGoes o → FreshGoes → o ≡ Done
-  fresh-goes Done h w = refl
-  fresh-goes (Refused (X.Framing _)) h w = elim h [ ]
-  fresh-goes (Refused X.Room) h w = elim h [ ]
-  fresh-goes (Refused X.Ended) h w = elim h [ ]
-  fresh-goes (Refused X.NotAllowed) h w = elim h [ ]
-  fresh-goes (Refused X.Forged) h w = elim h [ ]
-  fresh-goes (Refused X.TooOld) h w = elim h [ ]
-  fresh-goes (Refused X.Repeated) h w = elim h [ ]
-  fresh-goes (Refused X.Malformed) h w = elim h [ ]
-  fresh-goes (Refused X.Unacceptable) h w = elim h [ ]
-  fresh-goes (Refused X.Checksum) h w = elim h [ ]
-  fresh-goes (Refused X.Spent) h w = elim h [ ]
-  fresh-goes (Refused X.WrongFinished) h w = elim h [ ]
-  fresh-goes (Refused X.Argument) (fresh_16 v) w = fresh-clash w v
+  fresh-goes : (o : Result ⊤ Refusal) → CallHolds FreshWhy FreshGoes o → FreshGoes → o ≡ Ok tt
+  fresh-goes (Ok tt) h w = refl
+  fresh-goes (Err (X.Framing _)) h w = elim h [ ]
+  fresh-goes (Err X.Room) h w = elim h [ ]
+  fresh-goes (Err X.Ended) h w = elim h [ ]
+  fresh-goes (Err X.NotAllowed) h w = elim h [ ]
+  fresh-goes (Err X.Forged) h w = elim h [ ]
+  fresh-goes (Err X.TooOld) h w = elim h [ ]
+  fresh-goes (Err X.Repeated) h w = elim h [ ]
+  fresh-goes (Err X.Malformed) h w = elim h [ ]
+  fresh-goes (Err X.Unacceptable) h w = elim h [ ]
+  fresh-goes (Err X.Checksum) h w = elim h [ ]
+  fresh-goes (Err X.Spent) h w = elim h [ ]
+  fresh-goes (Err X.WrongFinished) h w = elim h [ ]
+  fresh-goes (Err X.Argument) (fresh_16 v) w = fresh-clash w v
 
 pub exactly-fresh : ExactlyFresh
 exactly-fresh =

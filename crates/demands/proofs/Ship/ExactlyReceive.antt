@@ -10,7 +10,7 @@ use borrow.Author.Tests.{lt-ltb, le-ltb, ltb-true, ltb-false}
 use Rattle.record.specs.Datagram.{Framing, framed, faulty, framing_of, blank}
 use Rattle.record.specs.declared.reader.Fault.{Fault}
 use Rattle.record.specs.declared.reader.Record.{Record}
-use Rattle.connection.specs.declared.receive.Taken.TheVariants as T
+use Rattle.connection.specs.declared.receive.Untaken.TheVariants as T
 use Rattle.connection.specs.declared.refusal.Refusal.{Refusal}
 use Rattle.connection.specs.declared.refusal.Refusal.TheVariants as X
 use Rattle.unit.specs.Answer.{slot}
@@ -32,11 +32,12 @@ use Rattle.demands.proofs.Exactly.Whole.{Says, framing-says, faulty-because, fra
 use Rattle.demands.proofs.Exactly.Answers.{starts, in_place}
 use Rattle.demands.proofs.Ship.ExactlyRecord.{exactly-record}
 use Rattle.demands.proofs.Ship.ExactlyCalls.{exactly-fresh, exactly-hello, exactly-again, exactly-data, exactly-alert, exactly-close, exactly-start}
+use Rattle.std.specs.Prelude.{Err, Ok}
 
 abbrev ResultHolds : List ℕ → ℕ → Result → Type 0
-ResultHolds d room (received (T.Records n) answers written) = (128 ≤ room) × SoundlyFramed d n
-ResultHolds d room (received (T.Refused x) answers written) = WhyWhole room x
-ResultHolds d room (received (T.Misframed x at) answers written) = (128 ≤ room) × WhyMisframed d x at
+ResultHolds d room (received (Ok n) answers written) = (128 ≤ room) × SoundlyFramed d n
+ResultHolds d room (received (Err (T.Refused x)) answers written) = WhyWhole room x
+ResultHolds d room (received (Err (T.Misframed x at)) answers written) = (128 ≤ room) × WhyMisframed d x at
 ResultHolds d room (sent outcome written) = Unit
 ResultHolds d room (called outcome) = Unit
 
@@ -47,7 +48,7 @@ module _ (u : Ship) (d out : List ℕ) where
   abbrev H : Result → Type 0
   H = ResultHolds d (length out)
 
-  is-room : length out < 128 → result ≡ received (T.Refused X.Room) (slots_of []) 0
+  is-room : length out < 128 → result ≡ received (Err (T.Refused X.Room)) (slots_of []) 0
   unfolding step_of received_of whole_of
   is-room o = rw (lt-ltb (length out) 128 o) refl
 
@@ -70,7 +71,7 @@ module _ (u : Ship) (d out : List ℕ) where
       (λ o. let b = ltb-true (length out) 128 o in subst H (sym (is-room b)) (receive_6 b))
       (λ o. let b = ltb-false (length out) 128 o in subst H (sym (is_framed b)) (by-holds b (framing_of d) (framing-says d)))
 
-  whole-because : (x : Refusal) → WhyWhole (length out) x → result ≡ received (T.Refused x) (slots_of []) 0
+  whole-because : (x : Refusal) → WhyWhole (length out) x → result ≡ received (Err (T.Refused x)) (slots_of []) 0
   whole-because (X.Framing _) x3 = elim x3 [ ]
   whole-because X.Ended x3 = elim x3 [ ]
   whole-because X.NotAllowed x4 = elim x4 [ ]
@@ -85,11 +86,11 @@ module _ (u : Ship) (d out : List ℕ) where
   whole-because X.WrongFinished x13 = elim x13 [ ]
   whole-because X.Room (receive_6 o) = is-room o
 
-  by-fault : (f : Fault) (at : ℕ) → result_by (faulty f at) ≡ received (T.Misframed (X.Framing f) at) (slots_of []) 0
+  by-fault : (f : Fault) (at : ℕ) → result_by (faulty f at) ≡ received (Err (T.Misframed (X.Framing f) at)) (slots_of []) 0
   unfolding whole_of
   by-fault f at = refl
 
-  misframed-because : (x : Refusal) (at : ℕ) → 128 ≤ length out → WhyMisframed d x at → result ≡ received (T.Misframed x at) (slots_of []) 0
+  misframed-because : (x : Refusal) (at : ℕ) → 128 ≤ length out → WhyMisframed d x at → result ≡ received (Err (T.Misframed x at)) (slots_of []) 0
   misframed-because (X.Framing f) at fits w = is_framed fits ∙ ap result_by (faulty-because d f at w) ∙ by-fault f at
   misframed-because X.Room at fits w = absurd w
   misframed-because X.Ended at fits w = absurd w
@@ -104,18 +105,18 @@ module _ (u : Ship) (d out : List ℕ) where
   misframed-because X.Argument at fits w = absurd w
   misframed-because X.WrongFinished at fits w = absurd w
 
-  by-records : (rs : List Record) → (framed_to u d (framed rs)).taken ≡ T.Records (length rs)
+  by-records : (rs : List Record) → (framed_to u d (framed rs)).taken ≡ Ok (length rs)
   unfolding run_of
   by-records rs = refl
 
   taken-because : (n : ℕ) → 128 ≤ length out → SoundlyFramed d n
-      → (answers : List Slot) × (written : ℕ) × (result ≡ received (T.Records n) answers written)
+      → (answers : List Slot) × (written : ℕ) × (result ≡ received (Ok n) answers written)
   taken-because n fits s =
       let (rs, f, l) = framed-because d n s in
       let r : Received = framed_to u d (framed rs) in (
         r.answers,
         r.written,
-        is_framed fits ∙ ap result_by f ∙ ap (λ t. received t r.answers r.written) (by-records rs ∙ ap T.Records l),
+        is_framed fits ∙ ap result_by f ∙ ap (λ t. received t r.answers r.written) (by-records rs ∙ ap Ok l),
       )
 
 pub exactly-receive : ExactlyReceive step_of

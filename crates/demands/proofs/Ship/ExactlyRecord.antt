@@ -19,8 +19,7 @@ use Rattle.record.proofs.Histories.{meaning, old_when, repeated_when, new_when, 
 use Rattle.message.specs.Alert.{alert_of}
 use Rattle.message.specs.Handshake.{fills}
 use Rattle.message.specs.Request.{is_request, hello_request}
-use Rattle.message.specs.declared.alert.Reading.TheVariants as R
-use Rattle.message.specs.declared.finished.Verified.TheVariants as F
+use Rattle.message.specs.declared.finished.Unverified.TheVariants as F
 use Rattle.message.proofs.Written.{Filled, filled}
 use Rattle.connection.specs.Judge.{fragment_of}
 use Rattle.connection.specs.Sent.{matches_of}
@@ -57,6 +56,7 @@ use Rattle.demands.proofs.Exactly.Record.{seen-in-place}
 use Rattle.demands.proofs.Ship.ServerHello.{AgreementHolds, agreement-holds, not-hello, not-acceptable}
 use Rattle.demands.proofs.Ship.Table.{Guards, spec-alert, spec-handshake, up-change, up-alert, up-handshake, up-data, ruled-says, ruled-protected, row_of, row_is}
 use Rattle.demands.proofs.Ship.HandedOut.{up-opens}
+use Rattle.std.specs.Prelude.{Err, None, Some}
 
 -- ---- a HelloRequest, byte by byte
 
@@ -266,7 +266,7 @@ module _ (u : Ship) (numbers d : List ℕ) (r : Record) (bytes : Bytes (fragment
   AnswerHolds (W.Barred description) = Unit
   AnswerHolds (W.Refused x) = Why x
 
-  not-alert-so : (c : List ℕ) → alert_of c ≡ R.Malformed → IsAlert c → ⊥
+  not-alert-so : (c : List ℕ) → alert_of c ≡ None → IsAlert c → ⊥
   not-alert-so c e = subst (AlertHolds c) e (alert-holds c)
 
   stays-holds : {a : Answer} → Stays u d r a → AnswerHolds a
@@ -297,7 +297,7 @@ module _ (u : Ship) (numbers d : List ℕ) (r : Record) (bytes : Bytes (fragment
   stays-holds (checksum a e y m) =
       let t = ruled-says u d r T.Hear e in
       let s = seen-kind K.ClearAlert t.1 in
-      let w : AlertHolds f (R.WellFormed a) = subst (AlertHolds f) y (alert-holds f) in
+      let w : AlertHolds f (Some a) = subst (AlertHolds f) y (alert-holds f) in
       (t.0, s.0, s.1, w.0, ap (matches_of u.sent) (sym w.1) ∙ m)
   stays-holds (ignored_request e y m) = tt
   stays-holds (reported_request e y m) = tt
@@ -322,7 +322,7 @@ module _ (u : Ship) (numbers d : List ℕ) (r : Record) (bytes : Bytes (fragment
   marked-holds c w n (protected_reported k y o) = tt
   marked-holds c w n (finished_again k y v o) = tt
   marked-holds c w n (wrong_finished k y v) =
-      let t : FinishedHolds c u.expected F.Wrong = subst (FinishedHolds c u.expected) v (finished-holds c u.expected) in
+      let t : FinishedHolds c u.expected (Err F.Wrong) = subst (FinishedHolds c u.expected) v (finished-holds c u.expected) in
       (c, new-as c w n, (seen-kind K.ProtectedHandshake k).1, t.0, t.1)
 
   row-holds : {j : Judged} → Row u d r j → AnswerHolds j.answer

@@ -16,14 +16,8 @@ use Rattle.message.specs.Agreement.{agreement_of}
 use Rattle.message.specs.Finished.{server_verify, judged_of}
 use Rattle.message.specs.Offer.{kinds_named, offer_hello}
 use Rattle.message.specs.declared.acceptance.Plan.{Plan}
-use Rattle.message.specs.declared.agreement.Agreement.TheVariants.{Agreed}
-use Rattle.message.specs.declared.finished.Verified.TheVariants.{Right}
-use Rattle.message.specs.declared.offer.Named.{Named}
-use Rattle.message.specs.declared.offer.Named.TheVariants.{Are, Others}
 use Rattle.message.specs.declared.offer.Offer.{Offer}
 use Rattle.connection.specs.Judge.{fragment_of}
-use Rattle.connection.specs.declared.calls.Outcome.{Outcome}
-use Rattle.connection.specs.declared.calls.Outcome.TheVariants.{Done, Refused}
 use Rattle.connection.specs.declared.refusal.Refusal.TheVariants as X
 use Rattle.unit.specs.Agree.{agreed_with, shore_verify}
 use Rattle.unit.specs.Answer.{as_ashore}
@@ -57,6 +51,9 @@ use Rattle.demands.proofs.Exactly.Reasons.{decide}
 use Rattle.demands.proofs.Ship.Table.{Guards, data-up, ruled-says, row_of}
 use Rattle.demands.proofs.Ship.Changes.{alike, data-alike, alert-alike, again_same}
 use Rattle.demands.proofs.Ship.HandedOut.{up-not-midway, up-not-over, guards-not-over, kind-content, data_facts}
+use Rattle.std.specs.Prelude.{Err, None, Ok, Option, Result, Some, ⊤}
+use Rattle.connection.specs.declared.refusal.Refusal.{Refusal}
+use Rattle.message.specs.declared.offer.Kinds.{Kinds}
 
 -- ---- how far the handshake has come
 
@@ -76,7 +73,7 @@ record HasRead (id secret : List ℕ) (past : List Happened) (u : Ship) : Type 0
   m : List ℕ
   plan : Plan
   last : last_read past ≡ read random offer m
-  agreed : agreement_of m id offer ≡ Agreed plan
+  agreed : agreement_of m id offer ≡ Ok plan
   keys_are : u.protection.keys ≡ keys_for secret random m plan
   expected_is : u.expected ≡ server_verify secret (offer_hello random id offer) m
 
@@ -333,7 +330,7 @@ module _ (id secret : List ℕ) (past : List Happened) (u : Ship) (p : Progress 
     marked_row (finished_again k q v o) = stay-marked W.Again refl refl
     marked_row (wrong_finished k q v) = close-marked (W.Refused X.WrongFinished) refl
 
-    opens_row : u.state ≡ S.Spec → kind_in d r ≡ K.ProtectedHandshake → judged_of c u.expected ≡ Right → (size : ℕ)
+    opens_row : u.state ≡ S.Spec → kind_in d r ≡ K.ProtectedHandshake → judged_of c u.expected ≡ Ok tt → (size : ℕ)
         → Progress id secret (answered d r (W.Open size) ∷ past) (opened (with_window u w))
     unfolding opened
     opens_row s k v size =
@@ -363,7 +360,7 @@ module _ (id secret : List ℕ) (past : List Happened) (u : Ship) (p : Progress 
           };
         }
 
-  hello-row : (plan : Plan) → Midway u.state → agreement_of (fragment_of d r) u.id u.offer ≡ Agreed plan
+  hello-row : (plan : Plan) → Midway u.state → agreement_of (fragment_of d r) u.id u.offer ≡ Ok plan
       → Progress id secret (answered d r W.Hello ∷ past) (agreed_with u (fragment_of d r) plan)
   unfolding agreed_with shore_verify last_hello last_read
   hello-row plan m q =
@@ -428,15 +425,15 @@ record Says (u x : Ship) (random macs : List ℕ) (refresh : ℕ) : Type 0 where
   offer-is : x.offer ≡ offer_named (kinds_named macs) refresh
   idle : u.state ≡ S.Idle
 
-abbrev HelloLeaves : Ship → List ℕ → List ℕ → ℕ → Outcome → Ship → Type 0
-HelloLeaves u random macs refresh Done x = Says u x random macs refresh
-HelloLeaves u random macs refresh (Refused y) x = x ≡ u
+abbrev HelloLeaves : Ship → List ℕ → List ℕ → ℕ → Result ⊤ Refusal → Ship → Type 0
+HelloLeaves u random macs refresh (Ok tt) x = Says u x random macs refresh
+HelloLeaves u random macs refresh (Err y) x = x ≡ u
 
 module _ (u : Ship) (random macs : List ℕ) (refresh room : ℕ) where
-  named-leaves : (n : Named) → kinds_named macs ≡ n → (s : State) → u.state ≡ s
+  named-leaves : (n : Option Kinds) → kinds_named macs ≡ n → (s : State) → u.state ≡ s
       → HelloLeaves u random macs refresh (hello_as u random refresh room n).outcome (hello_as u random refresh room n).unit
   unfolding greeted_with
-  named-leaves (Are kinds) e S.Idle f =
+  named-leaves (Some kinds) e S.Idle f =
       decide (leb (length (hello_datagram u.id random (offer_of kinds refresh))) room)
       (λ b. rw (f, b) (record {
         state_is = refl;
@@ -447,14 +444,14 @@ module _ (u : Ship) (random macs : List ℕ) (refresh room : ℕ) where
         idle = refl;
       }))
       (λ b. rw (f, b) refl)
-  named-leaves (Are kinds) e S.Sent f = rw f refl
-  named-leaves (Are kinds) e S.Replied f = rw f refl
-  named-leaves (Are kinds) e S.Spec f = rw f refl
-  named-leaves (Are kinds) e S.Opening f = rw f refl
-  named-leaves (Are kinds) e S.Open f = rw f refl
-  named-leaves (Are kinds) e S.Closed f = rw f refl
-  named-leaves (Are kinds) e S.Barred f = rw f refl
-  named-leaves Others e s f = refl
+  named-leaves (Some kinds) e S.Sent f = rw f refl
+  named-leaves (Some kinds) e S.Replied f = rw f refl
+  named-leaves (Some kinds) e S.Spec f = rw f refl
+  named-leaves (Some kinds) e S.Opening f = rw f refl
+  named-leaves (Some kinds) e S.Open f = rw f refl
+  named-leaves (Some kinds) e S.Closed f = rw f refl
+  named-leaves (Some kinds) e S.Barred f = rw f refl
+  named-leaves None e s f = refl
 
   hello-leaves : HelloLeaves u random macs refresh (hello_sent u random macs refresh room).outcome (hello_sent u random macs refresh room).unit
   unfolding hello_sent
@@ -470,17 +467,17 @@ module _ (id secret : List ℕ) (past : List Happened) (u : Ship) (p : Progress 
   same-progress what x eh er q e =
       subst (Progress id secret (what ∷ past)) (sym e) (carry id secret past u p what u eh er (λ o. q) (carried id secret past u p))
 
-  done-progress : (o : Outcome) (what : Happened) (x : Ship) → last_hello (what ∷ past) ≡ last_hello past → last_read (what ∷ past) ≡ last_read past
+  done-progress : (o : Result ⊤ Refusal) (what : Happened) (x : Ship) → last_hello (what ∷ past) ≡ last_hello past → last_read (what ∷ past) ≡ last_read past
       → Quiet (what ∷ []) → Alike u x → Progress id secret (if_done o what ∷ past) x
   unfolding last_hello last_read
-  done-progress Done what x eh er q a = carry id secret past u p what x eh er (λ o. q) (alike-carries id secret past u p x a)
-  done-progress (Refused y) what x eh er q a = carry id secret past u p refused x refl refl (λ o. tt) (alike-carries id secret past u p x a)
+  done-progress (Ok tt) what x eh er q a = carry id secret past u p what x eh er (λ o. q) (alike-carries id secret past u p x a)
+  done-progress (Err y) what x eh er q a = carry id secret past u p refused x refl refl (λ o. tt) (alike-carries id secret past u p x a)
 
-  greet-progress : (random macs : List ℕ) (refresh : ℕ) (bytes : List ℕ) (o : Outcome) (x : Ship) → HelloLeaves u random macs refresh o x
+  greet-progress : (random macs : List ℕ) (refresh : ℕ) (bytes : List ℕ) (o : Result ⊤ Refusal) (x : Ship) → HelloLeaves u random macs refresh o x
       → Progress id secret (if_done o (greeted random macs refresh bytes) ∷ past) x
   unfolding last_hello last_read
-  greet-progress random macs refresh bytes (Refused y) x e = same-progress refused x refl refl tt e
-  greet-progress random macs refresh bytes Done x s =
+  greet-progress random macs refresh bytes (Err y) x e = same-progress refused x refl refl tt e
+  greet-progress random macs refresh bytes (Ok tt) x s =
       let w = p.own (λ b. let y = sym s.idle ∙ b in let z : ◌≡◌ {A = ℕ} 0 1 = cc in omega arith) in
       record {
         own = λ y. (s.id_same ∙ w.0, s.secret-same ∙ w.1);

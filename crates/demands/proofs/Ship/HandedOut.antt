@@ -22,13 +22,11 @@ use Rattle.record.specs.declared.keys.Keys.{Keys}
 use Rattle.record.specs.declared.keys.Sense.TheVariants.{FromShore}
 use Rattle.record.specs.declared.reader.Record.{Record}
 use Rattle.record.specs.declared.window.Window.{Window}
-use Rattle.record.specs.declared.window.Acceptance.{Acceptance}
-use Rattle.record.specs.declared.window.Acceptance.TheVariants as A
+use Rattle.record.specs.declared.window.NotNew.TheVariants as A
 use Rattle.record.proofs.Histories.{all_below, accepted_here, accepted_still}
 use Rattle.message.specs.Finished.{judged_of}
 use Rattle.message.specs.Request.{is_request}
-use Rattle.message.specs.declared.finished.Verified.{Verified}
-use Rattle.message.specs.declared.finished.Verified.TheVariants as F
+use Rattle.message.specs.declared.finished.Unverified.TheVariants as F
 use Rattle.connection.specs.Answer.{part_at}
 use Rattle.connection.specs.Judge.{fragment_of}
 use Rattle.connection.specs.declared.refusal.Refusal.TheVariants as X
@@ -69,6 +67,9 @@ use Rattle.demands.proofs.HandedOut.{new_facts, is_new_lem, new_is, old_is, repe
 use Rattle.demands.proofs.Ship.Genuine.{protected_content, bytes-right, bytes-wrong}
 use Rattle.demands.proofs.Ship.Table.{protected_kind, Guards, spec-alert, spec-handshake, up-change, up-alert, up-handshake, up-data, ruled-says, is-protected-kind, row_of, row_is}
 use Rattle.demands.proofs.Ship.Changes.{data-alike, alert-alike, again_same, hello-refused, hello-up}
+use Rattle.std.specs.Prelude.{Err, Ok, Result, ⊤}
+use Rattle.message.specs.declared.finished.Unverified.{Unverified}
+use Rattle.record.specs.declared.window.NotNew.{NotNew}
 
 -- ---- states
 
@@ -151,7 +152,7 @@ request-length : (c : List ℕ) → is_request c ≡ true → length c ≡ 3
 unfolding is_request
 request-length c e = decide (eqb (length c) 3) (λ t. eqb-true (length c) 3 t) (λ t. clash (sym (sym (rw t refl) ∙ e)))
 
-pub request-malformed : (c expected : List ℕ) → is_request c ≡ true → judged_of c expected ≡ F.Malformed
+pub request-malformed : (c expected : List ℕ) → is_request c ≡ true → judged_of c expected ≡ Err F.Malformed
 request-malformed c expected e = not_finished c expected (λ i. omega (arith, request-length c e, i.0))
 
 -- ---- the unit goes along with the course
@@ -192,7 +193,7 @@ module _ (k : Keys) (expected : List ℕ) (course : Course) (u : Ship) (a : Alon
       not_new : (c : List ℕ) → Protected u.protection.keys d r c → new_by ≡ false → with_record k expected course d r ≡ course
       not_new c s n = λ i. pick (z i) course (pick (bytes-right k d r c (right_code c s) i) (pick (n i) more course) course)
 
-      window_at_lem : (x : Acceptance) → accept_of u.protection.window r.number ≡ x
+      window_at_lem : (x : Result (Window × ℕ) NotNew) → accept_of u.protection.window r.number ≡ x
           → accept_of (window_of course.width course.numbers) r.number ≡ x
       window_at_lem x e = sym (ap (λ w. accept_of w r.number) (a.window_same z)) ∙ e
 
@@ -207,9 +208,9 @@ module _ (k : Keys) (expected : List ℕ) (course : Course) (u : Ship) (a : Alon
       stays_same (not_first e y) = up-not-midway u.state up (ruled-says u d r T.Agree e).0
       stays_same (forged e never) =
           not_genuine (bytes-wrong k d r (λ c s. never c (subst (λ x. Protected x d r c) (sym (a.keys_same z)) s)))
-      stays_same (too_old c e s q) = not_new c s (old_is course.width a.held course.numbers r.number (window_at_lem A.TooOld q))
+      stays_same (too_old c e s q) = not_new c s (old_is course.width a.held course.numbers r.number (window_at_lem (Err A.TooOld) q))
       stays_same (repeated c e s q) =
-          not_new c s (repeated_is course.width a.held course.numbers r.number (window_at_lem A.Repeated q))
+          not_new c s (repeated_is course.width a.held course.numbers r.number (window_at_lem (Err A.Repeated) q))
       stays_same (bad_hello e y q) = up-not-midway u.state up (ruled-says u d r T.Agree e).0
       stays_same (bad_request e q) = kind-clear K.ClearRequest (ruled-says u d r T.Request e).1 refl
       stays_same (bad_change e q) = up-not-midway u.state up (inr (inl (ruled-says u d r T.Change e).0))
@@ -229,8 +230,8 @@ module _ (k : Keys) (expected : List ℕ) (course : Course) (u : Ship) (a : Alon
         abbrev shuts : Bool
         shuts = content_shuts r.content c expected
 
-        accepted-so : accept_of (window_of course.width course.numbers) r.number ≡ A.New w n.arrived
-        accepted-so = window_at_lem (A.New w n.arrived) n.accepted
+        accepted-so : accept_of (window_of course.width course.numbers) r.number ≡ Ok (w, n.arrived)
+        accepted-so = window_at_lem (Ok (w, n.arrived)) n.accepted
 
         used-so : with_record k expected course d r ≡ record { width = course.width; numbers = r.number ∷ course.numbers; shut = shuts }
         used-so =
@@ -270,13 +271,13 @@ module _ (k : Keys) (expected : List ℕ) (course : Course) (u : Ship) (a : Alon
         content-as x e b f =
             ap (λ t. content_shuts t c expected) (kind-content d r x n.coded.is_protected e) ∙ f
 
-        verdict_at : (x : Verified) → judged_of c u.expected ≡ x → judged_of c expected ≡ x
+        verdict_at : (x : Result ⊤ Unverified) → judged_of c u.expected ≡ x → judged_of c expected ≡ x
         verdict_at x e = sym (ap (judged_of c) (a.expected_same z)) ∙ e
 
         marked_state : {x : Answer} {s : State} → Marked u d r c x s → ((shuts ≡ false) × Up s) ⊎ ((shuts ≡ true) × Over s)
         marked_state (no_change e) = inl (content-as K.ProtectedChange e false refl, up)
         marked_state (no_alert e q) = inl (content-as K.ProtectedAlert e false (ap alert_shuts q), up)
-        marked_state (no_message e q v) = inl (content-as K.ProtectedHandshake e false (ap finished_shuts (verdict_at F.Malformed v)), up)
+        marked_state (no_message e q v) = inl (content-as K.ProtectedHandshake e false (ap finished_shuts (verdict_at (Err F.Malformed) v)), up)
         marked_state (no_data e y) = inl (content-as K.ProtectedData e false refl, up)
         marked_state (some_data e y) = inl (content-as K.ProtectedData e false refl, inr refl)
         marked_state (protected_warning x e q l y) = inl (content-as K.ProtectedAlert e false (ap alert_shuts q ∙ ap level_shuts l), up)
@@ -286,8 +287,8 @@ module _ (k : Keys) (expected : List ℕ) (course : Course) (u : Ship) (a : Alon
             inl (content-as K.ProtectedHandshake e false (ap finished_shuts (request-malformed c expected q)), up)
         marked_state (protected_reported e q o) =
             inl (content-as K.ProtectedHandshake e false (ap finished_shuts (request-malformed c expected q)), up)
-        marked_state (finished_again e q v o) = inl (content-as K.ProtectedHandshake e false (ap finished_shuts (verdict_at F.Right v)), up)
-        marked_state (wrong_finished e q v) = inr (content-as K.ProtectedHandshake e true (ap finished_shuts (verdict_at F.Wrong v)), inl refl)
+        marked_state (finished_again e q v o) = inl (content-as K.ProtectedHandshake e false (ap finished_shuts (verdict_at (Ok tt) v)), up)
+        marked_state (wrong_finished e q v) = inr (content-as K.ProtectedHandshake e true (ap finished_shuts (verdict_at (Err F.Wrong) v)), inl refl)
 
       by_row : {j : Judged} → Row u d r j → Along k expected (with_record k expected course d r) j.unit
       by_row (row_stays s) = subst (λ c. Along k expected c u) (sym (stays_same s)) a
@@ -461,7 +462,7 @@ module _ (k : Keys) (expected : List ℕ) (course : Course) (u : Ship) (a : Alon
     (at : RecordOf d r) where
   due_open : DataFacts u d r → course.shut ≡ false → (c : List ℕ) × Due k course d r c
   due_open f z =
-      let e : accept_of (window_of course.width course.numbers) r.number ≡ A.New f.w f.new.arrived
+      let e : accept_of (window_of course.width course.numbers) r.number ≡ Ok (f.w, f.new.arrived)
       = sym (ap (λ w. accept_of w r.number) (a.window_same z)) ∙ f.new.accepted in
       let q = new_facts course.width a.held course.numbers r.number f.w f.new.arrived e in (
         f.c,

@@ -12,10 +12,6 @@ use Rattle.record.specs.declared.reader.Record.{Record}
 use Rattle.record.specs.declared.window.Window.{Window}
 use Rattle.record.proofs.Histories.{fresh_means}
 use Rattle.message.specs.Offer.{kinds_named}
-use Rattle.message.specs.declared.offer.Named.{Named}
-use Rattle.message.specs.declared.offer.Named.TheVariants.{Are, Others}
-use Rattle.connection.specs.declared.calls.Outcome.{Outcome}
-use Rattle.connection.specs.declared.calls.Outcome.TheVariants.{Done, Refused}
 use Rattle.connection.specs.declared.refusal.Refusal.TheVariants as X
 use Rattle.unit.specs.Agree.{agreed_with}
 use Rattle.unit.specs.Answer.{as_ashore}
@@ -48,6 +44,9 @@ use Rattle.demands.proofs.Exactly.Reasons.{decide}
 use Rattle.demands.proofs.Kept.{window_more}
 use Rattle.demands.proofs.Ship.Table.{protected_kind, ruled-says, is-protected-kind, row_of}
 use Rattle.demands.proofs.Ship.Changes.{data-alike, alert-alike, again_same}
+use Rattle.std.specs.Prelude.{Err, None, Ok, Option, Result, Some, ⊤}
+use Rattle.connection.specs.declared.refusal.Refusal.{Refusal}
+use Rattle.message.specs.declared.offer.Kinds.{Kinds}
 
 both_no : (b : Bool) → pick b false false ≡ false
 both_no true = refl
@@ -144,20 +143,20 @@ module _ (width : ℕ) (held : Held width) (past : List Happened) (u : Ship) (is
   plain : (what : Happened) (x : Ship) → accepted_in (what ∷ past) ≡ accepted_in past → x.protection.window ≡ u.protection.window → Follows what x
   plain what x e w = w ∙ is ∙ sym (ap (window_of width) e)
 
-  done-or-not : (o : Outcome) (what : Happened) → accepted_in (what ∷ past) ≡ accepted_in past → accepted_in (if_done o what ∷ past) ≡ accepted_in past
+  done-or-not : (o : Result ⊤ Refusal) (what : Happened) → accepted_in (what ∷ past) ≡ accepted_in past → accepted_in (if_done o what ∷ past) ≡ accepted_in past
   unfolding accepted_in
-  done-or-not Done what e = e
-  done-or-not (Refused x) what e = refl
+  done-or-not (Ok tt) what e = e
+  done-or-not (Err x) what e = refl
 
-  named-window : (random : List ℕ) (refresh room : ℕ) (n : Named) → (hello_as u random refresh room n).unit.protection.window ≡ u.protection.window
+  named-window : (random : List ℕ) (refresh room : ℕ) (n : Option Kinds) → (hello_as u random refresh room n).unit.protection.window ≡ u.protection.window
   unfolding greeted_with
-  named-window random refresh room (Are kinds) = by_state (may_hello u.state) refl
+  named-window random refresh room (Some kinds) = by_state (may_hello u.state) refl
     where
-      by_state : (o : Outcome) → may_hello u.state ≡ o → (hello_as u random refresh room (Are kinds)).unit.protection.window ≡ u.protection.window
-      by_state Done m =
+      by_state : (o : Result ⊤ Refusal) → may_hello u.state ≡ o → (hello_as u random refresh room (Some kinds)).unit.protection.window ≡ u.protection.window
+      by_state (Ok tt) m =
           decide (leb (length (hello_datagram u.id random (offer_of kinds refresh))) room) (λ f. rw (m, f) refl) (λ f. rw (m, f) refl)
-      by_state (Refused x) m = rw m refl
-  named-window random refresh room Others = refl
+      by_state (Err x) m = rw m refl
+  named-window random refresh room None = refl
 
   hello-window : (random macs : List ℕ) (refresh room : ℕ) → (hello_sent u random macs refresh room).unit.protection.window ≡ u.protection.window
   unfolding hello_sent

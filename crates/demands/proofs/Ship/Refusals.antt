@@ -18,16 +18,8 @@ use Rattle.record.specs.declared.reader.Record.{Record}
 use Rattle.record.specs.declared.window.Window.{Window}
 use Rattle.message.specs.Alert.{level_of, sorted_of}
 use Rattle.message.specs.Offer.{kinds_named}
-use Rattle.message.specs.declared.alert.Graded.{Graded}
-use Rattle.message.specs.declared.alert.Graded.TheVariants as G
-use Rattle.message.specs.declared.alert.Sorted.{Sorted}
-use Rattle.message.specs.declared.alert.Sorted.TheVariants as D
-use Rattle.message.specs.declared.offer.Named.{Named}
 use Rattle.message.specs.declared.offer.Offer.{Offer}
-use Rattle.message.specs.declared.offer.Named.TheVariants.{Are, Others}
 use Rattle.connection.specs.Send.{alert_body}
-use Rattle.connection.specs.declared.calls.Outcome.{Outcome}
-use Rattle.connection.specs.declared.calls.Outcome.TheVariants.{Done, Refused}
 use Rattle.connection.specs.declared.refusal.Refusal.TheVariants as X
 use Rattle.unit.specs.Calls.{closed_in, started_in}
 use Rattle.unit.specs.Hello.{hello_datagram, offer_of, may_hello, greeted_with, hello_as, hello_sent, hello_output_as, hello_output, said_again, hello_said, again_in, again_output_in}
@@ -55,6 +47,11 @@ use Rattle.demands.specs.Ship.Runs.{hello, again, receive, send_data, send_alert
 use Rattle.demands.specs.Ship.Refusals.{IsRefused, written_by, RefusedCallChangesNothing, marked, marked_as, refused_leaves, RefusedRecordChangesNothing}
 use Rattle.demands.proofs.Exactly.Reasons.{decide}
 use Rattle.demands.proofs.Ship.Table.{protected_kind, ruled-says, is-protected-kind, row_of}
+use Rattle.std.specs.Prelude.{Err, None, Ok, Option, Result, Some, ⊤}
+use Rattle.connection.specs.declared.refusal.Refusal.{Refusal}
+use Rattle.message.specs.declared.alert.Description.{Description}
+use Rattle.message.specs.declared.alert.Level.{Level}
+use Rattle.message.specs.declared.offer.Kinds.{Kinds}
 
 -- ---- a record
 
@@ -138,9 +135,9 @@ refused_record u d r x e = subst (λ a. LeavesBy u d r a (judged_record u d r).u
 -- ---- a call
 
 module _ (u : Ship) (out : List ℕ) where
-  abbrev SparedBy : Ship → ℕ → List ℕ → Outcome → Type 0
-  SparedBy v written o Done = Unit
-  SparedBy v written o (Refused x) = (v ≡ u) × (o ≡ out) × (written ≡ 0)
+  abbrev SparedBy : Ship → ℕ → List ℕ → Result ⊤ Refusal → Type 0
+  SparedBy v written o (Ok tt) = Unit
+  SparedBy v written o (Err x) = (v ≡ u) × (o ≡ out) × (written ≡ 0)
 
   -- a refusal leaves the unit, the output, and writes nothing
   abbrev Spared : Sent → List ℕ → Type 0
@@ -150,9 +147,9 @@ module _ (u : Ship) (out : List ℕ) where
   pick-spared true x y ox oy ax ay = ax
   pick-spared false x y ox oy ax ay = ay
 
-  if-spared : (o : Outcome) (s : Sent) (os : List ℕ) → Spared s os → Spared (sent_if u o s) (output_if out o os)
-  if-spared Done s os a = a
-  if-spared (Refused x) s os a = (refl, refl, refl)
+  if-spared : (o : Result ⊤ Refusal) (s : Sent) (os : List ℕ) → Spared s os → Spared (sent_if u o s) (output_if out o os)
+  if-spared (Ok tt) s os a = a
+  if-spared (Err x) s os a = (refl, refl, refl)
 
   none_written : (bytes : List ℕ) → length out < length bytes → written_of out bytes ≡ out
   none_written bytes l = unwritten out bytes (lt-leb (length bytes) (length out) l)
@@ -198,24 +195,24 @@ module _ (u : Ship) (out : List ℕ) where
       if-spared (may_protect u.state) (protected_sent u C.Alert body (length out)) (output_by u.protection FromUnit C.Alert body out) (protected-spared C.Alert body)
   by-spared false body = if-spared (may_clear u.state) (clear_sent u body (length out)) (clear_output u body out) (clear-spared body)
 
-  as-spared : (protected : Bool) (answered : List ℕ) (g : Graded) (s : Sorted)
+  as-spared : (protected : Bool) (answered : List ℕ) (g : Option Level) (s : Option Description)
       → Spared (alert_sent_as u protected answered (length out) g s) (alert_output_as u protected answered out g s)
-  as-spared protected answered (G.Is level) (D.Assigned description) =
+  as-spared protected answered (Some level) (Some description) =
       decide (ltb 1400 (length answered)) (λ f. rw f (refl, refl, refl)) (λ f. rw f (by-spared protected (alert_body level description answered)))
-  as-spared protected answered (G.Is level) D.Unassigned = (refl, refl, refl)
-  as-spared protected answered G.Unassigned (D.Assigned description) = (refl, refl, refl)
-  as-spared protected answered G.Unassigned D.Unassigned = (refl, refl, refl)
+  as-spared protected answered (Some level) None = (refl, refl, refl)
+  as-spared protected answered None (Some description) = (refl, refl, refl)
+  as-spared protected answered None None = (refl, refl, refl)
 
   alert-spared : (protected : Bool) (level description : ℕ) (answered : List ℕ)
       → Spared (alert_sent u protected level description answered (length out)) (alert_output u protected level description answered out)
   unfolding alert_sent alert_output
   alert-spared protected level description answered = as-spared protected answered (level_of level) (sorted_of description)
 
-  named-spared : (random : List ℕ) (refresh : ℕ) (n : Named) → Spared (hello_as u random refresh (length out) n) (hello_output_as u random refresh out n)
-  named-spared random refresh (Are kinds) =
+  named-spared : (random : List ℕ) (refresh : ℕ) (n : Option Kinds) → Spared (hello_as u random refresh (length out) n) (hello_output_as u random refresh out n)
+  named-spared random refresh (Some kinds) =
       if-spared (may_hello u.state) (greeted_with u random (offer_of kinds refresh) (length out))
       (written_of out (hello_datagram u.id random (offer_of kinds refresh))) (greeted-spared random (offer_of kinds refresh))
-  named-spared random refresh Others = (refl, refl, refl)
+  named-spared random refresh None = (refl, refl, refl)
 
   hello-spared : (random macs : List ℕ) (refresh : ℕ) → Spared (hello_sent u random macs refresh (length out)) (hello_output u random macs refresh out)
   unfolding hello_sent hello_output
@@ -249,9 +246,9 @@ module _ (u : Ship) (out : List ℕ) where
   refused-sent : (s : Sent) (o : List ℕ) → Spared s o → NotDone s.outcome → (s.unit ≡ u) × (o ≡ out) × (s.written ≡ 0)
   refused-sent s o a n = go s.outcome a n
     where
-      go : (x : Outcome) → SparedBy s.unit s.written o x → NotDone x → (s.unit ≡ u) × (o ≡ out) × (s.written ≡ 0)
-      go Done h m = absurd m
-      go (Refused x) h m = h
+      go : (x : Result ⊤ Refusal) → SparedBy s.unit s.written o x → NotDone x → (s.unit ≡ u) × (o ≡ out) × (s.written ≡ 0)
+      go (Ok tt) h m = absurd m
+      go (Err x) h m = h
 
   refused-receive : (d : List ℕ) → IsRefused (step_of u (receive d out)).result
       → ((step_of u (receive d out)).unit ≡ u) × ((step_of u (receive d out)).output ≡ out) × (written_by (step_of u (receive d out)).result ≡ 0)

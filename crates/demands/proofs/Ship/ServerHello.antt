@@ -18,16 +18,16 @@ use Rattle.message.specs.Offer.{offers}
 use Rattle.message.specs.Agreement.{offered_as, chosen_of, settled_by, agreed_of, agreed_with, agreed_as, agreement_of}
 use Rattle.message.specs.ServerHello.{server_read, ServerValues, server_values_at}
 use Rattle.message.proofs.ServerHellos.{server_hellos_as_written}
-use Rattle.message.specs.declared.agreement.Agreement.{Agreement}
-use Rattle.message.specs.declared.agreement.Agreement.TheVariants as G
+use Rattle.message.specs.declared.agreement.Disagreed.TheVariants as G
 use Rattle.message.specs.declared.agreement.Term.{Term}
 use Rattle.message.specs.declared.offer.Kinds.{Kinds}
 use Rattle.message.specs.declared.offer.Offer.{Offer}
-use Rattle.message.specs.declared.server_hello.Reading.{Reading}
-use Rattle.message.specs.declared.server_hello.Reading.TheVariants as R
 use Rattle.demands.specs.Exactly.Record.{Bytes}
 use Rattle.demands.specs.Ship.ExactlyRecord.{WellFormedHello, Offered, Acceptable}
 use Rattle.demands.proofs.Exactly.Reasons.{clash, decide}
+use Rattle.std.specs.Prelude.{Err, None, Ok, Option, Result, Some}
+use Rattle.message.specs.declared.acceptance.Plan.{Plan}
+use Rattle.message.specs.declared.agreement.Disagreed.{Disagreed}
 
 -- ---- the kind
 
@@ -73,10 +73,10 @@ chosen-holds cipher mac kinds =
 
 -- ---- the terms
 
-abbrev TermsHold : ServerValues → List ℕ → Offer → Agreement → Type 0
-TermsHold v id offer (G.Agreed plan) = Acceptable v id offer
-TermsHold v id offer (G.Unacceptable term) = Acceptable v id offer → ⊥
-TermsHold v id offer G.Malformed = ⊥
+abbrev TermsHold : ServerValues → List ℕ → Offer → Result Plan Disagreed → Type 0
+TermsHold v id offer (Ok plan) = Acceptable v id offer
+TermsHold v id offer (Err (G.Unacceptable term)) = Acceptable v id offer → ⊥
+TermsHold v id offer (Err G.Malformed) = ⊥
 
 module _ (v : ServerValues) (id : List ℕ) (offer : Offer) where
   settled-holds : v.version ≡ 1 → v.session ≡ id → v.key ≡ 0 → (l : Listed) → ChosenHolds v.cipher v.mac offer.kinds l
@@ -116,15 +116,15 @@ module _ (v : ServerValues) (id : List ℕ) (offer : Offer) where
 -- ---- a message that is to be a ServerHello
 
 module _ (m id : List ℕ) (offer : Offer) where
-  abbrev pub AgreementHolds : Agreement → Type 0
-  AgreementHolds (G.Agreed plan) = (w : WellFormedHello m) × Acceptable w.values id offer
-  AgreementHolds (G.Unacceptable term) = (w : WellFormedHello m) × (Acceptable w.values id offer → ⊥)
-  AgreementHolds G.Malformed = WellFormedHello m → ⊥
+  abbrev pub AgreementHolds : Result Plan Disagreed → Type 0
+  AgreementHolds (Ok plan) = (w : WellFormedHello m) × Acceptable w.values id offer
+  AgreementHolds (Err (G.Unacceptable term)) = (w : WellFormedHello m) × (Acceptable w.values id offer → ⊥)
+  AgreementHolds (Err G.Malformed) = WellFormedHello m → ⊥
 
   -- what is written of values is read as well formed
-  reads_so : (w : WellFormedHello m) → server_read m ≡ R.WellFormed (21 + length w.values.session)
+  reads_so : (w : WellFormedHello m) → server_read m ≡ Some (21 + length w.values.session)
   reads_so w =
-      subst (λ l. server_read l ≡ R.WellFormed (21 + length w.values.session)) w.layout
+      subst (λ l. server_read l ≡ Some (21 + length w.values.session)) w.layout
       (server_hellos_as_written.written w.values w.can).0
 
   values-so : (w : WellFormedHello m) → server_values_at m (21 + length w.values.session) ≡ w.values
@@ -132,31 +132,31 @@ module _ (m id : List ℕ) (offer : Offer) where
       subst (λ l. server_values_at l (21 + length w.values.session) ≡ w.values) w.layout
       (server_hellos_as_written.written w.values w.can).1
 
-  agreed-so : (end : ℕ) → (w : WellFormedHello m) → w.values ≡ server_values_at m end → (a : Agreement)
+  agreed-so : (end : ℕ) → (w : WellFormedHello m) → w.values ≡ server_values_at m end → (a : Result Plan Disagreed)
       → TermsHold (server_values_at m end) id offer a → AgreementHolds a
-  agreed-so end w e (G.Agreed plan) h = (w, subst (λ v. Acceptable v id offer) (sym e) h)
-  agreed-so end w e (G.Unacceptable term) h = (w, λ x. h (subst (λ v. Acceptable v id offer) e x))
-  agreed-so end w e G.Malformed h = absurd h
+  agreed-so end w e (Ok plan) h = (w, subst (λ v. Acceptable v id offer) (sym e) h)
+  agreed-so end w e (Err (G.Unacceptable term)) h = (w, λ x. h (subst (λ v. Acceptable v id offer) e x))
+  agreed-so end w e (Err G.Malformed) h = absurd h
 
   pub agreement-holds : Bytes m → AgreementHolds (agreement_of m id offer)
   unfolding agreement_of
   agreement-holds b = go (server_read m) refl
     where
-      go : (r : Reading) → server_read m ≡ r → AgreementHolds (agreed_as m id offer r)
-      go (R.WellFormed end) e =
+      go : (r : Option ℕ) → server_read m ≡ r → AgreementHolds (agreed_as m id offer r)
+      go (Some end) e =
           let back = server_hellos_as_written.read m b end e in
           let w : WellFormedHello m = record { values = server_values_at m end; can = back.0; layout = back.1 } in
           agreed-so end w refl (agreed_with (server_values_at m end) id offer) (terms-hold (server_values_at m end) id offer)
-      go R.Malformed e = λ w. let t : R.Malformed ≡ R.WellFormed (21 + length w.values.session) = sym e ∙ reads_so w in
+      go None e = λ w. let t : None ≡ Some (21 + length w.values.session) = sym e ∙ reads_so w in
           let n : ◌≡◌ {A = ℕ} 0 1 = cc in omega arith
 
-  pub not-hello : Bytes m → (WellFormedHello m → ⊥) → agreement_of m id offer ≡ G.Malformed
+  pub not-hello : Bytes m → (WellFormedHello m → ⊥) → agreement_of m id offer ≡ Err G.Malformed
   not-hello b n = go (agreement_of m id offer) (agreement-holds b)
     where
-      go : (a : Agreement) → AgreementHolds a → a ≡ G.Malformed
-      go (G.Agreed plan) h = absurd (n h.0)
-      go (G.Unacceptable term) h = absurd (n h.0)
-      go G.Malformed h = refl
+      go : (a : Result Plan Disagreed) → AgreementHolds a → a ≡ Err G.Malformed
+      go (Ok plan) h = absurd (n h.0)
+      go (Err (G.Unacceptable term)) h = absurd (n h.0)
+      go (Err G.Malformed) h = refl
 
   -- a message has one reading
   one-reading : (w x : WellFormedHello m) → w.values ≡ x.values
@@ -164,14 +164,14 @@ module _ (m id : List ℕ) (offer : Offer) where
       let n : 21 + length w.values.session ≡ 21 + length x.values.session = same_end (reads_so w) (reads_so x) in
       sym (values-so w) ∙ ap (server_values_at m) n ∙ values-so x
     where
-      same_end : {i j : ℕ} → server_read m ≡ R.WellFormed i → server_read m ≡ R.WellFormed j → i ≡ j
+      same_end : {i j : ℕ} → server_read m ≡ Some i → server_read m ≡ Some j → i ≡ j
       same_end e f = let t = sym e ∙ f in cc
 
   pub not-acceptable : Bytes m → (w : WellFormedHello m) → (Acceptable w.values id offer → ⊥)
-      → (term : Term) × (agreement_of m id offer ≡ G.Unacceptable term)
+      → (term : Term) × (agreement_of m id offer ≡ Err (G.Unacceptable term))
   not-acceptable b w n = go (agreement_of m id offer) (agreement-holds b)
     where
-      go : (a : Agreement) → AgreementHolds a → (term : Term) × (a ≡ G.Unacceptable term)
-      go (G.Agreed plan) h = absurd (n (subst (λ v. Acceptable v id offer) (one-reading h.0 w) h.1))
-      go (G.Unacceptable term) h = (term, refl)
-      go G.Malformed h = absurd (h w)
+      go : (a : Result Plan Disagreed) → AgreementHolds a → (term : Term) × (a ≡ Err (G.Unacceptable term))
+      go (Ok plan) h = absurd (n (subst (λ v. Acceptable v id offer) (one-reading h.0 w) h.1))
+      go (Err (G.Unacceptable term)) h = (term, refl)
+      go (Err G.Malformed) h = absurd (h w)

@@ -20,8 +20,7 @@ use Rattle.record.specs.declared.header.Content.{Content}
 use Rattle.record.specs.declared.header.Content.TheVariants as C
 use Rattle.record.specs.declared.keys.Sense.TheVariants.{FromShore}
 use Rattle.record.specs.declared.window.Window.{Window}
-use Rattle.record.specs.declared.window.Acceptance.{Acceptance}
-use Rattle.record.specs.declared.window.Acceptance.TheVariants as A
+use Rattle.record.specs.declared.window.NotNew.TheVariants as A
 use Rattle.record.specs.declared.protection.Opening.{Opening}
 use Rattle.record.specs.declared.reader.Record.{Record}
 use Rattle.record.proofs.Protected.{coded_opens, uncoded_forged}
@@ -30,15 +29,11 @@ use Rattle.message.specs.Alert.{alert_of, description_number}
 use Rattle.message.specs.Change.{is_change}
 use Rattle.message.specs.Finished.{judged_of}
 use Rattle.message.specs.Request.{is_request}
-use Rattle.message.specs.declared.agreement.Agreement.{Agreement}
-use Rattle.message.specs.declared.agreement.Agreement.TheVariants as G
+use Rattle.message.specs.declared.agreement.Disagreed.TheVariants as G
 use Rattle.message.specs.declared.alert.Alert.{Alert}
 use Rattle.message.specs.declared.alert.Level.{Level}
 use Rattle.message.specs.declared.alert.Level.TheVariants as L
-use Rattle.message.specs.declared.alert.Reading.{Reading}
-use Rattle.message.specs.declared.alert.Reading.TheVariants as R
-use Rattle.message.specs.declared.finished.Verified.{Verified}
-use Rattle.message.specs.declared.finished.Verified.TheVariants as F
+use Rattle.message.specs.declared.finished.Unverified.TheVariants as F
 use Rattle.connection.specs.Judge.{fragment_of}
 use Rattle.connection.specs.Sent.{matches_of}
 use Rattle.connection.specs.declared.refusal.Refusal.TheVariants as X
@@ -68,6 +63,11 @@ use Rattle.demands.specs.Ship.Table.{critical, fatal, no_change, no_alert, no_me
 use Rattle.demands.specs.Ship.Table.{row_stays, row_shuts, row_hello, row_change, row_marked, row_opens, row_bars}
 use Rattle.demands.proofs.Genuine.{true_false}
 use Rattle.demands.proofs.Ship.Genuine.{coded-or-not}
+use Rattle.std.specs.Prelude.{Err, None, Ok, Option, Result, Some, ⊤}
+use Rattle.message.specs.declared.acceptance.Plan.{Plan}
+use Rattle.message.specs.declared.agreement.Disagreed.{Disagreed}
+use Rattle.message.specs.declared.finished.Unverified.{Unverified}
+use Rattle.record.specs.declared.window.NotNew.{NotNew}
 
 -- ---- what a rule of the table says of the state and of the kind
 
@@ -321,14 +321,14 @@ module _ (u : Ship) (d : List ℕ) (r : Record) where
   change-is true e = ap (λ x. stepped_by u (pick x (step W.Spec (emptied u.protection.window) Change) (refusing u.protection.window X.Malformed))) e
   change-is false e = ap (λ x. stepped_by u (pick x (step W.Spec (emptied u.protection.window) Change) (refusing u.protection.window X.Malformed))) e
 
-  hear-is : (x : Reading) → alert_of (fragment_of d r) ≡ x → ruled_as T.Hear ≡ stepped_by u (heard_by u.sent u.protection.window x)
+  hear-is : (x : Option Alert) → alert_of (fragment_of d r) ≡ x → ruled_as T.Hear ≡ stepped_by u (heard_by u.sent u.protection.window x)
   unfolding ruled_by step_by heard_alert
   hear-is x e = ap (λ y. stepped_by u (heard_by u.sent u.protection.window y)) e
 
-  abbrev windowed_to : List ℕ → Kind → Acceptance → Step
-  windowed_to c k A.TooOld = refusing u.protection.window X.TooOld
-  windowed_to c k A.Repeated = refusing u.protection.window X.Repeated
-  windowed_to c k (A.New w n) = content_by w u.protection.keys.mac u.expected u.state k r.number (r.start + r.head) c
+  abbrev windowed_to : List ℕ → Kind → Result (Window × ℕ) NotNew → Step
+  windowed_to c k (Err A.TooOld) = refusing u.protection.window X.TooOld
+  windowed_to c k (Err A.Repeated) = refusing u.protection.window X.Repeated
+  windowed_to c k (Ok (w, n)) = content_by w u.protection.keys.mac u.expected u.state k r.number (r.start + r.head) c
 
   front_is : (c : List ℕ) → Protected u.protection.keys d r c → take (length c) (fragment_of d r) ≡ c
   unfolding fragment_by
@@ -340,14 +340,14 @@ module _ (u : Ship) (d : List ℕ) (r : Record) where
   unprotected_as o =
       unprotected_to u.protection u.expected u.state (kind_in d r) r.number (r.start + r.head) (fragment_of d r) o.protection o.opened
 
-  opened-is : (c : List ℕ) → Protected u.protection.keys d r c → (x : Acceptance)
+  opened-is : (c : List ℕ) → Protected u.protection.keys d r c → (x : Result (Window × ℕ) NotNew)
       → unprotected_as (opened_to u.protection (length c) x) ≡ windowed_to c (kind_in d r) x
-  opened-is c s A.TooOld = refl
-  opened-is c s A.Repeated = refl
-  opened-is c s (A.New w n) =
+  opened-is c s (Err A.TooOld) = refl
+  opened-is c s (Err A.Repeated) = refl
+  opened-is c s (Ok (w, n)) =
       ap (content_by w u.protection.keys.mac u.expected u.state (kind_in d r) r.number (r.start + r.head)) (front_is c s)
 
-  unprotect-is : (c : List ℕ) → Protected u.protection.keys d r c → (x : Acceptance) → accept_of u.protection.window r.number ≡ x
+  unprotect-is : (c : List ℕ) → Protected u.protection.keys d r c → (x : Result (Window × ℕ) NotNew) → accept_of u.protection.window r.number ≡ x
       → ruled_as T.Unprotect ≡ stepped_by u (windowed_to c (kind_in d r) x)
   unfolding ruled_by step_by unprotected_by
   unprotect-is c s x e =
@@ -363,11 +363,11 @@ module _ (u : Ship) (d : List ℕ) (r : Record) where
 
   -- ---- every record has a row
 
-  agree-row : Ruled u d r T.Agree → r.start ≡ 0 → (x : Agreement) → agreement_of (fragment_of d r) u.id u.offer ≡ x
+  agree-row : Ruled u d r T.Agree → r.start ≡ 0 → (x : Result Plan Disagreed) → agreement_of (fragment_of d r) u.id u.offer ≡ x
       → Row u d r (agreed_to u (fragment_of d r) x)
-  agree-row e z (G.Agreed plan) q = row_hello plan e z q
-  agree-row e z (G.Unacceptable term) q = row_stays (unacceptable term e z q)
-  agree-row e z G.Malformed q = row_stays (bad_hello e z q)
+  agree-row e z (Ok plan) q = row_hello plan e z q
+  agree-row e z (Err (G.Unacceptable term)) q = row_stays (unacceptable term e z q)
+  agree-row e z (Err G.Malformed) q = row_stays (bad_hello e z q)
 
   first_row : Ruled u d r T.Agree → (b : Bool) → eqb r.start 0 ≡ b
       → Row u d r (pick b (agreed_to u (fragment_of d r) (agreement_of (fragment_of d r) u.id u.offer)) (judged (W.Refused X.NotAllowed) u))
@@ -395,24 +395,24 @@ module _ (u : Ship) (d : List ℕ) (r : Record) where
   change_row e true b = row_change e b
   change_row e false b = row_stays (bad_change e b)
 
-  level_row : (a : Alert) → Ruled u d r T.Hear → alert_of (fragment_of d r) ≡ R.WellFormed a → matches_of u.sent a.checksum ≡ true
+  level_row : (a : Alert) → Ruled u d r T.Hear → alert_of (fragment_of d r) ≡ Some a → matches_of u.sent a.checksum ≡ true
       → (l : Level) → a.level ≡ l → Row u d r (stepped_by u (by_level u.protection.window l a.description))
   unfolding left_by
   level_row a e q m L.Warning x = row_stays (warning a e q m x)
   level_row a e q m L.Critical x = row_shuts (critical a e q m x)
   level_row a e q m L.Fatal x = row_shuts (fatal a e q m x)
 
-  sum_row : (a : Alert) → Ruled u d r T.Hear → alert_of (fragment_of d r) ≡ R.WellFormed a → (b : Bool) → matches_of u.sent a.checksum ≡ b
+  sum_row : (a : Alert) → Ruled u d r T.Hear → alert_of (fragment_of d r) ≡ Some a → (b : Bool) → matches_of u.sent a.checksum ≡ b
       → Row u d r (stepped_by u (pick b (by_level u.protection.window a.level a.description) (refusing u.protection.window X.Checksum)))
   unfolding left_by
   sum_row a e q true m = level_row a e q m a.level refl
   sum_row a e q false m = row_stays (checksum a e q m)
 
-  hear_row : Ruled u d r T.Hear → (x : Reading) → alert_of (fragment_of d r) ≡ x
+  hear_row : Ruled u d r T.Hear → (x : Option Alert) → alert_of (fragment_of d r) ≡ x
       → Row u d r (stepped_by u (heard_by u.sent u.protection.window x))
   unfolding left_by
-  hear_row e R.Malformed q = row_stays (bad_alert e q)
-  hear_row e (R.WellFormed a) q = sum_row a e q (matches_of u.sent a.checksum) refl
+  hear_row e None q = row_stays (bad_alert e q)
+  hear_row e (Some a) q = sum_row a e q (matches_of u.sent a.checksum) refl
 
   module _ (c : List ℕ) (w : Window) (n : New u d r c w) where
     abbrev content_as : Kind → Step
@@ -426,7 +426,7 @@ module _ (u : Ship) (d : List ℕ) (r : Record) where
         → Row u d r (judged a (with_state (with_window u w) t))
     at-state a e x = subst (λ s. Row u d r (judged a (with_state (with_window u w) s))) (sym e) x
 
-    settles-row : (a : Alert) → kind_in d r ≡ K.ProtectedAlert → alert_of c ≡ R.WellFormed a → a.level ≡ L.Warning
+    settles-row : (a : Alert) → kind_in d r ≡ K.ProtectedAlert → alert_of c ≡ Some a → a.level ≡ L.Warning
         → eqb (description_number a.description) 57 ≡ true → (u.state ≡ S.Spec) ⊎ Up u.state
         → Row u d r (judged (W.Warning a.description) (with_state (with_window u w) (settled u.state)))
     settles-row a k q l b (inl e) =
@@ -434,26 +434,26 @@ module _ (u : Ship) (d : List ℕ) (r : Record) where
     settles-row a k q l b (inr o) =
         at-state (W.Warning a.description) (settled-open u.state o) (row_marked c w n (repeated_finished a k q l b o))
 
-    warning-row : (a : Alert) → kind_in d r ≡ K.ProtectedAlert → alert_of c ≡ R.WellFormed a → a.level ≡ L.Warning
+    warning-row : (a : Alert) → kind_in d r ≡ K.ProtectedAlert → alert_of c ≡ Some a → a.level ≡ L.Warning
         → (b : Bool) → eqb (description_number a.description) 57 ≡ b
         → Row u d r (stepped_by u (step (W.Warning a.description) w (pick b Settle Stay)))
     unfolding left_by
     warning-row a k q l true b = settles-row a k q l b (guards-state u.state (kind_in d r) guarded)
     warning-row a k q l false b = row_marked c w n (protected_warning a k q l (inl b))
 
-    protected-row : (a : Alert) → kind_in d r ≡ K.ProtectedAlert → alert_of c ≡ R.WellFormed a → (l : Level) → a.level ≡ l
+    protected-row : (a : Alert) → kind_in d r ≡ K.ProtectedAlert → alert_of c ≡ Some a → (l : Level) → a.level ≡ l
         → Row u d r (stepped_by u (protected_level w l a.description))
     unfolding left_by warned
     protected-row a k q L.Warning x = warning-row a k q x (eqb (description_number a.description) 57) refl
     protected-row a k q L.Critical x = row_marked c w n (protected_critical a k q x)
     protected-row a k q L.Fatal x = row_bars c w a n k q x
 
-    alert_row : kind_in d r ≡ K.ProtectedAlert → (x : Reading) → alert_of c ≡ x → Row u d r (stepped_by u (alerted_to w x))
+    alert_row : kind_in d r ≡ K.ProtectedAlert → (x : Option Alert) → alert_of c ≡ x → Row u d r (stepped_by u (alerted_to w x))
     unfolding left_by
-    alert_row k R.Malformed q = row_marked c w n (no_alert k q)
-    alert_row k (R.WellFormed a) q = protected-row a k q a.level refl
+    alert_row k None q = row_marked c w n (no_alert k q)
+    alert_row k (Some a) q = protected-row a k q a.level refl
 
-    finish-row : kind_in d r ≡ K.ProtectedHandshake → is_request c ≡ false → judged_of c u.expected ≡ F.Right
+    finish-row : kind_in d r ≡ K.ProtectedHandshake → is_request c ≡ false → judged_of c u.expected ≡ Ok tt
         → (u.state ≡ S.Spec) ⊎ Up u.state → Row u d r (stepped_by u (finished_in w u.protection.keys.mac u.state))
     unfolding left_by
     finish-row k q v (inl e) =
@@ -463,12 +463,12 @@ module _ (u : Ship) (d : List ℕ) (r : Record) where
     finish-row k q v (inr (inr e)) =
         subst (λ s. Row u d r (stepped_by u (finished_in w u.protection.keys.mac s))) (sym e) (row_marked c w n (finished_again k q v (inr e)))
 
-    verified-row : kind_in d r ≡ K.ProtectedHandshake → is_request c ≡ false → (x : Verified) → judged_of c u.expected ≡ x
+    verified-row : kind_in d r ≡ K.ProtectedHandshake → is_request c ≡ false → (x : Result ⊤ Unverified) → judged_of c u.expected ≡ x
         → Row u d r (stepped_by u (verified_to w u.protection.keys.mac u.state x))
     unfolding left_by
-    verified-row k q F.Right v = finish-row k q v (guards-state u.state (kind_in d r) guarded)
-    verified-row k q F.Wrong v = row_marked c w n (wrong_finished k q v)
-    verified-row k q F.Malformed v = row_marked c w n (no_message k q v)
+    verified-row k q (Ok tt) v = finish-row k q v (guards-state u.state (kind_in d r) guarded)
+    verified-row k q (Err F.Wrong) v = row_marked c w n (wrong_finished k q v)
+    verified-row k q (Err F.Malformed) v = row_marked c w n (no_message k q v)
 
     requested-row : kind_in d r ≡ K.ProtectedHandshake → is_request c ≡ true → (u.state ≡ S.Spec) ⊎ Up u.state
         → Row u d r (judged (request_in u.state) (with_window u w))
@@ -506,12 +506,12 @@ module _ (u : Ship) (d : List ℕ) (r : Record) where
     content_row K.ProtectedHandshake e = message-row e (is_request c) refl
     content_row K.ProtectedData e = data_row e (eqb (length c) 0) refl
 
-  window_row : Ruled u d r T.Unprotect → (c : List ℕ) → Protected u.protection.keys d r c → (x : Acceptance)
+  window_row : Ruled u d r T.Unprotect → (c : List ℕ) → Protected u.protection.keys d r c → (x : Result (Window × ℕ) NotNew)
       → accept_of u.protection.window r.number ≡ x → Row u d r (stepped_by u (windowed_to c (kind_in d r) x))
   unfolding left_by
-  window_row e c s A.TooOld q = row_stays (too_old c e s q)
-  window_row e c s A.Repeated q = row_stays (repeated c e s q)
-  window_row e c s (A.New w n) q = content_row c w (record { ruled = e; coded = s; arrived = n; accepted = q }) (kind_in d r) refl
+  window_row e c s (Err A.TooOld) q = row_stays (too_old c e s q)
+  window_row e c s (Err A.Repeated) q = row_stays (repeated c e s q)
+  window_row e c s (Ok (w, n)) q = content_row c w (record { ruled = e; coded = s; arrived = n; accepted = q }) (kind_in d r) refl
 
   code_row : Ruled u d r T.Unprotect
       → ((c : List ℕ) × Protected u.protection.keys d r c) ⊎ ((c : List ℕ) → Protected u.protection.keys d r c → ⊥)
@@ -536,24 +536,24 @@ module _ (u : Ship) (d : List ℕ) (r : Record) where
 
   -- ---- what a row says is what the definition gives
 
-  abbrev agreed_as : Agreement → Judged
+  abbrev agreed_as : Result Plan Disagreed → Judged
   agreed_as x = agreed_to u (fragment_of d r) x
 
-  agreed_is : (x : Agreement) → Ruled u d r T.Agree → r.start ≡ 0 → agreement_of (fragment_of d r) u.id u.offer ≡ x
+  agreed_is : (x : Result Plan Disagreed) → Ruled u d r T.Agree → r.start ≡ 0 → agreement_of (fragment_of d r) u.id u.offer ≡ x
       → judged_record u d r ≡ agreed_as x
   agreed_is x e z q = ruled_is T.Agree e ∙ agree-is true (eq-eqb r.start 0 z) ∙ ap agreed_as q
 
-  heard-is : (a : Alert) → Ruled u d r T.Hear → alert_of (fragment_of d r) ≡ R.WellFormed a → (b : Bool) → matches_of u.sent a.checksum ≡ b
+  heard-is : (a : Alert) → Ruled u d r T.Hear → alert_of (fragment_of d r) ≡ Some a → (b : Bool) → matches_of u.sent a.checksum ≡ b
       → judged_record u d r ≡ stepped_by u (pick b (by_level u.protection.window a.level a.description) (refusing u.protection.window X.Checksum))
   heard-is a e q b m =
-      ruled_is T.Hear e ∙ hear-is (R.WellFormed a) q
+      ruled_is T.Hear e ∙ hear-is (Some a) q
       ∙ ap (λ x. stepped_by u (pick x (by_level u.protection.window a.level a.description) (refusing u.protection.window X.Checksum))) m
 
-  leveled-is : (a : Alert) → Ruled u d r T.Hear → alert_of (fragment_of d r) ≡ R.WellFormed a → matches_of u.sent a.checksum ≡ true
+  leveled-is : (a : Alert) → Ruled u d r T.Hear → alert_of (fragment_of d r) ≡ Some a → matches_of u.sent a.checksum ≡ true
       → (l : Level) → a.level ≡ l → judged_record u d r ≡ stepped_by u (by_level u.protection.window l a.description)
   leveled-is a e q m l x = heard-is a e q true m ∙ ap (λ y. stepped_by u (by_level u.protection.window y a.description)) x
 
-  windowed_is : (c : List ℕ) → Ruled u d r T.Unprotect → Protected u.protection.keys d r c → (x : Acceptance)
+  windowed_is : (c : List ℕ) → Ruled u d r T.Unprotect → Protected u.protection.keys d r c → (x : Result (Window × ℕ) NotNew)
       → accept_of u.protection.window r.number ≡ x → judged_record u d r ≡ stepped_by u (windowed_to c (kind_in d r) x)
   windowed_is c e s x q = ruled_is T.Unprotect e ∙ unprotect-is c s x q
 
@@ -563,13 +563,13 @@ module _ (u : Ship) (d : List ℕ) (r : Record) where
   stays-is (not_allowed e) = ruled_is T.NotAllowed e ∙ not_allowed_is
   stays-is (not_first e z) = ruled_is T.Agree e ∙ agree-is false (ne_eqb r.start 0 z)
   stays-is (forged e never) = ruled_is T.Unprotect e ∙ forged_is (ruled-protected e) never
-  stays-is (too_old c e s q) = windowed_is c e s A.TooOld q
-  stays-is (repeated c e s q) = windowed_is c e s A.Repeated q
-  stays-is (bad_hello e z q) = agreed_is G.Malformed e z q
+  stays-is (too_old c e s q) = windowed_is c e s (Err A.TooOld) q
+  stays-is (repeated c e s q) = windowed_is c e s (Err A.Repeated) q
+  stays-is (bad_hello e z q) = agreed_is (Err G.Malformed) e z q
   stays-is (bad_request e q) = ruled_is T.Request e ∙ request-is false q
   stays-is (bad_change e q) = ruled_is T.Change e ∙ change-is false q
-  stays-is (bad_alert e q) = ruled_is T.Hear e ∙ hear-is R.Malformed q
-  stays-is (unacceptable term e z q) = agreed_is (G.Unacceptable term) e z q
+  stays-is (bad_alert e q) = ruled_is T.Hear e ∙ hear-is None q
+  stays-is (unacceptable term e z q) = agreed_is (Err (G.Unacceptable term)) e z q
   stays-is (checksum a e q m) = heard-is a e q false m
   stays-is (ignored_request e q m) = ruled_is T.Request e ∙ request-is true q ∙ ap (λ x. judged x u) (ignored-in u.state m)
   stays-is (reported_request e q m) = ruled_is T.Request e ∙ request-is true q ∙ ap (λ x. judged x u) (reported-in u.state m)
@@ -583,18 +583,18 @@ module _ (u : Ship) (d : List ℕ) (r : Record) where
   module _ (c : List ℕ) (w : Window) (n : New u d r c w) where
     new_is : (k : Kind) → kind_in d r ≡ k → judged_record u d r ≡ stepped_by u (content_as c w n k)
     new_is k e =
-        windowed_is c n.ruled n.coded (A.New w n.arrived) n.accepted
+        windowed_is c n.ruled n.coded (Ok (w, n.arrived)) n.accepted
         ∙ ap (λ x. stepped_by u (content_as c w n x)) e
 
-    alert_is : (x : Reading) → kind_in d r ≡ K.ProtectedAlert → alert_of c ≡ x → judged_record u d r ≡ stepped_by u (alerted_to w x)
+    alert_is : (x : Option Alert) → kind_in d r ≡ K.ProtectedAlert → alert_of c ≡ x → judged_record u d r ≡ stepped_by u (alerted_to w x)
     unfolding content_by alerted_by
     alert_is x k q = new_is K.ProtectedAlert k ∙ ap (λ y. stepped_by u (alerted_to w y)) q
 
-    level_is : (a : Alert) → kind_in d r ≡ K.ProtectedAlert → alert_of c ≡ R.WellFormed a → (l : Level) → a.level ≡ l
+    level_is : (a : Alert) → kind_in d r ≡ K.ProtectedAlert → alert_of c ≡ Some a → (l : Level) → a.level ≡ l
         → judged_record u d r ≡ stepped_by u (protected_level w l a.description)
-    level_is a k q l x = alert_is (R.WellFormed a) k q ∙ ap (λ y. stepped_by u (protected_level w y a.description)) x
+    level_is a k q l x = alert_is (Some a) k q ∙ ap (λ y. stepped_by u (protected_level w y a.description)) x
 
-    warned-is : (a : Alert) → kind_in d r ≡ K.ProtectedAlert → alert_of c ≡ R.WellFormed a → a.level ≡ L.Warning
+    warned-is : (a : Alert) → kind_in d r ≡ K.ProtectedAlert → alert_of c ≡ Some a → a.level ≡ L.Warning
         → (b : Bool) → eqb (description_number a.description) 57 ≡ b
         → judged_record u d r ≡ stepped_by u (step (W.Warning a.description) w (pick b Settle Stay))
     unfolding warned
@@ -602,7 +602,7 @@ module _ (u : Ship) (d : List ℕ) (r : Record) where
         level_is a k q L.Warning l ∙ ap (λ x. stepped_by u (step (W.Warning a.description) w (pick x Settle Stay))) e
 
     -- one on a repeated Finished, where it settles nothing
-    warned-in-spec : (a : Alert) → kind_in d r ≡ K.ProtectedAlert → alert_of c ≡ R.WellFormed a → a.level ≡ L.Warning → u.state ≡ S.Spec
+    warned-in-spec : (a : Alert) → kind_in d r ≡ K.ProtectedAlert → alert_of c ≡ Some a → a.level ≡ L.Warning → u.state ≡ S.Spec
         → (b : Bool) → eqb (description_number a.description) 57 ≡ b
         → judged_record u d r ≡ judged (W.Warning a.description) (with_window u w)
     unfolding left_by
@@ -620,7 +620,7 @@ module _ (u : Ship) (d : List ℕ) (r : Record) where
     unfolding content_by handshake_by requested_by
     message_is b k q = new_is K.ProtectedHandshake k ∙ ap (λ x. stepped_by u (message_as x)) q
 
-    verdict-is : (x : Verified) → kind_in d r ≡ K.ProtectedHandshake → is_request c ≡ false → judged_of c u.expected ≡ x
+    verdict-is : (x : Result ⊤ Unverified) → kind_in d r ≡ K.ProtectedHandshake → is_request c ≡ false → judged_of c u.expected ≡ x
         → (s : State) → u.state ≡ s → judged_record u d r ≡ stepped_by u (verified_to w u.protection.keys.mac s x)
     unfolding verified_by
     verdict-is x k q v s e =
@@ -636,8 +636,8 @@ module _ (u : Ship) (d : List ℕ) (r : Record) where
     marked_is : {a : Answer} {s : State} → Marked u d r c a s → judged_record u d r ≡ judged a (with_state (with_window u w) s)
     unfolding left_by content_by
     marked_is (no_change k) = new_is K.ProtectedChange k
-    marked_is (no_alert k q) = alert_is R.Malformed k q
-    marked_is (no_message k q v) = verdict-is F.Malformed k q v u.state refl
+    marked_is (no_alert k q) = alert_is None k q
+    marked_is (no_message k q v) = verdict-is (Err F.Malformed) k q v u.state refl
     marked_is (no_data k z) = data_is true k (eq-eqb (length c) 0 z)
     marked_is (some_data k z) =
         data_is false k (ne_eqb (length c) 0 (λ e. omega arith))
@@ -652,18 +652,18 @@ module _ (u : Ship) (d : List ℕ) (r : Record) where
     marked_is (protected_ignored k q e) =
         message_is true k q ∙ ap (λ x. judged x (with_window u w)) (ignored-in u.state (inr (inr e)))
     marked_is (protected_reported k q o) = message_is true k q ∙ ap (λ x. judged x (with_window u w)) (reported-in u.state (inr o))
-    marked_is (finished_again k q v (inl e)) = verdict-is F.Right k q v S.Opening e
-    marked_is (finished_again k q v (inr e)) = verdict-is F.Right k q v S.Open e
-    marked_is (wrong_finished k q v) = verdict-is F.Wrong k q v u.state refl
+    marked_is (finished_again k q v (inl e)) = verdict-is (Ok tt) k q v S.Opening e
+    marked_is (finished_again k q v (inr e)) = verdict-is (Ok tt) k q v S.Open e
+    marked_is (wrong_finished k q v) = verdict-is (Err F.Wrong) k q v u.state refl
 
   pub row_is : {j : Judged} → Row u d r j → judged_record u d r ≡ j
   unfolding left_by
   row_is (row_stays s) = stays-is s
   row_is (row_shuts s) = shuts-is s
-  row_is (row_hello plan e z q) = agreed_is (G.Agreed plan) e z q
+  row_is (row_hello plan e z q) = agreed_is (Ok plan) e z q
   row_is (row_change e q) = ruled_is T.Change e ∙ change-is true q
   row_is (row_marked c w n m) = marked_is c w n m
-  row_is (row_opens c w n s k q v) = verdict-is c w n F.Right k q v S.Spec s
+  row_is (row_opens c w n s k q v) = verdict-is c w n (Ok tt) k q v S.Spec s
   row_is (row_bars c w a n k q l) = level_is c w n a k q L.Fatal l
 
 pub table_holds : TableHolds

@@ -25,17 +25,9 @@ use Rattle.message.specs.Alert.{level_of, sorted_of}
 use Rattle.message.specs.Offer.{kinds_named}
 use Rattle.message.specs.declared.alert.Level.{Level}
 use Rattle.message.specs.declared.alert.Description.{Description}
-use Rattle.message.specs.declared.alert.Graded.{Graded}
-use Rattle.message.specs.declared.alert.Graded.TheVariants as G
-use Rattle.message.specs.declared.alert.Sorted.{Sorted}
-use Rattle.message.specs.declared.alert.Sorted.TheVariants as D
 use Rattle.message.specs.declared.offer.Kinds.{Kinds}
-use Rattle.message.specs.declared.offer.Named.{Named}
-use Rattle.message.specs.declared.offer.Named.TheVariants.{Are, Others}
 use Rattle.connection.specs.Send.{alert_body}
 use Rattle.connection.specs.Sent.{sum_of}
-use Rattle.connection.specs.declared.calls.Outcome.{Outcome}
-use Rattle.connection.specs.declared.calls.Outcome.TheVariants.{Done, Refused}
 use Rattle.unit.specs.Answer.{slot, opens_by, opens_to}
 use Rattle.unit.specs.Hello.{hello_datagram, offer_of, may_hello, greeted_with, hello_as, hello_sent, hello_output_as, hello_output, said_again, hello_said, again_in, again_output_in}
 use Rattle.unit.specs.Receive.{end_of, answers_of, slots_of, flight_in, run_of, whole_of, framed_to, received_of, sent_of, output_of}
@@ -56,6 +48,8 @@ use Rattle.demands.specs.Ship.ExactlyReceive.{answer_given}
 use Rattle.demands.specs.Ship.Writes.{IsDone, wrote_step, AgainGives, HelloWrote, HelloSaidNext, NothingWithoutOpen, OurRecord, Lays, DataWritten, AlertIs, AlertWritten}
 use Rattle.demands.proofs.Exactly.Reasons.{decide}
 use Rattle.demands.proofs.Wire.{clear_read, clear_fragment, size_protected, protected_read, protected_fragment}
+use Rattle.std.specs.Prelude.{Err, None, Ok, Option, Result, Some, ⊤}
+use Rattle.connection.specs.declared.refusal.Refusal.{Refusal}
 
 -- ---- again
 
@@ -90,22 +84,22 @@ module _ (u : Ship) (random macs : List ℕ) (refresh : ℕ) (out : List ℕ) wh
   greeted_as kinds = greeted u random (offer_of kinds refresh) (sum_of (said kinds))
 
   abbrev Greeted : Step → Type 0
-  Greeted s = IsDone s.result → (kinds : Kinds) × (kinds_named macs ≡ Are kinds) × (s ≡ wrote_step out (said kinds) (greeted_as kinds))
+  Greeted s = IsDone s.result → (kinds : Kinds) × (kinds_named macs ≡ Some kinds) × (s ≡ wrote_step out (said kinds) (greeted_as kinds))
 
-  greeted-by : (kinds : Kinds) → kinds_named macs ≡ Are kinds
+  greeted-by : (kinds : Kinds) → kinds_named macs ≡ Some kinds
       → Greeted (sent_as (greeted_with u random (offer_of kinds refresh) (length out)) (written_of out (said kinds)))
   unfolding greeted_with written_of
   greeted-by kinds e =
       decide (leb (length (said kinds)) (length out)) (λ f. rw f (λ x. (kinds, e, refl))) (λ f. rw f (λ x. absurd x))
 
-  may-by : (o : Outcome) (kinds : Kinds) → kinds_named macs ≡ Are kinds
+  may-by : (o : Result ⊤ Refusal) (kinds : Kinds) → kinds_named macs ≡ Some kinds
       → Greeted (sent_as (sent_if u o (greeted_with u random (offer_of kinds refresh) (length out))) (output_if out o (written_of out (said kinds))))
-  may-by Done kinds e = greeted-by kinds e
-  may-by (Refused x) kinds e = λ y. absurd y
+  may-by (Ok tt) kinds e = greeted-by kinds e
+  may-by (Err x) kinds e = λ y. absurd y
 
-  named_by : (n : Named) → kinds_named macs ≡ n → Greeted (sent_as (hello_as u random refresh (length out) n) (hello_output_as u random refresh out n))
-  named_by (Are kinds) e = may-by (may_hello u.state) kinds e
-  named_by Others e = λ y. absurd y
+  named_by : (n : Option Kinds) → kinds_named macs ≡ n → Greeted (sent_as (hello_as u random refresh (length out) n) (hello_output_as u random refresh out n))
+  named_by (Some kinds) e = may-by (may_hello u.state) kinds e
+  named_by None e = λ y. absurd y
 
   hello-by : Greeted (step_of u (hello random macs refresh out))
   unfolding step_of hello_sent hello_output
@@ -219,9 +213,9 @@ module _ (u : Ship) (out : List ℕ) where
   abbrev Writes : (List ℕ → Type 0) → Step → Type 0
   Writes Kind s = IsDone s.result → Lays s out Kind
 
-  if-writes : (Kind : List ℕ → Type 0) (o : Outcome) (s : Sent) (os : List ℕ) → Writes Kind (sent_as s os) → Writes Kind (sent_as (sent_if u o s) (output_if out o os))
-  if-writes Kind Done s os a = a
-  if-writes Kind (Refused x) s os a = λ y. absurd y
+  if-writes : (Kind : List ℕ → Type 0) (o : Result ⊤ Refusal) (s : Sent) (os : List ℕ) → Writes Kind (sent_as s os) → Writes Kind (sent_as (sent_if u o s) (output_if out o os))
+  if-writes Kind (Ok tt) s os a = a
+  if-writes Kind (Err x) s os a = λ y. absurd y
 
   protected-writes : (content : Content) (body : List ℕ)
       → Writes (OurRecord u.protection.keys content u.protection.protected body)
@@ -266,17 +260,17 @@ module _ (u : Ship) (out : List ℕ) where
   module _ (protected : Bool) (level description : ℕ) (answered : List ℕ) where
     abbrev Alerts : Step → Type 0
     Alerts s =
-        IsDone s.result → (l : Level) × (k : Description) × (level_of level ≡ G.Is l) × (sorted_of description ≡ D.Assigned k)
+        IsDone s.result → (l : Level) × (k : Description) × (level_of level ≡ Some l) × (sorted_of description ≡ Some k)
         × Lays s out (AlertIs u protected (alert_body l k answered))
 
-    as-writes : (g : Graded) (s : Sorted) → level_of level ≡ g → sorted_of description ≡ s
+    as-writes : (g : Option Level) (s : Option Description) → level_of level ≡ g → sorted_of description ≡ s
         → Alerts (sent_as (alert_sent_as u protected answered (length out) g s) (alert_output_as u protected answered out g s))
-    as-writes (G.Is l) (D.Assigned k) el ek =
+    as-writes (Some l) (Some k) el ek =
         decide (ltb 1400 (length answered)) (λ f. rw f (λ y. absurd y))
         (λ f. rw f (λ y. (l, k, el, ek, by-writes protected (alert_body l k answered) (omega arith) y)))
-    as-writes (G.Is l) D.Unassigned el ek = λ y. absurd y
-    as-writes G.Unassigned (D.Assigned k) el ek = λ y. absurd y
-    as-writes G.Unassigned D.Unassigned el ek = λ y. absurd y
+    as-writes (Some l) None el ek = λ y. absurd y
+    as-writes None (Some k) el ek = λ y. absurd y
+    as-writes None None el ek = λ y. absurd y
 
     alert-writes : Alerts (step_of u (send_alert protected level description answered out))
     unfolding step_of alert_sent alert_output

@@ -1,10 +1,9 @@
 -- 01, "Refusal numbers", of the calls without an output: "Start again: 7, then 8 unless Closed. Close: 7. Fresh
 -- connection: 16 only."
-use Rattle.std.specs.Prelude.{◌≡◌, ◌↔◌, ◌⊎◌, ◌≢◌, List, ℕ, ◌<◌, length}
+use Rattle.std.specs.Prelude.{◌≡◌, ◌↔◌, ◌⊎◌, ◌≢◌, List, ℕ, ◌<◌, length, Err, Ok}
 use Rattle.record.specs.Window.{Held}
 use Rattle.connection.specs.Calls.{fresh_of}
 use Rattle.connection.specs.declared.connection.Connection.{Connection}
-use Rattle.connection.specs.declared.calls.Outcome.TheVariants.{Done, Refused}
 use Rattle.connection.specs.declared.refusal.Refusal.{Refusal}
 use Rattle.connection.specs.declared.refusal.Refusal.TheVariants as X
 use Rattle.connection.specs.declared.state.State.{State}
@@ -28,9 +27,9 @@ WhyStart state X.Argument = ⊥
 WhyStart state X.WrongFinished = ⊥
 
 pub record ExactlyStart (g : Gateway) : Type 0 where
-  pub refused : (c : Connection) (x : Refusal) → ((g c start).result ≡ called (Refused x))
+  pub refused : (c : Connection) (x : Refusal) → ((g c start).result ≡ called (Err x))
       ↔ WhyStart c.handshake.state x
-  pub goes : (c : Connection) → ((g c start).result ≡ called Done) ↔ (c.handshake.state ≡ Closed)
+  pub goes : (c : Connection) → ((g c start).result ≡ called (Ok tt)) ↔ (c.handshake.state ≡ Closed)
 
 -- close: 7 where Barred. "Close leads anywhere but Barred to Closed."
 abbrev pub WhyClose : State → Refusal → Type 0
@@ -49,9 +48,9 @@ WhyClose state X.Argument = ⊥
 WhyClose state X.WrongFinished = ⊥
 
 pub record ExactlyClose (g : Gateway) : Type 0 where
-  pub refused : (c : Connection) (x : Refusal) → ((g c close).result ≡ called (Refused x))
+  pub refused : (c : Connection) (x : Refusal) → ((g c close).result ≡ called (Err x))
       ↔ WhyClose c.handshake.state x
-  pub goes : (c : Connection) → ((g c close).result ≡ called Done) ↔ (c.handshake.state ≢ Barred)
+  pub goes : (c : Connection) → ((g c close).result ≡ called (Ok tt)) ↔ (c.handshake.state ≢ Barred)
 
 -- fresh connection, 16 only: "identifier not 8, secret not 20", "width outside 32 to 64" (02, P1)
 abbrev pub WhyFresh : ℕ → ℕ → ℕ → Refusal → Type 0
@@ -70,7 +69,7 @@ WhyFresh id secret width X.Spent = ⊥
 WhyFresh id secret width X.WrongFinished = ⊥
 
 pub record ExactlyFresh : Type 0 where
-  pub refused : (id secret : List ℕ) (width : ℕ) (x : Refusal) → ((fresh_of id secret width).outcome ≡ Refused x)
+  pub refused : (id secret : List ℕ) (width : ℕ) (x : Refusal) → ((fresh_of id secret width).outcome ≡ Err x)
       ↔ WhyFresh (length id) (length secret) width x
-  pub goes : (id secret : List ℕ) (width : ℕ) → ((fresh_of id secret width).outcome ≡ Done)
+  pub goes : (id secret : List ℕ) (width : ℕ) → ((fresh_of id secret width).outcome ≡ Ok tt)
       ↔ ((length id ≡ 8) × (length secret ≡ 20) × Held width)

@@ -1,9 +1,8 @@
 -- 01, "Refusal numbers", of the sends: "Send: 16, 7, 8, 15, 6. Data is sent only in Open, protected alerts in
 -- Replied, Spec and Open, clear ones in Replied and Spec."
-use Rattle.std.specs.Prelude.{◌≡◌, ◌↔◌, ◌⊎◌, Bool, true, false, List, ℕ, ◌+◌, ◌≤◌, ◌<◌, length}
+use Rattle.std.specs.Prelude.{◌≡◌, ◌↔◌, ◌⊎◌, Bool, true, false, List, ℕ, ◌+◌, ◌≤◌, ◌<◌, length, Err, Ok}
 use Rattle.digest.specs.Mac.{size_of}
 use Rattle.connection.specs.declared.connection.Connection.{Connection}
-use Rattle.connection.specs.declared.calls.Outcome.TheVariants.{Done, Refused}
 use Rattle.connection.specs.declared.handshake.Handshake.{Handshake}
 use Rattle.connection.specs.declared.refusal.Refusal.{Refusal}
 use Rattle.connection.specs.declared.refusal.Refusal.TheVariants as X
@@ -50,11 +49,11 @@ DataGoes state size number code room =
 
 pub record ExactlyData (g : Gateway) : Type 0 where
   pub refused : (c : Connection) (bytes out : List ℕ) (x : Refusal)
-      → ((g c (send_data bytes out)).result ≡ sent (Refused x) 0)
+      → ((g c (send_data bytes out)).result ≡ sent (Err x) 0)
       ↔ WhyData c.handshake.state (length bytes) c.handshake.protection.protected
       (size_of c.handshake.protection.keys.mac) (length out) x
   pub goes : (c : Connection) (bytes out : List ℕ)
-      → ((g c (send_data bytes out)).result ≡ sent Done (3 + length bytes + size_of c.handshake.protection.keys.mac))
+      → ((g c (send_data bytes out)).result ≡ sent (Ok tt) (3 + length bytes + size_of c.handshake.protection.keys.mac))
       ↔ DataGoes c.handshake.state (length bytes) c.handshake.protection.protected
       (size_of c.handshake.protection.keys.mac) (length out)
 
@@ -115,12 +114,12 @@ AlertGoes protected state level description lent number code room =
 -- of the handshake that sends: "clear alerts on the started one, each by its own sending numbers" (02, P6)
 pub record ExactlyAlert (g : Gateway) : Type 0 where
   pub refused : (c : Connection) (protected : Bool) (level description : ℕ) (answered out : List ℕ) (x : Refusal)
-      → ((g c (send_alert protected level description answered out)).result ≡ sent (Refused x) 0)
+      → ((g c (send_alert protected level description answered out)).result ≡ sent (Err x) 0)
       ↔ WhyAlert protected (sender_of protected c).state level description (length answered)
       (alert_number_of protected (sender_of protected c))
       (alert_code_of protected (sender_of protected c)) (length out) x
   pub goes : (c : Connection) (protected : Bool) (level description : ℕ) (answered out : List ℕ)
-      → ((g c (send_alert protected level description answered out)).result ≡ sent Done
+      → ((g c (send_alert protected level description answered out)).result ≡ sent (Ok tt)
       (9 + alert_code_of protected (sender_of protected c)))
       ↔ AlertGoes protected (sender_of protected c).state level description (length answered)
       (alert_number_of protected (sender_of protected c))

@@ -1,7 +1,7 @@
 -- 01, "Refusal numbers", of a datagram as a whole: "Receive: 16, 6, 1, then framing from the front (per record 5, 3,
 -- 2, 4), then one answer per record. 1 to 5 refuse the whole datagram and give the offset of the record at fault (0
 -- for 1)." Said over the bytes.
-use Rattle.std.specs.Prelude.{◌≡◌, ◌↔◌, ◌⊎◌, ◌≢◌, Bool, true, false, List, [], ℕ, zero, suc, ◌+◌, ◌-◌, ◌%◌, ◌≤◌, ◌<◌, length, get_or}
+use Rattle.std.specs.Prelude.{◌≡◌, ◌↔◌, ◌⊎◌, ◌≢◌, Bool, true, false, List, [], ℕ, zero, suc, ◌+◌, ◌-◌, ◌%◌, ◌≤◌, ◌<◌, length, get_or, Err, Ok}
 use Rattle.digest.specs.Pick.{pick}
 use Rattle.record.specs.Header.{bit}
 use Rattle.record.specs.Reader.{pair_at}
@@ -10,7 +10,7 @@ use Rattle.record.specs.declared.reader.Fault.TheVariants as F
 use Rattle.connection.specs.Receive.{slots_of}
 use Rattle.connection.specs.declared.answer.Slot.{Slot}
 use Rattle.connection.specs.declared.connection.Connection.{Connection}
-use Rattle.connection.specs.declared.receive.Taken.TheVariants as T
+use Rattle.connection.specs.declared.receive.Untaken.TheVariants as T
 use Rattle.connection.specs.declared.refusal.Refusal.{Refusal}
 use Rattle.connection.specs.declared.refusal.Refusal.TheVariants as X
 use Rattle.demands.specs.Runs.{receive, received, Gateway}
@@ -147,14 +147,14 @@ pub record SoundlyFramed (d : List ℕ) (n : ℕ) : Type 0 where
 pub record ExactlyReceive (g : Gateway) : Type 0 where
   -- 16 and 6, without an offset
   pub refused : (c : Connection) (d random out : List ℕ) (x : Refusal)
-      → ((g c (receive d random out)).result ≡ received (T.Refused x) (slots_of []) 0)
+      → ((g c (receive d random out)).result ≡ received (Err (T.Refused x)) (slots_of []) 0)
       ↔ WhyWhole (length random) (length out) x
   -- 1 to 5, with it
   pub misframed : (c : Connection) (d random out : List ℕ) (x : Refusal) (at : ℕ)
-      → ((g c (receive d random out)).result ≡ received (T.Misframed x at) (slots_of []) 0)
+      → ((g c (receive d random out)).result ≡ received (Err (T.Misframed x at)) (slots_of []) 0)
       ↔ (CallFits (length random) (length out) × WhyMisframed d x at)
   -- taken, with its n records
   pub taken : (c : Connection) (d random out : List ℕ) (n : ℕ)
       → ((answers : List Slot) × (written : ℕ) ×
-      ((g c (receive d random out)).result ≡ received (T.Records n) answers written))
+      ((g c (receive d random out)).result ≡ received (Ok n) answers written))
       ↔ (CallFits (length random) (length out) × SoundlyFramed d n)

@@ -1,12 +1,11 @@
 -- Demand 2 at the shipboard end: "A fatal alert accepted under its authentication code bars that connection's session from being
 -- resumed." 01: "Barred holds for this connection and all its starts."
-use Rattle.std.specs.Prelude.{◌≡◌, ◌≢◌, List, ℕ, replicate}
+use Rattle.std.specs.Prelude.{◌≡◌, ◌≢◌, List, ℕ, replicate, Some}
 use Rattle.record.specs.declared.header.Content.TheVariants as C
 use Rattle.record.specs.declared.reader.Record.{Record}
 use Rattle.message.specs.Alert.{alert_of}
 use Rattle.message.specs.declared.alert.Alert.{Alert}
 use Rattle.message.specs.declared.alert.Level.TheVariants as L
-use Rattle.message.specs.declared.alert.Reading.TheVariants as R
 use Rattle.unit.specs.declared.state.State.TheVariants.{Barred}
 use Rattle.unit.specs.declared.unit.Unit.{Unit as Ship}
 use Rattle.record.specs.declared.window.Window.{Window}
@@ -25,7 +24,7 @@ pub record FatalUnderCode (u : Ship) (e : Event) : Type 0 where
   pub new : New u d r c w
   pub alert : r.content ≡ C.Alert
   pub a : Alert
-  pub well_formed : alert_of c ≡ R.WellFormed a
+  pub well_formed : alert_of c ≡ Some a
   pub fatal : a.level ≡ L.Fatal
 
 -- barred, and the session's identifier, its secret, both randoms and what Finished is to hold are zeros: "required to forget any session

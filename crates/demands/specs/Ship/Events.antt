@@ -1,11 +1,10 @@
 -- A run of a unit, record by record. A call to receive that is not refused as a whole is its records, one after the other, as
 -- ashore. So a place in a run is a place between two events, also inside a datagram.
-use Rattle.std.specs.Prelude.{Bool, true, List, [], ◌∷◌, ◌++◌, map, ℕ, length, take, ltb}
+use Rattle.std.specs.Prelude.{Bool, true, List, [], ◌∷◌, ◌++◌, map, ℕ, length, take, ltb, Err, Ok, Result, ⊤}
+use Rattle.connection.specs.declared.refusal.Refusal.{Refusal}
 use Rattle.digest.specs.Pick.{pick}
 use Rattle.record.specs.Datagram.{Framing, framed, faulty, framing_of}
 use Rattle.record.specs.declared.reader.Record.{Record}
-use Rattle.connection.specs.declared.calls.Outcome.{Outcome}
-use Rattle.connection.specs.declared.calls.Outcome.TheVariants.{Done, Refused}
 use Rattle.unit.specs.Calls.{closed_of, started_of}
 use Rattle.unit.specs.Hello.{hello_sent, hello_output, again_sent, again_output}
 use Rattle.unit.specs.Judge.{judged_record}
@@ -84,9 +83,9 @@ pub data Happened : Type 0 where
   started : Happened
   refused : Happened
 
-abbrev pub if_done : Outcome → Happened → Happened
-if_done Done what = what
-if_done (Refused refusal) what = refused
+abbrev pub if_done : Result ⊤ Refusal → Happened → Happened
+if_done (Ok tt) what = what
+if_done (Err refusal) what = refused
 
 -- the bytes that a call wrote
 abbrev pub written_by : Sent → List ℕ → List ℕ

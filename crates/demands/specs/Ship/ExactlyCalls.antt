@@ -1,8 +1,7 @@
 -- The refusals of the unit's calls, each exactly when (02, P7; 01, "Refusal numbers"). A refusal that is not listed is never given.
-use Rattle.std.specs.Prelude.{◌≡◌, ◌↔◌, ◌⊎◌, ◌≢◌, Bool, true, false, List, [], ◌∷◌, ℕ, ◌+◌, ◌≤◌, ◌<◌, length}
+use Rattle.std.specs.Prelude.{◌≡◌, ◌↔◌, ◌⊎◌, ◌≢◌, Bool, true, false, List, [], ◌∷◌, ℕ, ◌+◌, ◌≤◌, ◌<◌, length, Err, Ok}
 use Rattle.digest.specs.Mac.{size_of}
 use Rattle.record.specs.Window.{Held}
-use Rattle.connection.specs.declared.calls.Outcome.TheVariants.{Done, Refused}
 use Rattle.connection.specs.declared.refusal.Refusal.{Refusal}
 use Rattle.connection.specs.declared.refusal.Refusal.TheVariants as X
 use Rattle.unit.specs.Calls.{fresh_of}
@@ -26,9 +25,9 @@ pub data WhyFresh (id secret width : ℕ) : Refusal → Type 0 where
 
 pub record ExactlyFresh : Type 0 where
   pub refused : (id secret : List ℕ) (width : ℕ) (x : Refusal)
-      → ((fresh_of id secret width).outcome ≡ Refused x) ↔ WhyFresh (length id) (length secret) width x
+      → ((fresh_of id secret width).outcome ≡ Err x) ↔ WhyFresh (length id) (length secret) width x
   pub goes : (id secret : List ℕ) (width : ℕ)
-      → ((fresh_of id secret width).outcome ≡ Done) ↔ ((length id ≡ 8) × (length secret ≡ 20) × Held width)
+      → ((fresh_of id secret width).outcome ≡ Ok tt) ↔ ((length id ≡ 8) × (length secret ≡ 20) × Held width)
 
 -- ---- hello: in Idle only (7, 8). Arguments: client random (16 bytes), MAC kinds in order (one or both of 2, 3, no repetition), refresh
 -- 0 to 255; else 16. Then 7, 8, 6.
@@ -52,10 +51,10 @@ pub data WhyHello (state : State) (random : ℕ) (macs : List ℕ) (refresh room
 -- of a unit whose session identifier has its 8 bytes
 pub record ExactlyHello (g : Shipboard) : Type 0 where
   pub refused : (u : Ship) → length u.id ≡ 8 → (random macs : List ℕ) (refresh : ℕ) (out : List ℕ) (x : Refusal)
-      → ((g u (hello random macs refresh out)).result ≡ sent (Refused x) 0)
+      → ((g u (hello random macs refresh out)).result ≡ sent (Err x) 0)
       ↔ WhyHello u.state (length random) macs refresh (length out) x
   pub goes : (u : Ship) → length u.id ≡ 8 → (random macs : List ℕ) (refresh : ℕ) (out : List ℕ)
-      → ((g u (hello random macs refresh out)).result ≡ sent Done (hello_size macs))
+      → ((g u (hello random macs refresh out)).result ≡ sent (Ok tt) (hello_size macs))
       ↔ (HelloFits (length random) macs refresh × (u.state ≡ Idle) × (hello_size macs ≤ length out))
 
 -- ---- again: Sent, Replied, Spec: the hello datagram; Opening: the flight; Idle and Open 8; Closed, Barred 7; then 6
@@ -81,9 +80,9 @@ pub data WhyAgain (state : State) (size room : ℕ) : Refusal → Type 0 where
 
 pub record ExactlyAgain (g : Shipboard) : Type 0 where
   pub refused : (u : Ship) (out : List ℕ) (x : Refusal)
-      → ((g u (again out)).result ≡ sent (Refused x) 0) ↔ WhyAgain u.state (length (again_bytes u u.state)) (length out) x
+      → ((g u (again out)).result ≡ sent (Err x) 0) ↔ WhyAgain u.state (length (again_bytes u u.state)) (length out) x
   pub goes : (u : Ship) (out : List ℕ)
-      → ((g u (again out)).result ≡ sent Done (length (again_bytes u u.state)))
+      → ((g u (again out)).result ≡ sent (Ok tt) (length (again_bytes u u.state)))
       ↔ (MayAgain u.state × (length (again_bytes u u.state) ≤ length out))
 
 -- ---- send data: "Send: 16, 7, 8, 15, 6" in Opening and Open: `size` bytes, our next protected number, the size of our code, the room
@@ -97,10 +96,10 @@ pub data WhyData (state : State) (size number code room : ℕ) : Refusal → Typ
 
 pub record ExactlyData (g : Shipboard) : Type 0 where
   pub refused : (u : Ship) (bytes out : List ℕ) (x : Refusal)
-      → ((g u (send_data bytes out)).result ≡ sent (Refused x) 0)
+      → ((g u (send_data bytes out)).result ≡ sent (Err x) 0)
       ↔ WhyData u.state (length bytes) u.protection.protected (size_of u.protection.keys.mac) (length out) x
   pub goes : (u : Ship) (bytes out : List ℕ)
-      → ((g u (send_data bytes out)).result ≡ sent Done (3 + length bytes + size_of u.protection.keys.mac))
+      → ((g u (send_data bytes out)).result ≡ sent (Ok tt) (3 + length bytes + size_of u.protection.keys.mac))
       ↔ (DataFits (length bytes) × Up u.state × (u.protection.protected ≤ 65535)
       × (3 + length bytes + size_of u.protection.keys.mac ≤ length out))
 
@@ -135,11 +134,11 @@ pub data WhyAlert (protected : Bool) (state : State) (level description lent num
 
 pub record ExactlyAlert (g : Shipboard) : Type 0 where
   pub refused : (u : Ship) (protected : Bool) (level description : ℕ) (answered out : List ℕ) (x : Refusal)
-      → ((g u (send_alert protected level description answered out)).result ≡ sent (Refused x) 0)
+      → ((g u (send_alert protected level description answered out)).result ≡ sent (Err x) 0)
       ↔ WhyAlert protected u.state level description (length answered) (alert_number_of protected u) (alert_code_of protected u)
       (length out) x
   pub goes : (u : Ship) (protected : Bool) (level description : ℕ) (answered out : List ℕ)
-      → ((g u (send_alert protected level description answered out)).result ≡ sent Done (9 + alert_code_of protected u))
+      → ((g u (send_alert protected level description answered out)).result ≡ sent (Ok tt) (9 + alert_code_of protected u))
       ↔ (AlertFits level description (length answered) × AlertMay protected u.state × (alert_number_of protected u ≤ 65535)
       × (9 + alert_code_of protected u ≤ length out))
 
@@ -149,13 +148,13 @@ pub data WhyClose (state : State) : Refusal → Type 0 where
   close_7 : state ≡ Barred → WhyClose state X.Ended
 
 pub record ExactlyClose (g : Shipboard) : Type 0 where
-  pub refused : (u : Ship) (x : Refusal) → ((g u close).result ≡ called (Refused x)) ↔ WhyClose u.state x
-  pub goes : (u : Ship) → ((g u close).result ≡ called Done) ↔ (u.state ≢ Barred)
+  pub refused : (u : Ship) (x : Refusal) → ((g u close).result ≡ called (Err x)) ↔ WhyClose u.state x
+  pub goes : (u : Ship) → ((g u close).result ≡ called (Ok tt)) ↔ (u.state ≢ Barred)
 
 pub data WhyStart (state : State) : Refusal → Type 0 where
   start_7 : state ≡ Barred → WhyStart state X.Ended
   start_8 : Down state ⊎ Up state → WhyStart state X.NotAllowed
 
 pub record ExactlyStart (g : Shipboard) : Type 0 where
-  pub refused : (u : Ship) (x : Refusal) → ((g u start).result ≡ called (Refused x)) ↔ WhyStart u.state x
-  pub goes : (u : Ship) → ((g u start).result ≡ called Done) ↔ (u.state ≡ Closed)
+  pub refused : (u : Ship) (x : Refusal) → ((g u start).result ≡ called (Err x)) ↔ WhyStart u.state x
+  pub goes : (u : Ship) → ((g u start).result ≡ called (Ok tt)) ↔ (u.state ≡ Closed)

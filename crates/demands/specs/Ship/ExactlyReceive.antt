@@ -1,10 +1,10 @@
 -- The refusals of a datagram at the shipboard end, and of its records, from the call down to the bytes (01: "Receive: 16, 6, 1, then
 -- framing from the front .., then one answer per record"). Here 16 has no place, 6 is for room under 128, and each record is answered in
 -- the state that the earlier ones left. Framing is said ashore, over the bytes.
-use Rattle.std.specs.Prelude.{◌≡◌, ◌↔◌, List, [], ℕ, ◌≤◌, ◌<◌, length, get_or, take}
+use Rattle.std.specs.Prelude.{◌≡◌, ◌↔◌, List, [], ℕ, ◌≤◌, ◌<◌, length, get_or, take, Err, Ok}
 use Rattle.record.specs.Datagram.{framed, framing_of}
 use Rattle.record.specs.declared.reader.Record.{Record}
-use Rattle.connection.specs.declared.receive.Taken.TheVariants as T
+use Rattle.connection.specs.declared.receive.Untaken.TheVariants as T
 use Rattle.connection.specs.declared.refusal.Refusal.{Refusal}
 use Rattle.connection.specs.declared.refusal.Refusal.TheVariants as X
 use Rattle.unit.specs.Answer.{slot}
@@ -27,13 +27,13 @@ pub data WhyWhole (room : ℕ) : Refusal → Type 0 where
 
 pub record ExactlyReceive (g : Shipboard) : Type 0 where
   pub refused : (u : Ship) (d out : List ℕ) (x : Refusal)
-      → ((g u (receive d out)).result ≡ received (T.Refused x) (slots_of []) 0) ↔ WhyWhole (length out) x
+      → ((g u (receive d out)).result ≡ received (Err (T.Refused x)) (slots_of []) 0) ↔ WhyWhole (length out) x
   -- 1 to 5, with it
   pub misframed : (u : Ship) (d out : List ℕ) (x : Refusal) (at : ℕ)
-      → ((g u (receive d out)).result ≡ received (T.Misframed x at) (slots_of []) 0) ↔ ((128 ≤ length out) × WhyMisframed d x at)
+      → ((g u (receive d out)).result ≡ received (Err (T.Misframed x at)) (slots_of []) 0) ↔ ((128 ≤ length out) × WhyMisframed d x at)
   -- taken, with its n records
   pub taken : (u : Ship) (d out : List ℕ) (n : ℕ)
-      → ((answers : List Slot) × (written : ℕ) × ((g u (receive d out)).result ≡ received (T.Records n) answers written))
+      → ((answers : List Slot) × (written : ℕ) × ((g u (receive d out)).result ≡ received (Ok n) answers written))
       ↔ ((128 ≤ length out) × SoundlyFramed d n)
 
 -- answer i of a receive

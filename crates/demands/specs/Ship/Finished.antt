@@ -1,14 +1,12 @@
 -- Demand 2 at the shipboard end: data is handed out only after the shore's Finished was verified in that handshake (02, P7: "verify our
 -- Finished").
-use Rattle.std.specs.Prelude.{◌≡◌, false, List, [], ◌∷◌, ◌++◌, ℕ}
+use Rattle.std.specs.Prelude.{◌≡◌, false, List, [], ◌∷◌, ◌++◌, ℕ, Ok}
 use Rattle.record.specs.declared.header.Content.TheVariants as C
 use Rattle.record.specs.declared.reader.Record.{Record}
 use Rattle.message.specs.Agreement.{agreement_of}
 use Rattle.message.specs.Finished.{server_verify, judged_of}
 use Rattle.message.specs.Offer.{offer_hello}
 use Rattle.message.specs.declared.acceptance.Plan.{Plan}
-use Rattle.message.specs.declared.agreement.Agreement.TheVariants.{Agreed}
-use Rattle.message.specs.declared.finished.Verified.TheVariants.{Right}
 use Rattle.message.specs.declared.offer.Offer.{Offer}
 use Rattle.unit.specs.Answer.{as_ashore}
 use Rattle.unit.specs.Judge.{judged_record}
@@ -47,11 +45,11 @@ pub record Verified (id secret : List ℕ) (past : List Happened) : Type 0 where
   pub m : List ℕ
   pub replied : last_read before ≡ read random offer m
   pub plan : Plan
-  pub agreed : agreement_of m id offer ≡ Agreed plan
+  pub agreed : agreement_of m id offer ≡ Ok plan
   pub handshake : r.content ≡ C.Handshake
   pub c : List ℕ
   pub coded : Protected (keys_for secret random m plan) d r c
-  pub finished : judged_of c (server_verify secret (offer_hello random id offer) m) ≡ Right
+  pub finished : judged_of c (server_verify secret (offer_hello random id offer) m) ≡ Ok tt
 
 unfoldable pub OnlyAfterFinished : Type 0
 OnlyAfterFinished =

@@ -1,12 +1,11 @@
 -- What a history of the unit says: the last hello, the last ServerHello that answered it, and which numbers were accepted. It is read off
 -- what happened, never off what the unit keeps. Histories have the latest first.
-use Rattle.std.specs.Prelude.{Bool, true, false, List, [], ◌∷◌, ℕ}
+use Rattle.std.specs.Prelude.{Bool, true, false, List, [], ◌∷◌, ℕ, None, Option, Some}
+use Rattle.message.specs.declared.offer.Kinds.{Kinds}
 use Rattle.digest.specs.Pick.{pick}
 use Rattle.record.specs.declared.keys.Keys.{Keys}
 use Rattle.message.specs.Offer.{kinds_named}
 use Rattle.message.specs.declared.acceptance.Plan.{Plan}
-use Rattle.message.specs.declared.offer.Named.{Named}
-use Rattle.message.specs.declared.offer.Named.TheVariants.{Are, Others}
 use Rattle.message.specs.declared.offer.Offer.{Offer}
 use Rattle.connection.specs.Judge.{fragment_of}
 use Rattle.unit.specs.Agree.{server_random}
@@ -54,9 +53,9 @@ marks (Refused refusal) = marks_ashore (as_ashore (Refused refusal))
 
 -- ---- hellos
 
-abbrev pub offer_named : Named → ℕ → Offer
-offer_named (Are kinds) refresh = offer_of kinds refresh
-offer_named Others refresh = nothing_offered
+abbrev pub offer_named : Option Kinds → ℕ → Offer
+offer_named (Some kinds) refresh = offer_of kinds refresh
+offer_named None refresh = nothing_offered
 
 -- the last hello: its random and its offer
 pub data Said : Type 0 where

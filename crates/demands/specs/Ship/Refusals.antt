@@ -1,11 +1,12 @@
 -- Demand 1 at the shipboard end: "A refused call writes nothing into the output we lend, and the connection is as before, except where
 -- the list names the change": "12 under protection and 17 mark the number, and 17 also closes".
-use Rattle.std.specs.Prelude.{◌≡◌, Bool, List, [], ℕ, eqb}
+use Rattle.std.specs.Prelude.{◌≡◌, Bool, List, [], ℕ, eqb, Err, Ok}
+use Rattle.record.specs.declared.window.NotNew.{NotNew}
+use Rattle.record.specs.declared.window.Window.{Window}
 use Rattle.digest.specs.Pick.{pick}
 use Rattle.record.specs.Window.{accept_of}
 use Rattle.record.specs.declared.reader.Record.{Record}
-use Rattle.record.specs.declared.window.Acceptance.{Acceptance}
-use Rattle.record.specs.declared.window.Acceptance.TheVariants as A
+use Rattle.record.specs.declared.window.NotNew.TheVariants as A
 use Rattle.connection.specs.Refusal.{refusal_number}
 use Rattle.connection.specs.declared.refusal.Refusal.{Refusal}
 use Rattle.unit.specs.Judge.{judged_record}
@@ -44,10 +45,10 @@ RefusedCallChangesNothing g =
     → ((g u call).unit ≡ u) × ((g u call).output ≡ lent_by call) × (written_by (g u call).result ≡ 0)
 
 -- the unit with the mark of a number, where it is new
-abbrev pub marked_as : Ship → Acceptance → Ship
-marked_as u (A.New w arrived) = with_window u w
-marked_as u A.TooOld = u
-marked_as u A.Repeated = u
+abbrev pub marked_as : Ship → Result (Window × ℕ) NotNew → Ship
+marked_as u (Ok (w, arrived)) = with_window u w
+marked_as u (Err A.TooOld) = u
+marked_as u (Err A.Repeated) = u
 
 abbrev pub marked : Ship → ℕ → Ship
 marked u s = marked_as u (accept_of u.protection.window s)

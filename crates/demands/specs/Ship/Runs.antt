@@ -1,8 +1,8 @@
 -- Runs of the unit's calls. A step is what one call gives, by the definitions that the contracts of the unit cite; a run is a list of
 -- calls, each on the unit that the one before left.
-use Rattle.std.specs.Prelude.{Bool, List, [], ◌∷◌, ℕ, length}
-use Rattle.connection.specs.declared.calls.Outcome.{Outcome}
-use Rattle.connection.specs.declared.receive.Taken.{Taken}
+use Rattle.std.specs.Prelude.{Bool, List, [], ◌∷◌, ℕ, length, Result, ⊤}
+use Rattle.connection.specs.declared.receive.Untaken.{Untaken}
+use Rattle.connection.specs.declared.refusal.Refusal.{Refusal}
 use Rattle.unit.specs.Unit.{new_unit}
 use Rattle.unit.specs.Calls.{closed_of, started_of}
 use Rattle.unit.specs.Hello.{hello_sent, hello_output, again_sent, again_output}
@@ -28,9 +28,9 @@ pub data Call : Type 0 where
 
 -- what comes back
 pub data Result : Type 0 where
-  received : (taken : Taken) (answers : List Slot) (written : ℕ) → Result
-  sent : (outcome : Outcome) (written : ℕ) → Result
-  called : (outcome : Outcome) → Result
+  received : (taken : Result ℕ Untaken) (answers : List Slot) (written : ℕ) → Result
+  sent : (outcome : Result ⊤ Refusal) (written : ℕ) → Result
+  called : (outcome : Result ⊤ Refusal) → Result
 
 -- what comes back, what the lent output then holds, and the unit
 pub record Step : Type 0 where

@@ -1,6 +1,6 @@
 -- What a successful call writes at the shipboard end. 01: "A success writes the counted bytes at the front and no others." 02, P7: "a
 -- call gives the same datagram again".
-use Rattle.std.specs.Prelude.{◌≡◌, Bool, true, false, List, ℕ, ◌≤◌, length, take, drop}
+use Rattle.std.specs.Prelude.{◌≡◌, Bool, true, false, List, ℕ, ◌≤◌, length, take, drop, Err, Ok, Some}
 use Rattle.digest.specs.Bytes.{laid_over}
 use Rattle.digest.specs.Hmac.{hmac}
 use Rattle.digest.specs.Mac.{size_of}
@@ -13,17 +13,12 @@ use Rattle.record.specs.declared.header.Content.TheVariants as C
 use Rattle.record.specs.declared.keys.Keys.{Keys}
 use Rattle.record.specs.declared.keys.Sense.TheVariants.{FromUnit}
 use Rattle.record.specs.declared.reader.Record.{Record}
-use Rattle.record.specs.declared.reader.Reading.TheVariants as Q
 use Rattle.message.specs.Alert.{level_of, sorted_of}
 use Rattle.message.specs.Offer.{kinds_named, offer_hello}
 use Rattle.message.specs.declared.alert.Level.{Level}
 use Rattle.message.specs.declared.alert.Description.{Description}
-use Rattle.message.specs.declared.alert.Graded.TheVariants as G
-use Rattle.message.specs.declared.alert.Sorted.TheVariants as D
 use Rattle.message.specs.declared.offer.Kinds.{Kinds}
-use Rattle.message.specs.declared.offer.Named.TheVariants.{Are}
 use Rattle.connection.specs.Send.{alert_body}
-use Rattle.connection.specs.declared.calls.Outcome.TheVariants.{Done, Refused}
 use Rattle.unit.specs.Hello.{hello_said, offer_of}
 use Rattle.unit.specs.Unit.{flight_of}
 use Rattle.unit.specs.declared.answer.Answer.TheVariants.{Open}
@@ -38,13 +33,13 @@ use Rattle.demands.specs.Ship.ExactlyReceive.{answer_given}
 -- a call that is done
 abbrev pub IsDone : Result → Type 0
 IsDone (received taken answers written) = ⊥
-IsDone (sent Done written) = Unit
-IsDone (sent (Refused x) written) = ⊥
+IsDone (sent (Ok tt) written) = Unit
+IsDone (sent (Err x) written) = ⊥
 IsDone (called outcome) = ⊥
 
 -- done: these bytes at the front of the output and no others, and this unit
 abbrev pub wrote_step : List ℕ → List ℕ → Ship → Step
-wrote_step out bytes u = record { result = sent Done (length bytes); output = laid_over out 0 bytes; unit = u }
+wrote_step out bytes u = record { result = sent (Ok tt) (length bytes); output = laid_over out 0 bytes; unit = u }
 
 -- what is said again: the hello's datagram in the middle of a handshake, the flight in Opening
 pub record AgainGives (g : Shipboard) : Type 0 where
@@ -57,7 +52,7 @@ pub record AgainGives (g : Shipboard) : Type 0 where
 -- said again next.
 pub record HelloWrote (g : Shipboard) (u : Ship) (random macs : List ℕ) (refresh : ℕ) (out : List ℕ) : Type 0 where
   pub kinds : Kinds
-  pub named : kinds_named macs ≡ Are kinds
+  pub named : kinds_named macs ≡ Some kinds
   pub bytes : List ℕ
   pub bytes_are : bytes ≡ record_of false false C.Handshake 0 (offer_hello random u.id (offer_of kinds refresh))
   pub left : Ship
@@ -78,7 +73,7 @@ NothingWithoutOpen g =
 -- the bytes are one record without a length that reads back: its number, its content, and a right code under our key for the number
 pub record OurRecord (k : Keys) (content : Content) (s : ℕ) (body bytes : List ℕ) : Type 0 where
   pub r : Record
-  pub reads : read_of bytes ≡ Q.Sound r
+  pub reads : read_of bytes ≡ Ok r
   pub protection : r.protected ≡ true
   pub content_is : r.content ≡ content
   pub number_is : r.number ≡ s
@@ -105,5 +100,5 @@ unfoldable pub AlertWritten : Shipboard → Type 0
 AlertWritten g =
     (u : Ship) (protected : Bool) (level description : ℕ) (answered out : List ℕ)
     → IsDone (g u (send_alert protected level description answered out)).result
-    → (l : Level) × (k : Description) × (level_of level ≡ G.Is l) × (sorted_of description ≡ D.Assigned k)
+    → (l : Level) × (k : Description) × (level_of level ≡ Some l) × (sorted_of description ≡ Some k)
     × Lays (g u (send_alert protected level description answered out)) out (AlertIs u protected (alert_body l k answered))

@@ -3,8 +3,8 @@ use mathlib.Core.Path.{◌∙◌, ap, sym}
 use Rattle.connection.specs.Calls.{leaving, started_in}
 use mathlib.Core.Path.{◌∙◌, ap}
 use Rattle.connection.specs.Connection.{alone}
-use Rattle.connection.specs.declared.calls.Outcome.TheVariants.{Done}
 use Rattle.connection.proofs.calls.start.Goals as goal
+use Rattle.std.specs.Prelude.{Ok}
 
 pub returns-in-Barred : goal.returns-in-Barred
 returns-in-Barred c = c.leave.ensures ∙ sym (ap (started_in c.args.c) c.in-Barred.is)
@@ -22,4 +22,4 @@ pub returns-in-Open : goal.returns-in-Open
 returns-in-Open c = c.leave-in-Open.ensures ∙ sym (ap (started_in c.args.c) c.in-Open.is)
 
 pub returns-in-Closed : goal.returns-in-Closed
-returns-in-Closed c = rw c.in-Closed.is (c.leave-in-Closed.ensures ∙ ap (leaving Done) (c.alone.ensures ∙ ap alone c.reopened.ensures))
+returns-in-Closed c = rw c.in-Closed.is (c.leave-in-Closed.ensures ∙ ap (leaving (Ok tt)) (c.alone.ensures ∙ ap alone c.reopened.ensures))

@@ -2,9 +2,9 @@
 -- nothing.
 use native.Mathlib.Omega.{arith}
 use mathlib.Core.Path.{◌∙◌, ap}
-use Rattle.message.specs.declared.hello.Reading.TheVariants.{WellFormed}
 use Rattle.message.proofs.Hellos.{missing, there, whole, left_over}
 use Rattle.message.proofs.hello.told.Goals as goal
+use Rattle.std.specs.Prelude.{Ok}
 
 pub returns-then-version-eq0 : goal.returns-then-version-eq0
 returns-then-version-eq0 c = missing _ _ _ c.if-version-eq0.true
@@ -84,7 +84,7 @@ returns-then-refresh-size c = let a = c.args in
 
 pub returns : goal.returns
 returns c = let b = c in
-    ap WellFormed c.placed.ensures
+    ap Ok c.placed.ensures
     ∙ there _ _ _ _ c.if-version-eq0.false
     (there _ _ _ _ c.if-random-eq0.false
     (there _ _ _ _ c.if-session-eq0.false

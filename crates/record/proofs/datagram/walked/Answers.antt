@@ -6,10 +6,10 @@ use lib.ListN.{drop, length-drop}
 use native.Mathlib.Omega.{arith}
 use Rattle.record.specs.Datagram.{answered}
 use Rattle.record.specs.Reader.{read_of}
-use Rattle.record.specs.declared.reader.Reading.TheVariants.{Sound}
 use Rattle.record.proofs.Standing.{takes}
 use Rattle.record.proofs.Walking.{begun, ninth, fault, go_on, done, found, no_bytes, too_long, sized, part_on}
 use Rattle.record.proofs.datagram.walked.Goals as goal
+use Rattle.std.specs.Prelude.{Ok}
 
 pub returns-then-d-eq0 : goal.returns-then-d-eq0
 returns-then-d-eq0 c = c.refused.ensures ∙ ap answered (sym (no_bytes c.args.d.now c.if-d-eq0.true))
@@ -25,18 +25,18 @@ returns-then-count-eq8 c = let d : List ℕ = c.args.d.now in
     c.refused-then-count-eq8.ensures
     ∙ ap answered (sym (sized d c.if-d-eq0.false c.if-d-gt1400.false ∙ ninth d _ _ _ c.loop-at.invariant c.loop-at-test.true c.if-count-eq8.true))
 
-pub returns-in-Refused : goal.returns-in-Refused
-returns-in-Refused c = let d : List ℕ = c.args.d.now in
+pub returns-in-Err : goal.returns-in-Err
+returns-in-Err c = let d : List ℕ = c.args.d.now in
     let at : ℕ = c.loop-at.at in
-    let read = ap read_of (sym (part_on d at)) ∙ sym c.read.ensures ∙ c.in-Refused.is in
-    c.refused-in-Refused.ensures
+    let read = ap read_of (sym (part_on d at)) ∙ sym c.read.ensures ∙ c.in-Err.is in
+    c.refused-in-Err.ensures
     ∙ ap answered (sym (sized d c.if-d-eq0.false c.if-d-gt1400.false ∙ fault d _ _ at c.loop-at.invariant c.loop-at-test.true c.if-count-eq8.false _ read))
 
 -- the record that was read, at the part where it begins
-sound-read : (c : goal.After-struct_known-1) → read_of (drop c.loop-at.at c.args.d.now) ≡ Sound c.in-Sound.found
+sound-read : (c : goal.After-struct_known-1) → read_of (drop c.loop-at.at c.args.d.now) ≡ Ok c.in-Ok.found
 sound-read c =
     let d : List ℕ = c.args.d.now in
-    ap read_of (sym (part_on d c.loop-at.at)) ∙ sym c.read.ensures ∙ c.in-Sound.is
+    ap read_of (sym (part_on d c.loop-at.at)) ∙ sym c.read.ensures ∙ c.in-Ok.is
 
 pub overflow_add-at : goal.overflow_add-at
 overflow_add-at c = omega (arith, takes _ _ (sound-read c), length-drop c.loop-at.at c.args.d.now, c.loop-at-test.true, c.well_formed)

@@ -1,8 +1,8 @@
 -- `calls::start`: by the state.
 use mathlib.Core.Path.{sym, ◌∙◌, ap}
 use Rattle.unit.specs.Calls.{leaving, started_in}
-use Rattle.connection.specs.declared.calls.Outcome.TheVariants.{Done}
 use Rattle.unit.proofs.calls.start.Goals as goal
+use Rattle.std.specs.Prelude.{Ok}
 
 pub returns-in-Barred : goal.returns-in-Barred
 returns-in-Barred c = c.leave.ensures ∙ sym (ap (started_in c.args.u) c.in-Barred.is)
@@ -26,4 +26,4 @@ pub returns-in-Open : goal.returns-in-Open
 returns-in-Open c = c.leave-in-Open.ensures ∙ sym (ap (started_in c.args.u) c.in-Open.is)
 
 pub returns-in-Closed : goal.returns-in-Closed
-returns-in-Closed c = rw c.in-Closed.is (c.leave-in-Closed.ensures ∙ ap (leaving Done) c.reopened.ensures)
+returns-in-Closed c = rw c.in-Closed.is (c.leave-in-Closed.ensures ∙ ap (leaving (Ok tt)) c.reopened.ensures)

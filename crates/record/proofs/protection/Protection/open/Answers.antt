@@ -6,9 +6,10 @@ use lib.ListN.{length}
 use borrow.Author.Tests.{not-true, not-false}
 use Rattle.digest.proofs.Picks.{picks}
 use Rattle.record.specs.Protection.{opening}
-use Rattle.record.specs.declared.protection.Opened.TheVariants as O
+use Rattle.record.specs.declared.protection.Unopened.TheVariants as O
 use Rattle.record.proofs.Protecting.{forged_as, opened_as_lem, code_fits}
 use Rattle.record.proofs.protection.Protection.open.Goals as goal
+use Rattle.std.specs.Prelude.{Ok}
 
 pub returns-then-not-genuine : goal.returns-then-not-genuine
 returns-then-not-genuine c = let a = c.args in
@@ -34,5 +35,5 @@ pub returns-in-New : goal.returns-in-New
 returns-in-New c = let a = c.args in
     let right = c.genuine.ensures.meaning _ c.key-key.ensures in
     let size = c.size.ensures.exact in
-    (λ i. opening (O.New (length a.fragment.now - size i)) (c.with_window.ensures i))
+    (λ i. opening (Ok (length a.fragment.now - size i)) (c.with_window.ensures i))
     ∙ opened_as_lem a.self a.sense a.number a.byte a.fragment.now _ right (search (picks, not-false)) _ (sym c.in-New.is ∙ c.accept.ensures.exact)
