@@ -32,8 +32,8 @@ use Rattle.record.proofs.keys.Keys.key as keys-keys-key
 use Rattle.record.specs.contracts.keys.Keys.key as keys-keys-key-contract
 use Rattle.record.proofs.keys.key_number as keys-key-number
 use Rattle.record.specs.contracts.keys.key_number as keys-key-number-contract
-use Rattle.record.proofs.protection.Wrote.size as protection-wrote-size
-use Rattle.record.specs.contracts.protection.Wrote.size as protection-wrote-size-contract
+use Rattle.record.proofs.protection.Writing.size as protection-writing-size
+use Rattle.record.specs.contracts.protection.Writing.size as protection-writing-size-contract
 use Rattle.record.proofs.protection.Protection.open as protection-protection-open
 use Rattle.record.specs.contracts.protection.Protection.open as protection-protection-open-contract
 use Rattle.record.proofs.protection.Protection.write as protection-protection-write
@@ -137,8 +137,8 @@ protection_protection_write_one κs a x y s u e f =
 pub protection_protection_with_window_one : OneOutcome protection-protection-with-window-contract.ended protection-protection-with-window.Reads.Learnt
 protection_protection_with_window_one κs a x y s u e f = (e ∙ sym f, refl)
 
-pub protection_wrote_size_one : OneOutcome protection-wrote-size-contract.ended protection-wrote-size.Reads.Learnt
-protection_wrote_size_one κs a x y s u e f = (e ∙ sym f, refl)
+pub protection_writing_size_one : OneOutcome protection-writing-size-contract.ended protection-writing-size.Reads.Learnt
+protection_writing_size_one κs a x y s u e f = (e ∙ sym f, refl)
 
 pub mask_mask_one : OneOutcome mask-mask-contract.ended mask-mask.Reads.Learnt
 mask_mask_one κs a x y s u e f = (refl, ap (λ w. (w, (tt, tt))) (e ∙ sym f))

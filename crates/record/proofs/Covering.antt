@@ -8,7 +8,7 @@ use Prim.Native.Nat.{ℕ, zero, suc, ◌+◌, ◌-◌, ◌≤◌, ◌<◌}
 use native.Mathlib.Omega.{arith}
 use lib.ListN.{length, get_or, drop, replicate, length-append, length-drop, length-replicate, get_or-append}
 use lib.Seq.{drop-drop}
-use lib.Dec.{eqb, ltb, lit≤}
+use lib.Dec.{eqb, ltb}
 use borrow.Author.Tests.{eqb-true, eqb-false, ltb-false}
 use Rattle.digest.specs.Pick.{pick}
 use Rattle.record.specs.Reader.{read_of}
@@ -134,9 +134,9 @@ walkable d w = told (framing_of d) refl
         let few = (covers d rs q).4 in
         let is : w ≡ found_all rs = cc in
         subst (λ (x : Walk). Walkable d x.count x.records) (sym is) (
-          record {
-            few = few;
-            eight = found_eight rs few;
-            each = λ i h. subst (Lies d) (sym (found_at rs i h)) (lies_at rs i d 0 (omega arith) (covers d rs q).0 h);
-          })
+        record {
+          few = few;
+          eight = found_eight rs few;
+          each = λ i h. subst (Lies d) (sym (found_at rs i h)) (lies_at rs i d 0 (omega arith) (covers d rs q).0 h);
+        })
     told (faulty f at) q e = let z : ◌≡◌ {A = ℕ} 0 1 = cc in absurd (omega arith)

@@ -397,7 +397,7 @@ module _ (w : ℕ) (h : List ℕ) (s : ℕ) where
   new_means v k e =
       which (λ l. let z : ◌≡◌ {A = ℕ} 0 1 = cc (old_when l) in absurd (omega arith))
       (λ l a. let z : ◌≡◌ {A = ℕ} 0 1 = cc (repeated_when l a) in absurd (omega arith))
-      (λ l a. (l, a, cc (new_when l a), cc (new_when l a)))
+      (λ l a. let is : ◌≡◌ {A = Window × ℕ} (v, k) (window_of w (s ∷ h), arrived_of w (s ∷ h)) = cc (new_when l a) in (l, a, ap (λ x. x.0) is, ap (λ x. x.1) is))
 
 -- below s + w the highest number is, exactly if every number accepted is
 pub all_below : (w : ℕ) (h : List ℕ) (s : ℕ) → highest_of h < s + w → (n : ℕ) → accepted h n ≡ true → n < s + w

@@ -39,7 +39,7 @@ passed_yes : (b : Bool) (f : Fault) (y : Result Record Fault) (r : Record) → p
 passed_yes true f y r e = (refl, e)
 passed_yes false f y r e = let z : ◌≡◌ {A = ℕ} 0 1 = cc in absurd (omega arith)
 
-inner : (a b : Record) → Ok a ≡ Ok b → a ≡ b
+inner : (a b : Record) → ◌≡◌ {A = Result Record Fault} (Ok a) (Ok b) → a ≡ b
 inner a b e = cc
 
 -- the record that `framed_of` makes

@@ -16,7 +16,8 @@ use Rattle.record.specs.declared.window.Window.{Window}
 use Rattle.record.proofs.Histories.{decide, held_is, held_some}
 use Rattle.record.proofs.Marks.{lowest_set, mark_added}
 use Rattle.record.proofs.Answers.{fresh_when, newer_when, old_when, repeated_when, older_when}
-use Rattle.std.specs.Prelude.{Ok}
+use Rattle.std.specs.Prelude.{Result, Ok}
+use Rattle.record.specs.declared.window.NotNew.{NotNew}
 
 eqb-false : (a b : ℕ) → eqb a b ≡ false → a ≡ b → ⊥
 eqb-false a b e f = let z : ◌≡◌ {A = ℕ} 0 1 = cc (sym (eq-eqb a b f) ∙ e) in absurd (omega arith)
@@ -58,9 +59,13 @@ record Left (w n m s : ℕ) (v : Window) : Type 0 where
   pub window : v ≡ window_at w (max n s) (marks_at (max n s) n m s)
   pub some : 0 < v.marks
 
+-- the window of a number that is new
+window_in : {v x : Window} {k j : ℕ} → ◌≡◌ {A = Result (Window × ℕ) NotNew} (Ok (v, k)) (Ok (x, j)) → v ≡ x
+window_in {v} {x} {k} {j} e = let is : ◌≡◌ {A = Window × ℕ} (v, k) (x, j) = cc in ap (λ y. y.0) is
+
 left_by : (w n m s h x k : ℕ) (v : Window) → x ≡ marks_at h n m s % 2 ^ w → h ≡ max n s → 0 < x → accept_by w n m s ≡ arrived_at w h x → accept_by w n m s ≡ Ok (v, k) → Left w n m s v
 left_by w n m s h x k v marks top some e f =
-    let is : v ≡ record { width = w; highest = h; marks = x } = cc (sym f ∙ e) in
+    let is : v ≡ record { width = w; highest = h; marks = x } = window_in (sym f ∙ e) in
     record {
       window = is ∙ ap (λ (y : ℕ). record { width = w; highest = h; marks = y }) marks ∙ ap (λ (y : ℕ). window_at w y (marks_at y n m s)) top;
       some = rw (ap (λ (y : Window). y.marks) is) some;
@@ -148,7 +153,7 @@ both w n m a b i j v x held z small e f =
 -- where no mark counts, the first number is as if it had been there
 both_fresh : (w n m a b i j : ℕ) (v x : Window) → Held w → m ≡ 0 → accept_by w n m a ≡ Ok (v, i) → accept_of v b ≡ Ok (x, j) → x ≡ window_at w (max a b) (1 * 2 ^ (max a b - a) + 2 ^ (max a b - b))
 both_fresh w n m a b i j v x held z e f =
-    let is : v ≡ record { width = w; highest = a; marks = 1 } = cc (sym e ∙ fresh_when w n m a z) in
+    let is : v ≡ record { width = w; highest = a; marks = 1 } = window_in (sym e ∙ fresh_when w n m a z) in
     let one : 1 % 2 ^ w ≡ 1 = mod-eq_of_lt (one_lt w (held_some w held)) in
     let v-is : v ≡ window_at w a 1 = is ∙ ap (λ (y : ℕ). record { width = w; highest = a; marks = y }) (sym one) in
     second w a 1 b j v x held v-is (rw (ap (λ (y : Window). y.marks) is) (lit≤ tt)) f

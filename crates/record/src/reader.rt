@@ -97,7 +97,14 @@ fn size_of(part: &[u8], kind: Kind) -> usize
 }
 
 // The record whose fragment has `size` bytes, if there are any and as many are left.
-fn framed(byte: u8, kind: Kind, number: u16, head: usize, size: usize, left: usize) -> Result<Record, Fault>
+fn framed(
+    byte: u8,
+    kind: Kind,
+    number: u16,
+    head: usize,
+    size: usize,
+    left: usize,
+) -> Result<Record, Fault>
     requires { (head ≤ 5) × (left < 2 ^ 63) }
     ensures { result ≡ framed_of byte kind number head size left }
 {

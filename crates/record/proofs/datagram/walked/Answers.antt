@@ -51,4 +51,4 @@ loop-at-preserved c = rw c.placed-next.ensures
 pub returns : goal.returns
 returns c = let d : List ℕ = c.args.d.now in
     let w = c.loop-at.invariant in
-    sym (found d _ _ _ w) ∙ ap answered (sym (sized d c.if-d-eq0.false c.if-d-gt1400.false ∙ done d _ _ _ w c.loop-at-test.false))
+    ap Ok (sym (found d _ _ _ w)) ∙ ap answered (sym (sized d c.if-d-eq0.false c.if-d-gt1400.false ∙ done d _ _ _ w c.loop-at-test.false))

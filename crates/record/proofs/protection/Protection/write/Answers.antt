@@ -2,7 +2,6 @@
 use mathlib.Core.Path.{ap, ◌∙◌}
 use native.Mathlib.Omega.{arith}
 use Rattle.record.specs.Protection.{writing}
-use Rattle.record.specs.declared.protection.Unwritten.TheVariants as W
 use Rattle.record.proofs.Protecting.{spent_as, no_room_as, wrote_as}
 use Rattle.record.proofs.protection.Protection.write.Goals as goal
 use Rattle.std.specs.Prelude.{Ok}
