@@ -1,9 +1,9 @@
 // The refusals of 01, each under a name of its own. 18 is not given any more (02, "A unit that rebooted"); the number stays
 // reserved.
 ghost use Rattle.std.specs.Prelude.{◌≡◌};
-ghost use Rattle.connection.specs.Refusal.{refusal_number, unopened_as};
+ghost use Rattle.connection.specs.Refusal.{refusal_number, unopened_as, unwritten_as};
 
-use record::protection::Unopened;
+use record::protection::{Unopened, Unwritten};
 use record::reader::Fault;
 
 #[derive(Clone, Copy)]
@@ -66,6 +66,18 @@ impl From<Unopened> for Refusal {
             Unopened::Forged => Refusal::Forged,
             Unopened::TooOld => Refusal::TooOld,
             Unopened::Repeated => Refusal::Repeated,
+        }
+    }
+}
+
+// 15 and 6: a protected record that is not written.
+impl From<Unwritten> for Refusal {
+    ghost from_gives = { λ why refusal. refusal ≡ unwritten_as why };
+
+    fn from(why: Unwritten) -> Refusal {
+        match why {
+            Unwritten::Spent => Refusal::Spent,
+            Unwritten::NoRoom => Refusal::Room,
         }
     }
 }
