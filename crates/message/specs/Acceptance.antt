@@ -1,12 +1,10 @@
 -- Whether a ClientHello is acceptable (01, Handshake): "it is acceptable if it has version 1, the planted session
 -- identifier, a pair of null cipher with SHA_80 or SHA (the first such pair is chosen), null compression and explicit
 -- numbering".
-use Rattle.std.specs.Prelude.{List, [], ◌∷◌, Bool, true, false, ℕ, eqb}
+use Rattle.std.specs.Prelude.{List, [], ◌∷◌, Bool, true, false, ℕ, eqb, Option, Some, None}
 use Rattle.digest.specs.Pick.{pick}
 use Rattle.digest.specs.Mac.{listed_as, same_bytes}
 use Rattle.digest.specs.declared.mac.Mac.{Mac}
-use Rattle.digest.specs.declared.mac.Listed.{Listed}
-use Rattle.digest.specs.declared.mac.Listed.TheVariants.{Is, Other}
 use Rattle.message.specs.Hello.{read_of}
 use Rattle.message.specs.Values.{Values, values_at}
 use Rattle.message.specs.declared.hello.Reading.{Reading}
@@ -37,12 +35,12 @@ has_null (method ∷ rest) = pick (eqb method 0) true (has_null rest)
 abbrev pub planned : Mac → ℕ → Plan
 planned mac refresh = record { mac = mac; refresh = refresh; key = 0 }
 
-abbrev pub paired : Listed → List ℕ → ℕ → ℕ → Acceptance
-paired (Is mac) methods numbering refresh =
+abbrev pub paired : Option Mac → List ℕ → ℕ → ℕ → Acceptance
+paired (Some mac) methods numbering refresh =
     pick (has_null methods)
     (pick (eqb numbering 2) (Accepted (planned mac refresh)) (Unacceptable Numbering))
     (Unacceptable Compression)
-paired Other methods numbering refresh = Unacceptable CipherSuite
+paired None methods numbering refresh = Unacceptable CipherSuite
 
 -- the conditions in their order
 unfoldable pub accepted_of : ℕ → List ℕ → List ℕ → List ℕ → ℕ → ℕ → List ℕ → Acceptance

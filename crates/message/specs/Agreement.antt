@@ -1,11 +1,10 @@
 -- Whether a ServerHello answers the offer (02, P7: "read the reply"; 002 10.5.1.3): version 1, the session named, client key
 -- number 0, null cipher and an offered kind, null compression, explicit numbering, and a key refresh "equal to what the client
 -- suggested or less", which is then used.
-use Rattle.std.specs.Prelude.{List, ℕ, eqb, ltb}
+use Rattle.std.specs.Prelude.{List, ℕ, eqb, ltb, Option, Some, None}
 use Rattle.digest.specs.Pick.{pick}
 use Rattle.digest.specs.Mac.{listed_as, same_bytes}
-use Rattle.digest.specs.declared.mac.Listed.{Listed}
-use Rattle.digest.specs.declared.mac.Listed.TheVariants.{Is, Other}
+use Rattle.digest.specs.declared.mac.Mac.{Mac}
 use Rattle.message.specs.Acceptance.{planned}
 use Rattle.message.specs.Offer.{offers}
 use Rattle.message.specs.ServerHello.{server_read, ServerValues, server_values_at}
@@ -18,22 +17,22 @@ use Rattle.message.specs.declared.agreement.Agreement.{Agreement}
 use Rattle.message.specs.declared.agreement.Agreement.TheVariants.{Agreed, Unacceptable, Malformed}
 
 -- "null cipher and an offered kind"
-abbrev pub offered_as : Kinds → Listed → Listed
-offered_as kinds (Is mac) = pick (offers kinds mac) (Is mac) Other
-offered_as kinds Other = Other
+abbrev pub offered_as : Kinds → Option Mac → Option Mac
+offered_as kinds (Some mac) = pick (offers kinds mac) (Some mac) None
+offered_as kinds None = None
 
-unfoldable pub chosen_of : ℕ → ℕ → Kinds → Listed
-chosen_of cipher mac kinds = pick (eqb cipher 0) (offered_as kinds (listed_as mac)) Other
+unfoldable pub chosen_of : ℕ → ℕ → Kinds → Option Mac
+chosen_of cipher mac kinds = pick (eqb cipher 0) (offered_as kinds (listed_as mac)) None
 
 -- null compression, explicit(2), then the refresh
-abbrev pub settled_by : Listed → ℕ → ℕ → ℕ → ℕ → Agreement
-settled_by (Is mac) compression numbering refresh most =
+abbrev pub settled_by : Option Mac → ℕ → ℕ → ℕ → ℕ → Agreement
+settled_by (Some mac) compression numbering refresh most =
     pick (eqb compression 0)
     (pick (eqb numbering 2)
     (pick (ltb most refresh) (Unacceptable Refresh) (Agreed (planned mac refresh)))
     (Unacceptable Numbering))
     (Unacceptable Compression)
-settled_by Other compression numbering refresh most = Unacceptable CipherSuite
+settled_by None compression numbering refresh most = Unacceptable CipherSuite
 
 -- the terms in their order
 unfoldable pub agreed_of : ℕ → List ℕ → ℕ → ℕ → ℕ → ℕ → ℕ → ℕ → List ℕ → Offer → Agreement

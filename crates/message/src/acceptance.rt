@@ -5,7 +5,7 @@ ghost use Rattle.message.specs.Acceptance.{fits_pair, first_fit, has_null, accep
 
 use crate::hello::{Field, Hello, Reading};
 use crate::{field, hello};
-use digest::{Listed, Mac};
+use digest::Mac;
 
 // What the handshake that follows an accepted hello goes by.
 #[derive(Clone, Copy)]
@@ -102,7 +102,7 @@ pub fn accept(
     if !digest::same_code(session, planted) {
         return Acceptance::Unacceptable(Condition::SessionId);
     }
-    let Listed::Is(mac) = Mac::listed(first_fit(suites)) else {
+    let Some(mac) = Mac::listed(first_fit(suites)) else {
         return Acceptance::Unacceptable(Condition::CipherSuite);
     };
     if !has_null(methods) {

@@ -6,7 +6,7 @@ use crate::acceptance::{Plan, byte_at};
 use crate::offer::{Kinds, Offer, is_offered};
 use crate::server_hello::Reading;
 use crate::{field, server_hello};
-use digest::{Listed, Mac};
+use digest::Mac;
 
 // The first term of a ServerHello that does not answer the offer, in the order of its layout.
 #[derive(Clone, Copy)]
@@ -82,7 +82,7 @@ pub fn judged(
         return Agreement::Unacceptable(Term::ClientKey);
     }
     let kinds = offer.kinds;
-    let Listed::Is(chosen) = chosen(cipher, mac, kinds) else {
+    let Some(chosen) = chosen(cipher, mac, kinds) else {
         return Agreement::Unacceptable(Term::CipherSuite);
     };
     if compression != 0 {
@@ -102,26 +102,18 @@ pub fn judged(
 }
 
 // The kind of a pair of null cipher and a kind that was offered.
-fn chosen(cipher: u8, mac: u8, kinds: Kinds) -> Listed
+fn chosen(cipher: u8, mac: u8, kinds: Kinds) -> Option<Mac>
     ensures { result ≡ chosen_of cipher mac kinds }
 {
     if cipher != 0 {
-        return Listed::Other;
+        return None;
     }
     offered(kinds, Mac::listed(mac))
 }
 
 // The kind, where it was offered.
-fn offered(kinds: Kinds, kind: Listed) -> Listed
+fn offered(kinds: Kinds, kind: Option<Mac>) -> Option<Mac>
     ensures { result ≡ offered_as kinds kind }
 {
-    match kind {
-        Listed::Other => Listed::Other,
-        Listed::Is(mac) => {
-            if is_offered(kinds, mac) {
-                return Listed::Is(mac);
-            }
-            Listed::Other
-        }
-    }
+    kind.filter(|mac| is_offered(kinds, *mac))
 }
