@@ -95,7 +95,7 @@ pub fn accept(
     if !digest::same_code(session, planted) {
         return Err(Condition::SessionId);
     }
-    let Listed::Is(mac) = Mac::listed(first_fit(suites)) else {
+    let Some(mac) = Mac::listed(first_fit(suites)) else {
         return Err(Condition::CipherSuite);
     };
     if !has_null(methods) {

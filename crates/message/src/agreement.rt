@@ -80,7 +80,7 @@ pub fn judged(
         return Err(Disagreed::Unacceptable(Term::ClientKey));
     }
     let kinds = offer.kinds;
-    let Listed::Is(chosen) = chosen(cipher, mac, kinds) else {
+    let Some(chosen) = chosen(cipher, mac, kinds) else {
         return Err(Disagreed::Unacceptable(Term::CipherSuite));
     };
     if compression != 0 {
