@@ -2,13 +2,14 @@
 use mathlib.Core.Path.{◌≡◌, refl, sym, ◌∙◌, ap}
 use mathlib.Core.Bool.{Bool, true, false}
 use mathlib.Core.List.{List, [], ◌∷◌}
-use Prim.Native.Nat.{ℕ, suc, ◌+◌, ◌≤◌, ◌<◌}
+use Prim.Native.Nat.{ℕ, suc, ◌+◌, ◌≤◌, ◌<◌, min}
+use Rattle.record.proofs.Histories.{decide}
 use native.Mathlib.Numerals.{add-one}
 use native.Mathlib.Omega.{arith}
 use lib.ListN.{length, take, drop, get_or, length-take, drop_of_length-le}
-use lib.Dec.{ltb}
+use lib.Dec.{ltb, leb, eqb}
 use lib.Seq.{take_all, take-take, drop-cons}
-use borrow.Author.Tests.{eq-eqb, ne_eqb, ltb-true, ltb-false}
+use borrow.Author.Tests.{eq-eqb, ne_eqb, eqb-true, eqb-false, leb-true, leb-false, ltb-true, ltb-false}
 use Rattle.digest.specs.Pick.{pick}
 use Rattle.connection.specs.Sent.{records_kept, sums_of, with_record, with_reply, one_of}
 use Rattle.connection.specs.declared.sent.SentRecords.{SentRecords}
@@ -81,6 +82,13 @@ no_match_here x i l h n =
     ap (one_of x) (drop-cons l i 0 h)
     ∙ ap (λ b. pick b true (one_of x (drop (suc i) l))) (ne_eqb x (get_or l i 0) (λ k. n (sym k)))
     ∙ ap (λ k. one_of x (drop k l)) (sym (add-one i))
+
+-- the first of them up to the count, of eight at most
+pub kept_front : (n : ℕ) (l : List ℕ) → length l ≡ 8 → take (min n 8) l ≡ take n l
+kept_front n l e = decide (leb n 8)
+    (λ a. let most : min n 8 ≡ n = omega (arith, leb-true n 8 a) in ap (λ k. take k l) most)
+    (λ a. let most : min n 8 ≡ 8 = omega (arith, leb-false n 8 a) in
+      ap (λ k. take k l) most ∙ take_all 8 l (omega (arith, e)) ∙ sym (take_all n l (omega (arith, e, leb-false n 8 a))))
 
 -- the first n of a list: no longer than n, nor than the list; and each of them is one of the list
 pub front_most : (n : ℕ) (l : List ℕ) → (length (take n l) ≤ n) × (length (take n l) ≤ length l)

@@ -126,27 +126,13 @@ fn finished(started: Handshake, r: Record, fragment: &[u8]) -> Whom
 pub fn under_way(state: State) -> bool
     ensures { result ≡ under_way state }
 {
-    match state {
-        State::Idle => false,
-        State::Replied => true,
-        State::Spec => true,
-        State::Open => false,
-        State::Closed => false,
-        State::Barred => false,
-    }
+    matches!(state, State::Replied | State::Spec)
 }
 
 fn is_spec(state: State) -> bool
     ensures { result ≡ is_spec state }
 {
-    match state {
-        State::Idle => false,
-        State::Replied => false,
-        State::Spec => true,
-        State::Open => false,
-        State::Closed => false,
-        State::Barred => false,
-    }
+    matches!(state, State::Spec)
 }
 
 // The handshake that is asked.

@@ -87,12 +87,10 @@ fn before(c: Connection, d: &[u8], ours: [u8; 16], walk: Walk, index: usize) -> 
 {
     let records = walk.records;
     let mut left = c;
-    let mut i: usize = 0;
-    while i < index {
-        let who = whom_of(left, d, records[i]);
-        let next = tell(left, who, ours, d, records[i]);
+    for i in 0..index {
+        let r = records[i];
+        let next = tell(left, whom_of(left, d, r), ours, d, r);
         left = next.connection;
-        i += 1;
     }
     left
 }

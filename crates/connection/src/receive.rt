@@ -179,16 +179,7 @@ fn is_hello(d: &[u8], r: Record) -> bool
 fn hello_kind(kind: Kind) -> bool
     ensures { result ≡ is_hello kind }
 {
-    match kind {
-        Kind::ClearHello => true,
-        Kind::ClearChange => false,
-        Kind::ClearAlert => false,
-        Kind::OtherClear => false,
-        Kind::ProtectedChange => false,
-        Kind::ProtectedAlert => false,
-        Kind::ProtectedHandshake => false,
-        Kind::ProtectedData => false,
-    }
+    matches!(kind, Kind::ClearHello)
 }
 
 // The record that stands at a place of the datagram, read again.
@@ -240,8 +231,7 @@ fn each(c: Connection, d: &[u8], ours: [u8; 16], walk: Walk, out: &mut [u8]) -> 
     answers[0] = Slot { answer };
     let mut left = begun.connection;
     let mut at = begun.at;
-    let mut i = begun.done;
-    while i < count {
+    for i in begun.done..count {
         let r = record_at(d, at);
         let who = whom_of(left, d, r);
         let h = asked(left, who);
@@ -267,7 +257,6 @@ fn each(c: Connection, d: &[u8], ours: [u8; 16], walk: Walk, out: &mut [u8]) -> 
             left = moved(left, who, led(h, window, next));
         }
         at += r.used;
-        i += 1;
     }
     Received {
         taken: Ok(count),

@@ -118,10 +118,8 @@ fn data_refusal(
     if 1300 < size {
         return Err(Refusal::Argument);
     }
-    match may_data(state) {
-        Err(refusal) => Err(refusal),
-        Ok(()) => numbered(number, 3 + size + code, room),
-    }
+    may_data(state)?;
+    numbered(number, 3 + size + code, room)
 }
 
 // 16: the record lent over 1,400 (level and description are known by now); 7 and 8 as given; 15; 6.
@@ -138,10 +136,8 @@ fn alert_refusal(
     if 1400 < lent {
         return Err(Refusal::Argument);
     }
-    match may {
-        Err(refusal) => Err(refusal),
-        Ok(()) => numbered(number, 9 + code, room),
-    }
+    may?;
+    numbered(number, 9 + code, room)
 }
 
 // 15: sending never passes 65,535. 6: the record needs its whole size.

@@ -52,17 +52,11 @@ impl SentRecords {
     pub fn matches(self, checksum: u32) -> bool
         ensures { result ≡ matches_of self checksum }
     {
-        let count = self.count;
-        let c = self.checksums;
-        let mut i: usize = 0;
-        while i < 8 {
-            if count as usize <= i {
-                return false;
-            }
-            if c[i] == checksum {
+        let kept = self.count.min(KEPT) as usize;
+        for sum in &self.checksums[..kept] {
+            if *sum == checksum {
                 return true;
             }
-            i += 1;
         }
         false
     }

@@ -84,11 +84,5 @@ pub(crate) fn judge_by(h: Handshake, step: Step) -> Judged
 pub(crate) fn stays(next: Move) -> bool
     ensures { result ≡ is_stay next }
 {
-    match next {
-        Move::Stay => true,
-        Move::Change => false,
-        Move::Open => false,
-        Move::Close => false,
-        Move::Bar => false,
-    }
+    matches!(next, Move::Stay)
 }

@@ -91,12 +91,8 @@ impl Tally {
         ensures { result ≡ counted_of self answers }
     {
         let mut t = self;
-        let mut i: usize = 0;
-        while i < 8 {
-            let slot = answers[i];
-            let answer = slot.answer;
-            t = t.with_answer(answer);
-            i += 1;
+        for slot in &answers {
+            t = t.with_answer(slot.answer);
         }
         t
     }

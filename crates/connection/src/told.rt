@@ -153,12 +153,7 @@ fn place_of(who: Whom, state: State) -> Place
 fn is_beside(who: Whom) -> bool
     ensures { result ≡ is_beside who }
 {
-    match who {
-        Whom::Only => false,
-        Whom::Open => false,
-        Whom::Started => true,
-        Whom::Newcomer => true,
-    }
+    matches!(who, Whom::Started | Whom::Newcomer)
 }
 
 // The records that we sent, after an answer: a new reply is three more.

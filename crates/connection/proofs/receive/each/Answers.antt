@@ -38,9 +38,6 @@ bounds-answers-i c = omega (arith, c.loop-i-test.true, next_few c.loop-i.invaria
 pub overflow_add-at : goal.overflow_add-at
 overflow_add-at c = omega (arith, c.loop-i.invariant.0, next_ends c.loop-i.invariant.1 c.loop-i-test.true _ c.record_at-r.ensures)
 
-pub overflow_add-i : goal.overflow_add-i
-overflow_add-i c = omega (arith, c.loop-i-test.true, next_few c.loop-i.invariant.1)
-
 pub loop-i-smaller : goal.loop-i-smaller
 loop-i-smaller c = omega (arith, c.loop-i-test.true)
 

@@ -8,15 +8,14 @@ use Rattle.connection.specs.declared.answer.Answer.TheVariants.{Nothing}
 use native.Mathlib.Omega.{arith}
 use Rattle.connection.proofs.tally.Tally.with_answers.Goals as goal
 
-pub loop-i-init : goal.loop-i-init
+pub loop-slot-init : goal.loop-slot-init
 unfolding counted_first
-loop-i-init c = (omega arith, refl)
+loop-slot-init c = refl
 
-pub loop-i-preserved : goal.loop-i-preserved
+pub loop-slot-preserved : goal.loop-slot-preserved
 unfolding counted_first
-loop-i-preserved c = let at = c.loop-i in
-    let args = c.args in
-    (omega arith, c.with_answer-t.ensures ∙ ap (λ x. counted_answer x (get_or args.answers at.i (slot Nothing)).answer) at.invariant.1 ∙ sym (ap (counted_first args.self args.answers) (add-one at.i)))
+loop-slot-preserved c = let at = c.loop-slot in
+    c.with_answer-t.ensures ∙ ap (λ x. counted_answer x (get_or c.args.answers at.slot-index (slot Nothing)).answer) at.invariant ∙ sym (ap (counted_first c.args.self c.args.answers) (add-one at.slot-index))
 
 pub returns : goal.returns
-returns c = let last : c.loop-i.i ≡ 8 = omega arith in rw last at c.loop-i.invariant.1
+returns c = let last : c.loop-slot.slot-index ≡ 8 = omega (arith, c.loop-slot-test.false) in rw last at c.loop-slot.invariant
