@@ -1,25 +1,22 @@
 -- The laws of bytes laid over others.
-use Rattle.std.proofs.Common.{◌≡◌, ℕ, suc, ◌+◌, ◌-◌, ◌<◌, ◌≤◌, List, [], ◌∷◌, ◌++◌, length, take, drop, set, replicate, sym, refl, ap, ◌∙◌, ap₂, append_assoc, zero-add, arith, length-append, length-drop, length-take-le, drop-drop, take_at, drop_at}
-use native.Mathlib.Numerals.{towards_suc}
+use Rattle.std.proofs.Common.{◌≡◌, ℕ, suc, ◌+◌, ◌-◌, ◌<◌, ◌≤◌, List, ◌∷◌, ◌++◌, length, take, drop, set, replicate, sym, refl, ap, ◌∙◌, ap₂, append_assoc, zero-add, arith, length-append, length-drop, length-take-le, drop-drop, take_at, drop_at}
 use lib.ListN.{length-replicate, replicate-append-replicate}
-use lib.Seq.{paste, take-length, sets-eq, set_at, take-append-add, drop-append-add}
+use borrow.Rule.Slice.PartMut.{put_mid}
+use lib.Seq.{set_at, take-append-add, drop-append-add}
 use Rattle.digest.proofs.Picks.{picks}
 use Rattle.digest.specs.Bytes.{laid_over, laid_within, bytes4}
 
-pub laid_paste : (d : List ℕ) (at : ℕ) (s : List ℕ) → paste d at s (length s) ≡ laid_over d at s
+-- bytes written over a part, which is as long
+pub laid_part : (d t : List ℕ) (at n : ℕ) (s : List ℕ) → t ≡ s → n ≡ length s → put_mid at n d t ≡ laid_over d at s
 unfolding laid_over
-laid_paste d at s = ap (λ x. take at d ++ x ++ drop (at + length s) d) (take-length s)
+laid_part d t at n s e l =
+    ap₂ (λ x y. take at d ++ (x ++ y)) e (drop-drop n at d ∙ ap (λ k. drop (at + k) d) l)
+    ∙ sym (append_assoc (take at d) s (drop (at + length s) d))
 
 pub length_laid : (d : List ℕ) (at : ℕ) (s : List ℕ) → at + length s ≤ length d → length (laid_over d at s) ≡ length d
 unfolding laid_over
 length_laid d at s h =
     simp (length-append, length-drop) (omega (arith, length-take-le at d (omega arith)))
-
--- four stores in a row
-pub laid_four : (d : List ℕ) (at x y z w : ℕ) → at + 4 ≤ length d
-    → set (set (set (set d at x) (at + 1) y) (at + 2) z) (at + 3) w ≡ laid_over d at (x ∷ y ∷ z ∷ w ∷ [])
-unfolding laid_over
-laid_four d at x y z w h = simp towards_suc (simp towards_suc at (sets-eq (x ∷ y ∷ z ∷ w ∷ []) d at h))
 
 -- five words spelled one behind the other
 pub laid_words : (z : List ℕ) (a b c d e : ℕ) (d₁ d₂ d₃ d₄ d₅ : List ℕ) → z ≡ replicate 20 0

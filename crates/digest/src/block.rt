@@ -90,15 +90,18 @@ fn added(g: State, h: State) -> State
     }
 }
 
-// The word that stands at `at`, its first byte the most significant.
+// The word that stands at `at`, its first byte the most significant. (By `from_be_bytes` a block takes 13 instructions more, and a
+// digest of 40 bytes a twenty-fifth longer: docs/SPEED.md.)
 fn word(s: &[u8], at: usize) -> u32
     requires { at + 3 < length s.now }
     ensures { result ≡ word_at s.now at }
 {
-    u32::from_be_bytes([s[at], s[at + 1], s[at + 2], s[at + 3]])
+    ((u32::from(s[at]) * 256 + u32::from(s[at + 1])) * 256 + u32::from(s[at + 2])) * 256
+        + u32::from(s[at + 3])
 }
 
-// Step a: rounds of the first sixteen, each with its word of the block that stands at `at`.
+// Step a: rounds of the first sixteen, each with its word of the block that stands at `at`. (In one function with `late` each call
+// would say, beside what it says of f, what a closure gives for the word: longer than both loops.)
 fn first(p: Midway, s: &[u8], at: usize, from: usize, end: usize) -> Midway
     requires { (at + 64 ≤ length s.now) × (from ≤ end) × (end ≤ 16) }
     ensures { (h : State) → Reached (words (take 64 (drop at s.now)) 16) h from p → Reached (words (take 64 (drop at s.now)) 16) h end result }

@@ -7,11 +7,7 @@ pub(crate) fn lay(d: &mut [u8], at: usize, s: &[u8])
     requires { at + length s.now ≤ length d.old }
     ensures { d.new ≡ laid_over d.old at s.now }
 {
-    let mut i: usize = 0;
-    while i < s.len() {
-        d[at + i] = s[i];
-        i += 1;
-    }
+    d[at..at + s.len()].copy_from_slice(s);
 }
 
 // s laid over d from place `at` on, where all of it fits; else nothing is written.
@@ -32,8 +28,5 @@ pub(crate) fn put_word(d: &mut [u8], at: usize, x: u32)
     requires { at + 4 ≤ length d.old }
     ensures { d.new ≡ laid_over d.old at (bytes4 x) }
 {
-    d[at] = (x / 16777216 % 256) as u8;
-    d[at + 1] = (x / 65536 % 256) as u8;
-    d[at + 2] = (x / 256 % 256) as u8;
-    d[at + 3] = (x % 256) as u8;
+    lay(d, at, &x.to_be_bytes());
 }
