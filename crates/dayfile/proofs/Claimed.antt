@@ -98,7 +98,7 @@ pub found_in_order : FoundInOrder
 found_in_order =
     record {
       whole = λ b l e. (read_whole b l e).0;
-      next = λ b at n z e. run_next (drop at b) n z e ∙ ap (λ s. found_in (drop at b) n z ∷ run_of s) (drop-drop (5 + z) at b);
+      next = λ b at f e. run_next (drop at b) f e ∙ ap (λ s. found_in (drop at b) f ∷ run_of s) (drop-drop (5 + f.size) at b);
       last = λ b at e. run_stop (drop at b) e;
     }
 
