@@ -3,7 +3,7 @@ ghost use Rattle.std.specs.Prelude.{◌≡◌, length};
 ghost use Rattle.dayfile.specs.Mending.{mend_of, mending_told, mend_left};
 
 use crate::refusal::Refusal;
-use crate::run::run_in;
+use crate::run::{MOST_BYTES, run_in};
 use crate::trailer::{put_trailer, trailer_stands};
 use digest::put;
 
@@ -20,7 +20,7 @@ pub fn mend_file(file: &[u8], out: &mut [u8]) -> Result<Mended, Refusal>
     ensures exact { result ≡ mending_told (mend_of file.now (length out.old)) }
     ensures bytes { out.new ≡ mend_left out.old (mend_of file.now (length out.old)) }
 {
-    if 65536 < file.len() {
+    if MOST_BYTES < file.len() {
         return Err(Refusal::Limit);
     }
     let run = run_in(file);

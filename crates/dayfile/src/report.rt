@@ -50,5 +50,5 @@ fn whole_if(number: u16, size: usize, left: usize) -> Option<Found>
 pub(crate) fn is_sized(size: usize) -> bool
     ensures { result ≡ is_sized size }
 {
-    1 <= size && size <= 1400
+    (1..=1400).contains(&size)
 }

@@ -1,9 +1,14 @@
 // The run of whole reports from the front.
-ghost use Rattle.std.specs.Prelude.{List, ◌≡◌, ◌≤◌, ◌<◌, true, length, take};
+ghost use Rattle.std.specs.Prelude.{List, ◌≡◌, ◌+◌, ◌*◌, ◌≤◌, ◌<◌, true, length, take};
 ghost use Rattle.dayfile.specs.File.{Report, body_of, file_of, is_within};
 ghost use Rattle.dayfile.specs.Runs.{run_of, counted};
 
 use crate::report::{HEAD, report_at};
+
+// How many reports a list may have, and how many bytes its file, the trailer included.
+pub(crate) const MOST_REPORTS: usize = 4096;
+
+pub(crate) const MOST_BYTES: usize = 65536;
 
 // How many reports the run has, and where it ends.
 #[derive(Clone, Copy, PartialEq, Eq, Debug)]
@@ -18,7 +23,7 @@ impl Run {
         ensures exact { (l : List Report) → self ≡ counted l → result ≡ is_within l }
         ensures bounds { result ≡ true → (self.count ≤ 4096) × (self.end < 65536) }
     {
-        self.count <= 4096 && self.end <= 65536 - (3 + 2 * self.count)
+        self.count <= MOST_REPORTS && self.end <= MOST_BYTES - self.trailer_size()
     }
 
     // How many bytes its file has: the reports, and the trailer behind them.
@@ -26,7 +31,15 @@ impl Run {
         requires { (self.count ≤ 4096) × (self.end < 65536) }
         ensures { (l : List Report) → self ≡ counted l → result ≡ length (file_of l) }
     {
-        self.end + (3 + 2 * self.count)
+        self.end + self.trailer_size()
+    }
+
+    // An opening byte, two bytes for each report, and two for the count.
+    fn trailer_size(self) -> usize
+        requires { self.count ≤ 4096 }
+        ensures { result ≡ 3 + 2 * self.count }
+    {
+        3 + 2 * self.count
     }
 }
 

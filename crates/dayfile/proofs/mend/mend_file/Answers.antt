@@ -15,24 +15,24 @@ use Rattle.dayfile.proofs.Trailing.{run_size, run_length, laid_run, laid_stands,
 use Rattle.dayfile.proofs.Mendings.{given, mend_long, mend_over, mend_narrow, mend_done}
 use Rattle.dayfile.proofs.mend.mend_file.Goals as goal
 
-pub returns-then-file-gt65536 : goal.returns-then-file-gt65536
-returns-then-file-gt65536 c =
-    let o = given c.args.out.now _ _ (mend_long _ (length c.args.out.now) c.if-file-gt65536.true) in record { exact = o.told; bytes = o.held }
+pub returns-then-file-gt-MOST_BYTES : goal.returns-then-file-gt-MOST_BYTES
+returns-then-file-gt-MOST_BYTES c =
+    let o = given c.args.out.now _ _ (mend_long _ (length c.args.out.now) c.if-file-gt-MOST_BYTES.true) in record { exact = o.told; bytes = o.held }
 
 pub returns-then-not-is_within : goal.returns-then-not-is_within
 returns-then-not-is_within c =
     let over = sym (c.is_within.ensures.exact (run_of c.args.file.now) c.run_in-run.ensures.exact) ∙ c.if-not-is_within.true in
-    let o = given c.args.out.now _ _ (mend_over _ (length c.args.out.now) c.if-file-gt65536.false over) in record { exact = o.told; bytes = o.held }
+    let o = given c.args.out.now _ _ (mend_over _ (length c.args.out.now) c.if-file-gt-MOST_BYTES.false over) in record { exact = o.told; bytes = o.held }
 
 pub returns-then-out-file_size : goal.returns-then-out-file_size
 returns-then-out-file_size c =
     let l = run_of c.args.file.now in
     let within = sym (c.is_within.ensures.exact l c.run_in-run.ensures.exact) ∙ c.if-not-is_within.false in
-    let o = given c.args.out.now _ _ (mend_narrow _ _ c.if-file-gt65536.false within (omega (arith, c.file_size.ensures l c.run_in-run.ensures.exact, c.if-out-file_size.true))) in
+    let o = given c.args.out.now _ _ (mend_narrow _ _ c.if-file-gt-MOST_BYTES.false within (omega (arith, c.file_size.ensures l c.run_in-run.ensures.exact, c.if-out-file_size.true))) in
     record { exact = o.told; bytes = o.held }
 
 pub trailer_stands-sound-requires : goal.trailer_stands-sound-requires
-trailer_stands-sound-requires c = record { run_stands = ran_stands _ _ c.run_in-run.ensures.exact c.run_in-run.ensures.stands; file_len_bound = c.if-file-gt65536.false }
+trailer_stands-sound-requires c = record { run_stands = ran_stands _ _ c.run_in-run.ensures.exact c.run_in-run.ensures.stands; file_len_bound = c.if-file-gt-MOST_BYTES.false }
 
 pub put_trailer-requires : goal.put_trailer-requires
 put_trailer-requires c =
@@ -63,7 +63,7 @@ returns c =
     let room : run.end ≤ length out = omega (arith, run_size run l counts, size, c.if-out-file_size.false) in
     let put : c.put.new.d ≡ laid_over out 0 (body_of l) = laid_run out file run w c.put.new.d room c.put.ensures.exact in
     let fits : length (file_of l) ≤ length out = omega (arith, size, c.if-out-file_size.false) in
-    let o = given out _ _ (mend_done file (length out) c.if-file-gt65536.false within fits) in
+    let o = given out _ _ (mend_done file (length out) c.if-file-gt-MOST_BYTES.false within fits) in
     record {
       exact =
           (λ i. Ok (record { kept = (counts i).count; after = length file - (counts i).end; changed = not (c.trailer_stands-sound.ensures i) })) ∙ o.told;
