@@ -34,19 +34,19 @@ pub sized_is : (n : ℕ) → is_sized n ≡ true → (1 ≤ n) × (n ≤ 1400)
 sized_is n e = told (ltb n 1) (ltb 1400 n) refl refl e
   where
     told : (a b : Bool) → ltb n 1 ≡ a → ltb 1400 n ≡ b → pick a false (pick b false true) ≡ true → (1 ≤ n) × (n ≤ 1400)
-    told true b p q z = let w : false ≡ true = z in let o : ◌≡◌ {A = ℕ} 0 1 = cc in absurd (omega arith)
-    told false true p q z = let w : false ≡ true = z in let o : ◌≡◌ {A = ℕ} 0 1 = cc in absurd (omega arith)
+    told true b p q z = let w : false ≡ true = z in absurd (cc)
+    told false true p q z = let w : false ≡ true = z in absurd (cc)
     told false false p q z = (ltb-false n 1 p, ltb-false 1400 n q)
 
 -- ---- from the answer to the bytes
 
 passed_no : (b : Bool) (y : Option Found) (f : Found) → pick b None y ≡ Some f → (b ≡ false) × (y ≡ Some f)
-passed_no true y f e = let o : ◌≡◌ {A = ℕ} 0 1 = cc in absurd (omega arith)
+passed_no true y f e = absurd (cc)
 passed_no false y f e = (refl, e)
 
 passed_yes : (b : Bool) (y : Option Found) (f : Found) → pick b y None ≡ Some f → (b ≡ true) × (y ≡ Some f)
 passed_yes true y f e = (refl, e)
-passed_yes false y f e = let o : ◌≡◌ {A = ℕ} 0 1 = cc in absurd (omega arith)
+passed_yes false y f e = absurd (cc)
 
 same_found : (f g : Found) → ◌≡◌ {A = Option Found} (Some f) (Some g) → f ≡ g
 same_found f g e = cc
@@ -154,7 +154,7 @@ front_stands s below f e =
     ∙ sym (take-add 5 f.size s)
 
 pub nothing_stands : (s : List ℕ) (front : Option Found) → front ≡ None → Standing s front
-nothing_stands s front e f w = let o : ◌≡◌ {A = ℕ} 0 1 = cc in absurd (omega arith)
+nothing_stands s front e f w = absurd (cc)
 
 -- ---- what is written is found
 

@@ -33,9 +33,6 @@ use Rattle.dayfile.proofs.Trailing.{length_file, within_is, within_not, within_y
 use Rattle.dayfile.proofs.Mendings.{mend_long, mend_over, mend_narrow, mend_done}
 use Rattle.dayfile.proofs.Claimed.{reads_back, read_whole}
 
-falsehood : {A : Type 0} → ◌≡◌ {A = ℕ} 0 1 → A
-falsehood e = absurd (omega arith)
-
 -- ---- what mending gives, by its tests
 
 data MendCase (b : List ℕ) (room : ℕ) : Type 0 where
@@ -71,8 +68,8 @@ is_done : (b : List ℕ) (room : ℕ) (f : List ℕ) (said : Mended) → mend_of
 is_done b room f said e = told (mend_case b room)
   where
     told : MendCase b room → Done b f said
-    told (over k g) = falsehood (cc)
-    told (narrow h k m n g) = falsehood (cc)
+    told (over k g) = absurd (cc)
+    told (narrow h k m n g) = absurd (cc)
     told (done h k m n g) =
         record { file = same_file f (file_of (run_of b)) said (said_of b) (sym e ∙ g); what = same_said f (file_of (run_of b)) said (said_of b) (sym e ∙ g); few = k; short = m }
 
@@ -106,7 +103,7 @@ changed_exactly b room f said e =
   where
     unsaid : (t : Bool) → not t ≡ false → t ≡ true
     unsaid true q = refl
-    unsaid false q = falsehood (let z : true ≡ false = q in cc)
+    unsaid false q = absurd (let z : true ≡ false = q in cc)
 
 pub longest : (b : List ℕ) → AreBytes b → Longest b
 longest b below = record { whole = run_sound b below; there = run_front b below; all = λ m rest s e. ap run_of e ∙ run_append m rest s }
@@ -225,8 +222,8 @@ cut_never_24 l cut room w e = told (mend_case b room)
     told (over k g) =
         ⊎_elim (λ x. omega (arith, w.short, length-take cut (file_of l)))
         (λ y. ⊎_elim (λ x. omega (arith, w.few, few)) (λ x. omega (arith, w.short, few, body, length_file (run_of b), length_file l)) y) k
-    told (narrow h k m n g) = falsehood (cc)
-    told (done h k m n g) = falsehood (cc)
+    told (narrow h k m n g) = absurd (cc)
+    told (done h k m n g) = absurd (cc)
 
 -- ---- the refusals
 
@@ -240,8 +237,8 @@ mending_exactly b room =
   where
     is_over : MendCase b room → mend_of b room ≡ refused Limit → (65536 < length b) ⊎ ((4096 < length (run_of b)) ⊎ (65536 < length (file_of (run_of b))))
     is_over (over k g) e = k
-    is_over (narrow h k m n g) e = falsehood (cc)
-    is_over (done h k m n g) e = falsehood (cc)
+    is_over (narrow h k m n g) e = absurd (cc)
+    is_over (done h k m n g) e = absurd (cc)
 
     of_over : MendCase b room → (65536 < length b) ⊎ ((4096 < length (run_of b)) ⊎ (65536 < length (file_of (run_of b)))) → mend_of b room ≡ refused Limit
     of_over (over k g) x = g
@@ -249,9 +246,9 @@ mending_exactly b room =
     of_over (done h k m n g) x = ⊎_elim (λ y. absurd (omega arith)) (λ y. ⊎_elim (λ z. absurd (omega arith)) (λ z. absurd (omega arith)) y) x
 
     is_narrow : MendCase b room → mend_of b room ≡ refused Room → (length b ≤ 65536) × (length (run_of b) ≤ 4096) × (length (file_of (run_of b)) ≤ 65536) × (room < length (file_of (run_of b)))
-    is_narrow (over k g) e = falsehood (cc)
+    is_narrow (over k g) e = absurd (cc)
     is_narrow (narrow h k m n g) e = (h, k, m, n)
-    is_narrow (done h k m n g) e = falsehood (cc)
+    is_narrow (done h k m n g) e = absurd (cc)
 
     of_narrow : MendCase b room → length b ≤ 65536 → length (run_of b) ≤ 4096 → length (file_of (run_of b)) ≤ 65536 → room < length (file_of (run_of b)) → mend_of b room ≡ refused Room
     of_narrow (over x g) h k m n = ⊎_elim (λ y. absurd (omega arith)) (λ y. ⊎_elim (λ z. absurd (omega arith)) (λ z. absurd (omega arith)) y) x
@@ -261,7 +258,7 @@ mending_exactly b room =
     other : MendCase b room → (r : Refusal) → mend_of b room ≡ refused r → (r ≡ Limit) ⊎ (r ≡ Room)
     other (over k g) r e = inl (cc)
     other (narrow h k m n g) r e = inr (cc)
-    other (done h k m n g) r e = falsehood (cc)
+    other (done h k m n g) r e = absurd (cc)
 
 pub refused_mends_nothing : RefusedMendsNothing
 refused_mends_nothing out m r e = ap (mend_left out) e

@@ -62,9 +62,6 @@ module _ (ss : List ℕ) (total left i : ℕ) (w : Sizing ss total left i) where
 
 -- ---- what it says of the list
 
-falsehood : {A : Type 0} → false ≡ true → A
-falsehood e = let o : ◌≡◌ {A = ℕ} 0 1 = cc in absurd (omega arith)
-
 pub record Next (s left : ℕ) (ss : List ℕ) : Type 0 where
   pub some : 1 ≤ s
   pub small : s ≤ 1400
@@ -76,8 +73,8 @@ unfolding are_sized
 lent_next s left ss e = told (is_sized s) (ltb left s) refl refl e
   where
     told : (x z : Bool) → is_sized s ≡ x → ltb left s ≡ z → pick x (pick z false (are_sized ss (left - s))) false ≡ true → Next s left ss
-    told false z p r w = falsehood w
-    told true true p r w = falsehood w
+    told false z p r w = absurd (cc)
+    told true true p r w = absurd (cc)
     told true false p r w =
         let range = sized_is s p in record { some = range.0; small = range.1; fits = ltb-false left s r; rest = w }
 

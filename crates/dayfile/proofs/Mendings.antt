@@ -54,10 +54,10 @@ told_bounds b room said e = told (ltb 65536 (length b)) (leb (length (run_of b))
     told : (w x y z : Bool) → ltb 65536 (length b) ≡ w → leb (length (run_of b)) 4096 ≡ x
         → mending_told (pick w (refused Limit) (pick (pick x y false) (pick z (mended (file_of (run_of b)) (said_of b)) (refused Room)) (refused Limit))) ≡ Ok said
         → (said.kept ≤ 4096) × (said.after ≤ 65536)
-    told true x y z p q g = let o : ◌≡◌ {A = ℕ} 0 1 = cc in absurd (omega arith)
-    told false false y z p q g = let o : ◌≡◌ {A = ℕ} 0 1 = cc in absurd (omega arith)
-    told false true false z p q g = let o : ◌≡◌ {A = ℕ} 0 1 = cc in absurd (omega arith)
-    told false true true false p q g = let o : ◌≡◌ {A = ℕ} 0 1 = cc in absurd (omega arith)
+    told true x y z p q g = absurd (cc)
+    told false false y z p q g = absurd (cc)
+    told false true false z p q g = absurd (cc)
+    told false true true false p q g = absurd (cc)
     told false true true true p q g =
         let same : said_of b ≡ said = inside (said_of b) said g in
         let kept : said.kept ≡ length (run_of b) = ap (λ s. s.kept) (sym same) in

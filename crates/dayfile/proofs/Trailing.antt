@@ -53,15 +53,15 @@ within_is l e = told (leb (length l) 4096) (leb (length (file_of l)) 65536) refl
   where
     told : (x y : Bool) → leb (length l) 4096 ≡ x → leb (length (file_of l)) 65536 ≡ y → pick x y false ≡ true → (length l ≤ 4096) × (length (file_of l) ≤ 65536)
     told true true p q w = (leb-true (length l) 4096 p, leb-true (length (file_of l)) 65536 q)
-    told true false p q w = let o : ◌≡◌ {A = ℕ} 0 1 = cc in absurd (omega arith)
-    told false y p q w = let o : ◌≡◌ {A = ℕ} 0 1 = cc in absurd (omega arith)
+    told true false p q w = absurd (cc)
+    told false y p q w = absurd (cc)
 
 pub within_not : (l : List Report) → is_within l ≡ false → (4096 < length l) ⊎ (65536 < length (file_of l))
 within_not l e =
     by_cases (dec_le (length l) 4096)
     (λ h.
     by_cases (dec_le (length (file_of l)) 65536)
-    (λ k. let w : true ≡ false = sym (within_yes l h k) ∙ e in let o : ◌≡◌ {A = ℕ} 0 1 = cc in absurd (omega arith)) (λ k. inr (omega arith)))
+    (λ k. let w : true ≡ false = sym (within_yes l h k) ∙ e in absurd (cc)) (λ k. inr (omega arith)))
     (λ h. inl (omega arith))
 
 pub over_many : (l : List Report) → 4096 < length l → is_within l ≡ false
