@@ -24,7 +24,7 @@ pub returns-then-from-left : goal.returns-then-from-left
 returns-then-from-left c =
     let cases = c.in-Some-split_first_chunk.ensures.cases in
     match_differs _ _ _ _ _ c.loop-found.invariant _ (sym c.front.ensures.exact ∙ c.in-Some.is) (omega (arith, cases.2))
-    (λ e. c.if-from-left.true (c.from.ensures ∙ c.from_be_bytes.ensures ∙ pair_first _ _ cases.0 ∙ e))
+    (λ e. omega (arith, c.from.ensures, c.from_be_bytes.ensures, pair_first c.loop-found.rest.now _ cases.0))
 
 pub overflow_add-left : goal.overflow_add-left
 overflow_add-left c = omega (arith, (step _ _ c.loop-found.invariant.stands (sym c.front.ensures.exact ∙ c.in-Some.is)).small)
