@@ -8,7 +8,7 @@ use native.Mathlib.Omega.{arith}
 use lib.ListN.{length, get_or, take, drop, length-append, length-drop, length-take}
 use lib.Seq.{length-take-le, take-add, drop-drop, drop_at, get_or-drop}
 use Rattle.dayfile.specs.File.{Report, report_of, body_of, Sound, none, more}
-use Rattle.dayfile.specs.Runs.{front_of, found_in, Standing, ahead, run_within, run_of, counted, RunStands}
+use Rattle.dayfile.specs.Runs.{pair_at, front_of, found_in, Standing, ahead, run_within, run_of, counted, RunStands}
 use Rattle.dayfile.specs.declared.report.Found.{Found}
 use Rattle.std.specs.Prelude.{Option, Some, None}
 use Rattle.dayfile.specs.declared.run.Run.{Run}
@@ -113,23 +113,30 @@ run_body l s = ap run_of (sym (append-nil (body_of l))) ∙ run_append l [] s �
 
 -- ---- a part that is nothing but reports
 
-pub record Begins (s : List ℕ) (f : Found) : Type 0 where
-  pub front : FrontIs s f
-  pub next : run_of s ≡ found_in s f ∷ run_of (drop (5 + f.size) s)
-  pub stands : body_of (run_of (drop (5 + f.size) s)) ≡ drop (5 + f.size) s
+pub record Begins (s : List ℕ) (size : ℕ) : Type 0 where
+  pub report : Report
+  pub inside : 5 + size ≤ length s
+  pub next : run_of s ≡ report ∷ run_of (drop (5 + size) s)
+  pub stands : body_of (run_of (drop (5 + size) s)) ≡ drop (5 + size) s
 
-pub begins : (s : List ℕ) (f : Found) → body_of (run_of s) ≡ s → front_of s ≡ Some f → Begins s f
+pub begins : (s : List ℕ) → body_of (run_of s) ≡ s → 0 < length s → Begins s (pair_at s 3)
 unfolding body_of
-begins s f e g =
-    let w : FrontIs s f = front_is s f g in
-    let step : run_of s ≡ found_in s f ∷ run_of (drop (5 + f.size) s) = run_next s f g in
-    let long : length (report_of (found_in s f)) ≡ 5 + f.size = length_report (found_in s f) ∙ ap (λ k. 5 + k) (found_length s f w.inside) in
-    record {
-      front = w;
-      next = step;
-      stands = sym (drop_at (report_of (found_in s f)) (body_of (run_of (drop (5 + f.size) s))) (5 + f.size) long)
-          ∙ ap (drop (5 + f.size)) (sym (ap body_of step) ∙ e);
-    }
+begins s e h = told (front_of s) refl
+  where
+    told : (front : Option Found) → front_of s ≡ front → Begins s (pair_at s 3)
+    told None g = let z : length s ≡ 0 = ap length (sym e ∙ ap body_of (run_stop s g)) in absurd (omega arith)
+    told (Some f) g =
+        let w : FrontIs s f = front_is s f g in
+        let step : run_of s ≡ found_in s f ∷ run_of (drop (5 + f.size) s) = run_next s f g in
+        let long : length (report_of (found_in s f)) ≡ 5 + f.size = length_report (found_in s f) ∙ ap (λ k. 5 + k) (found_length s f w.inside) in
+        let begun : Begins s f.size = record {
+          report = found_in s f;
+          inside = w.inside;
+          next = step;
+          stands = sym (drop_at (report_of (found_in s f)) (body_of (run_of (drop (5 + f.size) s))) (5 + f.size) long)
+              ∙ ap (drop (5 + f.size)) (sym (ap body_of step) ∙ e);
+        } in
+        subst (Begins s) w.sized begun
 
 -- ---- the loop: the reports of the run so far have been passed, and the next begins where it ends
 

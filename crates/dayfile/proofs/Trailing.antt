@@ -1,7 +1,7 @@
 -- The trailer, compared and written. The idea: both loops pass over the reports that stand before the trailer, and what
 -- is left to compare or to write belongs to the reports that are left; the distance of the first of them is the length of
 -- what is left (`distances_next`, for both loops).
-use mathlib.Core.Path.{◌≡◌, refl, sym, ◌∙◌, ap}
+use mathlib.Core.Path.{◌≡◌, refl, sym, ◌∙◌, ap, subst}
 use mathlib.Core.Bool.{Bool, true, false, ◌&&◌}
 use mathlib.Core.List.{List, [], ◌∷◌, ◌++◌, append_assoc}
 use mathlib.Core.Logic.{◌⊎◌, inl, inr, by_cases}
@@ -19,12 +19,10 @@ use Rattle.digest.specs.Mac.{same_bytes}
 use Rattle.digest.proofs.Same.{differ_same}
 use Rattle.digest.proofs.Lay.{length_laid}
 use Rattle.dayfile.specs.File.{Report, report_of, body_of, distances_of, trailer_of, file_of, is_within, Sound}
-use Rattle.dayfile.specs.Runs.{pair_at, front_of, run_of, found_in, counted, RunStands}
-use Rattle.dayfile.specs.declared.report.Found.{Found}
+use Rattle.dayfile.specs.Runs.{pair_at, run_of, counted, RunStands}
 use Rattle.dayfile.specs.declared.run.Run.{Run}
-use Rattle.std.specs.Prelude.{Some, None}
 use Rattle.dayfile.proofs.Laying.{pair_back, bytes2_of, laid_append, laid_at_front, laid_within_lem}
-use Rattle.dayfile.proofs.Fronts.{length_report}
+use Rattle.dayfile.proofs.Fronts.{short_nothing, length_report}
 use Rattle.dayfile.proofs.Running.{Begins, begins, run_stop, run_body, run_sound}
 
 -- ---- sizes
@@ -132,35 +130,37 @@ number_missing n t k h = differ_same n (bytes2 k ++ t) (λ e. absurd (omega (ari
 
 -- ---- the reports that are left
 
--- what is left, nothing but reports, begins with f: its distance is the length of all that is left
-pub record Step (s : List ℕ) (f : Found) : Type 0 where
-  pub inside : 5 + f.size ≤ length s
-  pub small : f.size ≤ 1400
-  pub many : length (run_of s) ≡ 1 + length (run_of (drop (5 + f.size) s))
-  pub stands : body_of (run_of (drop (5 + f.size) s)) ≡ drop (5 + f.size) s
-  pub distances : distances_of (run_of s) ≡ bytes2 (length s) ++ distances_of (run_of (drop (5 + f.size) s))
+-- the first of the reports that are left ends where its head tells; its distance is the length of all that is left
+pub record Step (s : List ℕ) (next : ℕ) : Type 0 where
+  pub some : 5 ≤ next
+  pub inside : next ≤ length s
+  pub many : length (run_of s) ≡ 1 + length (run_of (drop next s))
+  pub stands : body_of (run_of (drop next s)) ≡ drop next s
+  pub distances : distances_of (run_of s) ≡ bytes2 (length s) ++ distances_of (run_of (drop next s))
 
 distances_next : (l m : List Report) (r : Report) → l ≡ r ∷ m → distances_of l ≡ bytes2 (length (body_of l)) ++ distances_of m
 unfolding distances_of
 distances_next l m r e = ap distances_of e ∙ ap (λ x. bytes2 (length (body_of x)) ++ distances_of m) (sym e)
 
-pub step : (s : List ℕ) (f : Found) → body_of (run_of s) ≡ s → front_of s ≡ Some f → Step s f
-step s f e g =
-    let w : Begins s f = begins s f e g in
-    record {
-      inside = w.front.inside;
-      small = w.front.small;
+pub step : (s : List ℕ) (next : ℕ) → body_of (run_of s) ≡ s → 5 ≤ length s → next ≡ 5 + pair_at s 3 → Step s next
+step s next e h told =
+    let z : ℕ = pair_at s 3 in
+    let w : Begins s z = begins s e (omega arith) in
+    let first : Step s (5 + z) = record {
+      some = omega arith;
+      inside = w.inside;
       many = omega (arith, ap length w.next);
       stands = w.stands;
       distances =
-          distances_next (run_of s) (run_of (drop (5 + f.size) s)) (found_in s f) w.next
-          ∙ ap (λ n. bytes2 n ++ distances_of (run_of (drop (5 + f.size) s))) (ap length e);
-    }
+          distances_next (run_of s) (run_of (drop (5 + z) s)) w.report w.next
+          ∙ ap (λ n. bytes2 n ++ distances_of (run_of (drop (5 + z) s))) (ap length e);
+    } in
+    subst (Step s) (sym told) first
 
 -- where none is left, no distance is
-pub none_left : (s : List ℕ) → front_of s ≡ None → distances_of (run_of s) ≡ []
+pub none_left : (s : List ℕ) → length s < 5 → distances_of (run_of s) ≡ []
 unfolding distances_of
-none_left s e = ap distances_of (run_stop s e)
+none_left s h = ap distances_of (run_stop s (short_nothing s h))
 
 -- ---- the numbers that are compared: `numbers` and `left` are left of all the numbers and of the body
 
@@ -171,38 +171,36 @@ pub record Matching (all body : List ℕ) (count : ℕ) (numbers left : List ℕ
   pub same : same_bytes all (distances_of (run_of body) ++ bytes2 count) ≡ same_bytes numbers (distances_of (run_of left) ++ bytes2 count)
 
 module _ (all body : List ℕ) (count : ℕ) (numbers left : List ℕ) (w : Matching all body count numbers left) where
-  module _ (f : Found) (e : front_of left ≡ Some f) where
+  module _ (next : ℕ) (x : Step left next) where
     opened : same_bytes all (distances_of (run_of body) ++ bytes2 count)
-        ≡ same_bytes numbers (bytes2 (length left) ++ (distances_of (run_of (drop (5 + f.size) left)) ++ bytes2 count))
+        ≡ same_bytes numbers (bytes2 (length left) ++ (distances_of (run_of (drop next left)) ++ bytes2 count))
     opened =
-        let x : Step left f = step left f w.stands e in
         w.same ∙ ap (same_bytes numbers)
-        (ap (λ l. l ++ bytes2 count) x.distances ∙ append_assoc (bytes2 (length left)) (distances_of (run_of (drop (5 + f.size) left))) (bytes2 count))
+        (ap (λ l. l ++ bytes2 count) x.distances ∙ append_assoc (bytes2 (length left)) (distances_of (run_of (drop next left))) (bytes2 count))
 
     pub match_missing : length numbers < 2 → false ≡ same_bytes all (distances_of (run_of body) ++ bytes2 count)
-    match_missing h = sym (opened ∙ number_missing numbers (distances_of (run_of (drop (5 + f.size) left)) ++ bytes2 count) (length left) h)
+    match_missing h = sym (opened ∙ number_missing numbers (distances_of (run_of (drop next left)) ++ bytes2 count) (length left) h)
 
     module _ (h : 2 ≤ length numbers) where
       pub match_differs : (pair_at numbers 0 ≡ length left → ⊥) → false ≡ same_bytes all (distances_of (run_of body) ++ bytes2 count)
       match_differs ne =
-          let rest : List ℕ = distances_of (run_of (drop (5 + f.size) left)) ++ bytes2 count in
+          let rest : List ℕ = distances_of (run_of (drop next left)) ++ bytes2 count in
           sym (opened ∙ number_first numbers rest (length left) w.below w.small h
           ∙ ap (λ b. pick b (same_bytes (drop 2 numbers) rest) false) (ne_eqb (pair_at numbers 0) (length left) ne))
 
-      pub match_next : pair_at numbers 0 ≡ length left → Matching all body count (drop 2 numbers) (drop (5 + f.size) left)
+      pub match_next : pair_at numbers 0 ≡ length left → Matching all body count (drop 2 numbers) (drop next left)
       match_next q =
-          let rest : List ℕ = distances_of (run_of (drop (5 + f.size) left)) ++ bytes2 count in
-          let x : Step left f = step left f w.stands e in
+          let rest : List ℕ = distances_of (run_of (drop next left)) ++ bytes2 count in
           record {
             below = λ k. rw (get_or-drop 2 numbers k 0) (w.below (2 + k));
-            small = omega (arith, length-drop (5 + f.size) left, w.small);
+            small = omega (arith, length-drop next left, w.small);
             stands = x.stands;
             same =
                 opened ∙ number_first numbers rest (length left) w.below w.small h
                 ∙ ap (λ b. pick b (same_bytes (drop 2 numbers) rest) false) (eq-eqb (pair_at numbers 0) (length left) q);
           }
 
-  module _ (e : front_of left ≡ None) where
+  module _ (e : length left < 5) where
     last : same_bytes all (distances_of (run_of body) ++ bytes2 count) ≡ same_bytes numbers (bytes2 count ++ [])
     last = w.same ∙ ap (λ l. same_bytes numbers (l ++ bytes2 count)) (none_left left e)
 
@@ -284,15 +282,14 @@ put_begun o body count out stands many small room e =
     }
 
 module _ (o body : List ℕ) (count : ℕ) (out left : List ℕ) (place : ℕ) (w : Putting o body count out left place) where
-  pub put_next : (f : Found) → front_of left ≡ Some f → (next : List ℕ) → next ≡ laid_within out place (bytes2 (length left))
-      → Putting o body count next (drop (5 + f.size) left) (place + 2)
-  put_next f e next g =
-      let x : Step left f = step left f w.stands e in
-      let rest : List ℕ = distances_of (run_of (drop (5 + f.size) left)) in
+  pub put_next : (next : ℕ) → Step left next → (laid : List ℕ) → laid ≡ laid_within out place (bytes2 (length left))
+      → Putting o body count laid (drop next left) (place + 2)
+  put_next next x laid g =
+      let rest : List ℕ = distances_of (run_of (drop next left)) in
       let fits : place + 2 ≤ length out = omega (arith, w.room, w.as_long) in
-      let h : next ≡ laid_over out place (bytes2 (length left)) = g ∙ laid_within_lem out place (bytes2 (length left)) fits in
+      let h : laid ≡ laid_over out place (bytes2 (length left)) = g ∙ laid_within_lem out place (bytes2 (length left)) fits in
       record {
-        small = omega (arith, length-drop (5 + f.size) left, w.small);
+        small = omega (arith, length-drop next left, w.small);
         as_long = ap length h ∙ length_laid out place (bytes2 (length left)) fits ∙ w.as_long;
         stands = x.stands;
         room = omega (arith, w.room, x.many);
@@ -302,7 +299,7 @@ module _ (o body : List ℕ) (count : ℕ) (out left : List ℕ) (place : ℕ) (
             ∙ w.laid;
       }
 
-  pub put_done : front_of left ≡ None → laid_within out place (bytes2 count) ≡ laid_over o 0 (trailer_of (run_of body))
+  pub put_done : length left < 5 → laid_within out place (bytes2 count) ≡ laid_over o 0 (trailer_of (run_of body))
   put_done e =
       laid_within_lem out place (bytes2 count) (omega (arith, w.room, w.as_long))
       ∙ ap (λ l. laid_over out place (l ++ bytes2 count)) (sym (none_left left e)) ∙ w.laid

@@ -25,7 +25,7 @@ pub fn report_at(file: &[u8], at: usize) -> Option<Found>
 }
 
 // The whole report at the front.
-pub(crate) fn front(part: &[u8]) -> Option<Found>
+fn front(part: &[u8]) -> Option<Found>
     ensures exact { result ≡ front_of part.now }
     ensures stands { Standing part.now result }
 {

@@ -1,12 +1,12 @@
 // The trailer behind a run of whole reports: an opening byte D2, for each report its distance back
 // from there, and the count.
-ghost use Rattle.std.specs.Prelude.{◌≡◌, ◌++◌, ◌+◌, ◌*◌, ◌≤◌, ◌<◌, length, take};
+ghost use Rattle.std.specs.Prelude.{◌≡◌, ◌++◌, ◌+◌, ◌*◌, ◌≤◌, ◌<◌, length, take, MatchOption};
 ghost use Rattle.digest.specs.Bytes.{bytes2, laid_over};
 ghost use Rattle.digest.specs.Mac.{same_bytes};
 ghost use Rattle.dayfile.specs.File.{body_of, distances_of, file_of, trailer_of};
-ghost use Rattle.dayfile.specs.Runs.{run_of, RunStands};
+ghost use Rattle.dayfile.specs.Runs.{pair_at, run_of, RunStands};
 
-use crate::report::{HEAD, front};
+use crate::report::HEAD;
 use crate::run::Run;
 use digest::put;
 
@@ -36,20 +36,30 @@ fn numbers_stand(numbers: &[u8], body: &[u8], count: usize) -> bool
 {
     let mut left = body;
     let mut rest = numbers;
-    while let Some(found) = front(left) {
+    while let Some(next) = next_in(left) {
         let Some((distance, behind)) = rest.split_first_chunk() else {
             return false;
         };
         if usize::from(u16::from_be_bytes(*distance)) != left.len() {
             return false;
         }
-        left = &left[HEAD + found.size..];
+        left = &left[next..];
         rest = behind;
     }
     let [c0, c1] = rest else {
         return false;
     };
     usize::from(u16::from_be_bytes([*c0, *c1])) == count
+}
+
+// Where the next of the reports begins: the head of the first tells its size, and they are whole.
+fn next_in(reports: &[u8]) -> Option<usize>
+    ensures { MatchOption result (length reports.now < 5) (λ next. (5 ≤ length reports.now) × (next ≡ 5 + pair_at reports.now 3)) }
+{
+    let [_, _, _, s0, s1, ..] = reports else {
+        return None;
+    };
+    Some(HEAD + usize::from(u16::from_be_bytes([*s0, *s1])))
 }
 
 // Puts the trailer behind the run, which stands in front of its place.
@@ -74,10 +84,10 @@ fn put_at_front(out: &mut [u8], body: &[u8], count: usize)
     put(out, 0, &[TRAILER]);
     let mut place = 1;
     let mut left = body;
-    while let Some(found) = front(left) {
+    while let Some(next) = next_in(left) {
         put(out, place, &(left.len() as u16).to_be_bytes());
         place += 2;
-        left = &left[HEAD + found.size..];
+        left = &left[next..];
     }
     put(out, place, &(count as u16).to_be_bytes());
 }

@@ -3,8 +3,8 @@ use lib.ListN.{length}
 use Rattle.dayfile.proofs.Trailing.{Matching}
 use Rattle.dayfile.proofs.trailer.numbers_stand.Given as goal
 
-abbrev pub invariant-loop-found : goal.invariant-loop-found
-invariant-loop-found l = Matching l.numbers l.body l.count l.rest l.left
+abbrev pub invariant-loop-next : goal.invariant-loop-next
+invariant-loop-next l = Matching l.numbers l.body l.count l.rest l.left
 
-abbrev pub decreases-loop-found : goal.decreases-loop-found
-decreases-loop-found l = length l.left
+abbrev pub decreases-loop-next : goal.decreases-loop-next
+decreases-loop-next l = length l.left

@@ -3,8 +3,8 @@ use lib.ListN.{length}
 use Rattle.dayfile.proofs.Trailing.{Putting}
 use Rattle.dayfile.proofs.trailer.put_at_front.Given as goal
 
-abbrev pub invariant-loop-found : goal.invariant-loop-found
-invariant-loop-found l = Putting l.fn.out l.body l.count l.out l.left l.place
+abbrev pub invariant-loop-next : goal.invariant-loop-next
+invariant-loop-next l = Putting l.fn.out l.body l.count l.out l.left l.place
 
-abbrev pub decreases-loop-found : goal.decreases-loop-found
-decreases-loop-found l = length l.left
+abbrev pub decreases-loop-next : goal.decreases-loop-next
+decreases-loop-next l = length l.left
