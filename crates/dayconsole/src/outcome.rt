@@ -2,7 +2,7 @@
 use crate::hand::{Hand, Ran};
 use dayfile::mend::Mended;
 use dayfile::refusal::{Refusal, number};
-use dayfile::report::{Found, report_at};
+use dayfile::report::report_at;
 use lines::text::{put, put_hex, put_number};
 
 // A line that is no call changes nothing.
@@ -70,10 +70,10 @@ pub fn put_reports(file: &[u8], count: usize, text: &mut [u8], at: usize) -> usi
     let mut i: usize = 0;
     while i < count {
         match report_at(file, from) {
-            Found::Nothing => return end,
-            Found::Whole(number, size) => {
-                end = put_report(file, from, number, size, text, end);
-                from = next(from, size);
+            None => return end,
+            Some(found) => {
+                end = put_report(file, from, found.number, found.size, text, end);
+                from = next(from, found.size);
             }
         }
         i += 1;

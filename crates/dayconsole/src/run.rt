@@ -5,9 +5,9 @@ use crate::call::{Call, call_of};
 use crate::hand::{Hand, Ran};
 use crate::outcome;
 use crate::outcome::{bad_line, went};
-use dayfile::mend::{Mending, mend_file};
-use dayfile::read::{Reading, read_file};
-use dayfile::write::{Writing, write_file};
+use dayfile::mend::mend_file;
+use dayfile::read::read_file;
+use dayfile::write::write_file;
 use lines::hex::put_bytes;
 use lines::number::{number, room};
 use lines::words::word;
@@ -112,8 +112,8 @@ fn run_write(
         &bytes[..used],
         &mut out[..size],
     ) {
-        Writing::Refused(refusal) => outcome::refused(hand, b"write", refusal, text, at),
-        Writing::Written(written) => {
+        Err(refusal) => outcome::refused(hand, b"write", refusal, text, at),
+        Ok(written) => {
             let end = lines::text::put(text, at, b"write ok\n");
             let end = outcome::put_out(out, written, text, end);
             outcome::state_line(hand, text, end)
@@ -125,8 +125,8 @@ fn run_read(hand: Hand, text: &mut [u8], at: usize, file: &[u8]) -> Ran {
     let size = least(hand.file, file.len(), file.len());
     let whole = &file[..size];
     match read_file(whole) {
-        Reading::Refused(refusal) => outcome::refused(hand, b"read", refusal, text, at),
-        Reading::Reports(count) => {
+        Err(refusal) => outcome::refused(hand, b"read", refusal, text, at),
+        Ok(count) => {
             let end = lines::text::put(text, at, b"read ok\n");
             let end = outcome::put_reports(whole, count, text, end);
             outcome::state_line(hand, text, end)
@@ -145,8 +145,8 @@ fn run_mend(
     let have = least(hand.file, file.len(), file.len());
     let size = room(word(line, 1), out);
     match mend_file(&file[..have], &mut out[..size]) {
-        Mending::Refused(refusal) => outcome::refused(hand, b"mend", refusal, text, at),
-        Mending::Done(said) => {
+        Err(refusal) => outcome::refused(hand, b"mend", refusal, text, at),
+        Ok(said) => {
             let end = outcome::put_mended(said, text, at);
             let written = outcome::mended_size(said, have);
             let end = outcome::put_out(out, written, text, end);

@@ -29,9 +29,6 @@ use Rattle.dayfile.proofs.Running.{run_append, run_stop, run_next, run_sound}
 use Rattle.dayfile.proofs.Trailing.{length_file}
 use Rattle.dayfile.proofs.Looking.{read_long, read_is, read_many, read_not}
 
-falsehood : {A : Type 0} → ◌≡◌ {A = ℕ} 0 1 → A
-falsehood e = absurd (omega arith)
-
 -- ---- files and runs
 
 trailer_stops : (l : List Report) → run_of (trailer_of l) ≡ []
@@ -84,8 +81,8 @@ pub read_whole : (b : List ℕ) (l : List Report) → read_of b ≡ reports l �
 read_whole b l e = told (read_case b)
   where
     told : ReadCase b → (l ≡ run_of b) × (length (run_of b) ≤ 4096) × (file_of (run_of b) ≡ b) × (length b ≤ 65536)
-    told (too_long h g) = falsehood (cc)
-    told (no_file h k g) = falsehood (cc)
+    told (too_long h g) = absurd (cc)
+    told (no_file h k g) = absurd (cc)
     told (a_file h k f g) = (inner l (run_of b) (sym e ∙ g), k, f, h)
 
 pub only_files : OnlyFiles
@@ -98,7 +95,7 @@ pub found_in_order : FoundInOrder
 found_in_order =
     record {
       whole = λ b l e. (read_whole b l e).0;
-      next = λ b at n z e. run_next (drop at b) n z e ∙ ap (λ s. found_in (drop at b) n z ∷ run_of s) (drop-drop (5 + z) at b);
+      next = λ b at f e. run_next (drop at b) f e ∙ ap (λ s. found_in (drop at b) f ∷ run_of s) (drop-drop (5 + f.size) at b);
       last = λ b at e. run_stop (drop at b) e;
     }
 
@@ -108,19 +105,19 @@ reading_exactly b below =
       twenty_four = (λ e. long_told (read_case b) e, λ h. read_long b h);
       twenty_five = (λ e. none_told (read_case b) e, λ w. not_told (read_case b) w.0 w.1);
       read = λ l. (λ e. only_files b below l e, λ w. ap read_of (sym w.1) ∙ reads_back l w.0);
-      no_sixteen = λ e. never Argument (read_case b) e (λ o. falsehood (cc)) (λ o. falsehood (cc));
-      no_six = λ e. never Room (read_case b) e (λ o. falsehood (cc)) (λ o. falsehood (cc));
+      no_sixteen = λ e. never Argument (read_case b) e (λ o. absurd (cc)) (λ o. absurd (cc));
+      no_six = λ e. never Room (read_case b) e (λ o. absurd (cc)) (λ o. absurd (cc));
     }
   where
     long_told : ReadCase b → read_of b ≡ reading.refused Limit → 65536 < length b
     long_told (too_long h g) e = h
-    long_told (no_file h k g) e = falsehood (cc)
-    long_told (a_file h k f g) e = falsehood (cc)
+    long_told (no_file h k g) e = absurd (cc)
+    long_told (a_file h k f g) e = absurd (cc)
 
     none_told : ReadCase b → read_of b ≡ reading.refused NoFile → (length b ≤ 65536) × ((l : List Report) → Writable l → file_of l ≡ b → ⊥)
-    none_told (too_long h g) e = falsehood (cc)
-    none_told (no_file h k g) e = (h, λ l w f. falsehood (let r : read_of b ≡ reports l = ap read_of (sym f) ∙ reads_back l w in cc))
-    none_told (a_file h k f g) e = falsehood (cc)
+    none_told (too_long h g) e = absurd (cc)
+    none_told (no_file h k g) e = (h, λ l w f. absurd (let r : read_of b ≡ reports l = ap read_of (sym f) ∙ reads_back l w in cc))
+    none_told (a_file h k f g) e = absurd (cc)
 
     not_told : ReadCase b → length b ≤ 65536 → ((l : List Report) → Writable l → file_of l ≡ b → ⊥) → read_of b ≡ reading.refused NoFile
     not_told (too_long h g) k not_so = absurd (omega arith)
@@ -131,7 +128,7 @@ reading_exactly b below =
     never : (r : Refusal) → ReadCase b → read_of b ≡ reading.refused r → (r ≡ Limit → ⊥) → (r ≡ NoFile → ⊥) → ⊥
     never r (too_long h g) e x y = x (cc)
     never r (no_file h k g) e x y = y (cc)
-    never r (a_file h k f g) e x y = falsehood (cc)
+    never r (a_file h k f g) e x y = absurd (cc)
 
 -- ---- what writing gives
 
@@ -142,21 +139,21 @@ sized_told (r ∷ l) e (empty h) = told (is_sized (length r.bytes)) refl e
   where
     told : (t : Bool) → is_sized (length r.bytes) ≡ t → pick t (all_sized l) false ≡ true → ⊥
     told true p q = let w = sized_is (length r.bytes) p in omega (arith, w.0)
-    told false p q = falsehood (let z : false ≡ true = q in cc)
+    told false p q = absurd (let z : false ≡ true = q in cc)
 sized_told (r ∷ l) e (long h) = told (is_sized (length r.bytes)) refl e
   where
     told : (t : Bool) → is_sized (length r.bytes) ≡ t → pick t (all_sized l) false ≡ true → ⊥
     told true p q = let w = sized_is (length r.bytes) p in omega (arith, w.1)
-    told false p q = falsehood (let z : false ≡ true = q in cc)
+    told false p q = absurd (let z : false ≡ true = q in cc)
 sized_told (r ∷ l) e (later u) = told (is_sized (length r.bytes)) e (λ q. sized_told l q u)
   where
     told : (t : Bool) → pick t (all_sized l) false ≡ true → (all_sized l ≡ true → ⊥) → ⊥
     told true q rest = rest q
-    told false q rest = falsehood (let z : false ≡ true = q in cc)
+    told false q rest = absurd (let z : false ≡ true = q in cc)
 
 unsized_told : (l : List Report) → all_sized l ≡ false → Unsized l
 unfolding all_sized
-unsized_told [] e = falsehood (let z : true ≡ false = e in cc)
+unsized_told [] e = absurd (let z : true ≡ false = e in cc)
 unsized_told (r ∷ l) e = told (ltb (length r.bytes) 1) (ltb 1400 (length r.bytes)) refl refl e (λ q. unsized_told l q)
   where
     told : (x y : Bool) → ltb (length r.bytes) 1 ≡ x → ltb 1400 (length r.bytes) ≡ y
@@ -199,9 +196,9 @@ writing_exactly l room =
   where
     is_unsized : WriteCase l room → write_of l room ≡ refused Argument → Unsized l
     is_unsized (unsized u g) e = u
-    is_unsized (over n k g) e = falsehood (cc)
-    is_unsized (narrow n a b d g) e = falsehood (cc)
-    is_unsized (fits n a b d g) e = falsehood (cc)
+    is_unsized (over n k g) e = absurd (cc)
+    is_unsized (narrow n a b d g) e = absurd (cc)
+    is_unsized (fits n a b d g) e = absurd (cc)
 
     of_unsized : WriteCase l room → Unsized l → write_of l room ≡ refused Argument
     of_unsized (unsized u g) v = g
@@ -210,10 +207,10 @@ writing_exactly l room =
     of_unsized (fits n a b d g) v = absurd (n v)
 
     is_over : WriteCase l room → write_of l room ≡ refused Limit → (Unsized l → ⊥) × ((4096 < length l) ⊎ (65536 < length (file_of l)))
-    is_over (unsized u g) e = falsehood (cc)
+    is_over (unsized u g) e = absurd (cc)
     is_over (over n k g) e = (n, k)
-    is_over (narrow n a b d g) e = falsehood (cc)
-    is_over (fits n a b d g) e = falsehood (cc)
+    is_over (narrow n a b d g) e = absurd (cc)
+    is_over (fits n a b d g) e = absurd (cc)
 
     of_over : WriteCase l room → (Unsized l → ⊥) → (4096 < length l) ⊎ (65536 < length (file_of l)) → write_of l room ≡ refused Limit
     of_over (unsized u g) not_so k = absurd (not_so u)
@@ -222,10 +219,10 @@ writing_exactly l room =
     of_over (fits n a b d g) not_so m = ⊎_elim (λ x. absurd (omega arith)) (λ x. absurd (omega arith)) m
 
     is_narrow : WriteCase l room → write_of l room ≡ refused Room → (Unsized l → ⊥) × (length l ≤ 4096) × (length (file_of l) ≤ 65536) × (room < length (file_of l))
-    is_narrow (unsized u g) e = falsehood (cc)
-    is_narrow (over n k g) e = falsehood (cc)
+    is_narrow (unsized u g) e = absurd (cc)
+    is_narrow (over n k g) e = absurd (cc)
     is_narrow (narrow n a b d g) e = (n, a, b, d)
-    is_narrow (fits n a b d g) e = falsehood (cc)
+    is_narrow (fits n a b d g) e = absurd (cc)
 
     of_narrow : WriteCase l room → (Unsized l → ⊥) → length l ≤ 4096 → length (file_of l) ≤ 65536 → room < length (file_of l) → write_of l room ≡ refused Room
     of_narrow (unsized u g) not_so a b d = absurd (not_so u)
@@ -234,9 +231,9 @@ writing_exactly l room =
     of_narrow (fits n x y z g) not_so a b d = absurd (omega arith)
 
     is_file : WriteCase l room → (f : List ℕ) → write_of l room ≡ file f → (Unsized l → ⊥) × (length l ≤ 4096) × (length (file_of l) ≤ 65536) × (length (file_of l) ≤ room) × (f ≡ file_of l)
-    is_file (unsized u g) f e = falsehood (cc)
-    is_file (over n k g) f e = falsehood (cc)
-    is_file (narrow n a b d g) f e = falsehood (cc)
+    is_file (unsized u g) f e = absurd (cc)
+    is_file (over n k g) f e = absurd (cc)
+    is_file (narrow n a b d g) f e = absurd (cc)
     is_file (fits n a b d g) f e = (n, a, b, d, file_inner f (file_of l) (sym e ∙ g))
 
     of_file : WriteCase l room → (Unsized l → ⊥) → length l ≤ 4096 → length (file_of l) ≤ 65536 → length (file_of l) ≤ room → write_of l room ≡ file (file_of l)
@@ -246,10 +243,10 @@ writing_exactly l room =
     of_file (fits n x y z g) not_so a b d = g
 
     no_file : WriteCase l room → write_of l room ≡ refused NoFile → ⊥
-    no_file (unsized u g) e = falsehood (cc)
-    no_file (over n k g) e = falsehood (cc)
-    no_file (narrow n a b d g) e = falsehood (cc)
-    no_file (fits n a b d g) e = falsehood (cc)
+    no_file (unsized u g) e = absurd (cc)
+    no_file (over n k g) e = absurd (cc)
+    no_file (narrow n a b d g) e = absurd (cc)
+    no_file (fits n a b d g) e = absurd (cc)
 
 pub refused_writes_nothing : RefusedWritesNothing
 refused_writes_nothing out w r e = ap (left_by out) e
@@ -272,7 +269,7 @@ lent_tests ns ss b e = told (eqb (length ns) (length ss)) refl e
   where
     told : (t : Bool) → eqb (length ns) (length ss) ≡ t → pick t (eqb (sum_of ss) (length b)) false ≡ true → (length ns ≡ length ss) × (sum_of ss ≡ length b)
     told true p q = (eqb-true (length ns) (length ss) p, eqb-true (sum_of ss) (length b) q)
-    told false p q = falsehood (let z : false ≡ true = q in cc)
+    told false p q = absurd (let z : false ≡ true = q in cc)
 
 pub lendable : (l : List Report) → Lendable l
 unfolding is_list list_of sum_of

@@ -16,7 +16,7 @@ use Rattle.digest.specs.Pick.{pick}
 use Rattle.digest.specs.Bytes.{bytes2}
 use Rattle.digest.specs.Mac.{same_bytes}
 use Rattle.digest.proofs.Same.{equal_same, same_equal}
-use Rattle.dayfile.specs.File.{Report, report_of, body_of, distances_of, trailer_of, file_of, Sound, none, more}
+use Rattle.dayfile.specs.File.{Report, report_of, body_of, distances_of, trailer_of, file_of, is_within, Sound, none, more}
 use Rattle.dayfile.specs.Runs.{front_of, run_of}
 use Rattle.dayfile.specs.Reading.{read_of}
 use Rattle.dayfile.specs.Claims.{AreBytes}
@@ -26,15 +26,12 @@ use Rattle.dayfile.specs.declared.refusal.Refusal.{Refusal}
 use Rattle.dayfile.specs.declared.refusal.Refusal.TheVariants.{Limit, Room}
 use Rattle.dayfile.specs.declared.mend.Mended.{Mended}
 use Rattle.dayfile.specs.declared.report.Found.{Found}
-use Rattle.dayfile.specs.declared.report.Found.TheVariants.{Whole, Nothing}
-use Rattle.dayfile.proofs.Fronts.{FrontIs, front_is, other_nothing, length_report, report_front}
+use Rattle.std.specs.Prelude.{Option, Some, None}
+use Rattle.dayfile.proofs.Fronts.{FrontIs, front_is, other_nothing, length_report, told_of, report_front}
 use Rattle.dayfile.proofs.Running.{run_append, run_stop, run_none, run_sound, run_front}
-use Rattle.dayfile.proofs.Trailing.{length_file}
-use Rattle.dayfile.proofs.Mendings.{mend_long, mend_many, mend_wide, mend_narrow, mend_done}
+use Rattle.dayfile.proofs.Trailing.{length_file, within_is, within_not, within_yes}
+use Rattle.dayfile.proofs.Mendings.{mend_long, mend_over, mend_narrow, mend_done}
 use Rattle.dayfile.proofs.Claimed.{reads_back, read_whole}
-
-falsehood : {A : Type 0} → ◌≡◌ {A = ℕ} 0 1 → A
-falsehood e = absurd (omega arith)
 
 -- ---- what mending gives, by its tests
 
@@ -45,18 +42,15 @@ data MendCase (b : List ℕ) (room : ℕ) : Type 0 where
 
 mend_case : (b : List ℕ) (room : ℕ) → MendCase b room
 mend_case b room =
-    by_cases (dec_le (length b) 65536)
-    (λ h.
-    by_cases (dec_le (length (run_of b)) 4096)
-    (λ k.
-    by_cases (dec_le (length (file_of (run_of b))) 65536)
-    (λ m.
-    by_cases (dec_le (length (file_of (run_of b))) room)
-    (λ n. done h k m n (mend_done b room h k m n))
-    (λ n. let less : room < length (file_of (run_of b)) = omega arith in narrow h k m less (mend_narrow b room h k m less)))
-    (λ m. let wide : 65536 < length (file_of (run_of b)) = omega arith in over (inr (inr wide)) (mend_wide b room h k wide)))
-    (λ k. let many : 4096 < length (run_of b) = omega arith in over (inr (inl many)) (mend_many b room h many)))
+    by_cases (dec_le (length b) 65536) (told (is_within (run_of b)) refl)
     (λ h. let long : 65536 < length b = omega arith in over (inl long) (mend_long b room long))
+  where
+    told : (t : Bool) → is_within (run_of b) ≡ t → length b ≤ 65536 → MendCase b room
+    told true e h =
+        let w = within_is (run_of b) e in
+        by_cases (dec_le (length (file_of (run_of b))) room) (λ n. done h w.0 w.1 n (mend_done b room h e n))
+        (λ n. let less : room < length (file_of (run_of b)) = omega arith in narrow h w.0 w.1 less (mend_narrow b room h e less))
+    told false e h = over (inr (within_not (run_of b) e)) (mend_over b room h e)
 
 same_file : (f g : List ℕ) (s t : Mended) → mended f s ≡ mended g t → f ≡ g
 same_file f g s t e = cc
@@ -74,8 +68,8 @@ is_done : (b : List ℕ) (room : ℕ) (f : List ℕ) (said : Mended) → mend_of
 is_done b room f said e = told (mend_case b room)
   where
     told : MendCase b room → Done b f said
-    told (over k g) = falsehood (cc)
-    told (narrow h k m n g) = falsehood (cc)
+    told (over k g) = absurd (cc)
+    told (narrow h k m n g) = absurd (cc)
     told (done h k m n g) =
         record { file = same_file f (file_of (run_of b)) said (said_of b) (sym e ∙ g); what = same_said f (file_of (run_of b)) said (said_of b) (sym e ∙ g); few = k; short = m }
 
@@ -95,7 +89,7 @@ sound_unchanged b l room e h =
     let size : length b ≡ length (body_of (run_of b)) + (3 + 2 * length (run_of b)) = ap length (sym f) ∙ length_file (run_of b) in
     let after : length b - length (body_of (run_of b)) ≡ 3 + 2 * length l = omega arith in
     let same : same_bytes b (file_of (run_of b)) ≡ true = equal_same b (file_of (run_of b)) (sym f) in
-    mend_done b room w.3 w.1 (omega (arith, ap length f, w.3)) (omega (arith, ap length f))
+    mend_done b room w.3 (within_yes (run_of b) w.1 (omega (arith, ap length f, w.3))) (omega (arith, ap length f))
     ∙ (λ i. mended (f i) (record { kept = many i; after = after i; changed = not (same i) }))
 
 pub changed_exactly : ChangedExactly
@@ -109,7 +103,7 @@ changed_exactly b room f said e =
   where
     unsaid : (t : Bool) → not t ≡ false → t ≡ true
     unsaid true q = refl
-    unsaid false q = falsehood (let z : true ≡ false = q in cc)
+    unsaid false q = absurd (let z : true ≡ false = q in cc)
 
 pub longest : (b : List ℕ) → AreBytes b → Longest b
 longest b below = record { whole = run_sound b below; there = run_front b below; all = λ m rest s e. ap run_of e ∙ run_append m rest s }
@@ -133,21 +127,21 @@ ends_none at cut (r ∷ l) h =
 
 -- a report that the cut passes is not whole
 cut_nothing : (r : Report) (rest : List ℕ) (k : ℕ) → length r.bytes ≤ 1400 → 1 ≤ length r.bytes → r.number < 65536
-    → k < 5 + length r.bytes → front_of (take k (report_of r ++ rest)) ≡ Nothing
+    → k < 5 + length r.bytes → front_of (take k (report_of r ++ rest)) ≡ None
 cut_nothing r rest k small some numbered h = told (front_of (take k s)) refl
   where
     s : List ℕ
     s = report_of r ++ rest
 
-    told : (f : Found) → front_of (take k s) ≡ f → front_of (take k s) ≡ Nothing
-    told Nothing e = e
-    told (Whole n z) e =
-        let f : FrontIs (take k s) n z = front_is (take k s) n z e in
-        let g : FrontIs s r.number (length r.bytes) = report_front r rest some small numbered in
-        let in_cut : 5 + z ≤ k = omega (arith, f.inside, length-take k s) in
+    told : (front : Option Found) → front_of (take k s) ≡ front → front_of (take k s) ≡ None
+    told None e = e
+    told (Some f) e =
+        let w : FrontIs (take k s) f = front_is (take k s) f e in
+        let g : FrontIs s (told_of r) = report_front r rest some small numbered in
+        let in_cut : 5 + f.size ≤ k = omega (arith, w.inside, length-take k s) in
         let three : get_or (take k s) 3 0 ≡ get_or s 3 0 = get_or-take k s 3 0 (omega arith) in
         let four : get_or (take k s) 4 0 ≡ get_or s 4 0 = get_or-take k s 4 0 (omega arith) in
-        let size : z ≡ length r.bytes = f.sized ∙ (λ i. three i * 256 + four i) ∙ sym g.sized in
+        let size : f.size ≡ length r.bytes = w.sized ∙ (λ i. three i * 256 + four i) ∙ sym g.sized in
         absurd (omega arith)
 
 trailer_nothing : (l : List Report) (k : ℕ) → run_of (take k (trailer_of l)) ≡ []
@@ -228,8 +222,8 @@ cut_never_24 l cut room w e = told (mend_case b room)
     told (over k g) =
         ⊎_elim (λ x. omega (arith, w.short, length-take cut (file_of l)))
         (λ y. ⊎_elim (λ x. omega (arith, w.few, few)) (λ x. omega (arith, w.short, few, body, length_file (run_of b), length_file l)) y) k
-    told (narrow h k m n g) = falsehood (cc)
-    told (done h k m n g) = falsehood (cc)
+    told (narrow h k m n g) = absurd (cc)
+    told (done h k m n g) = absurd (cc)
 
 -- ---- the refusals
 
@@ -243,8 +237,8 @@ mending_exactly b room =
   where
     is_over : MendCase b room → mend_of b room ≡ refused Limit → (65536 < length b) ⊎ ((4096 < length (run_of b)) ⊎ (65536 < length (file_of (run_of b))))
     is_over (over k g) e = k
-    is_over (narrow h k m n g) e = falsehood (cc)
-    is_over (done h k m n g) e = falsehood (cc)
+    is_over (narrow h k m n g) e = absurd (cc)
+    is_over (done h k m n g) e = absurd (cc)
 
     of_over : MendCase b room → (65536 < length b) ⊎ ((4096 < length (run_of b)) ⊎ (65536 < length (file_of (run_of b)))) → mend_of b room ≡ refused Limit
     of_over (over k g) x = g
@@ -252,9 +246,9 @@ mending_exactly b room =
     of_over (done h k m n g) x = ⊎_elim (λ y. absurd (omega arith)) (λ y. ⊎_elim (λ z. absurd (omega arith)) (λ z. absurd (omega arith)) y) x
 
     is_narrow : MendCase b room → mend_of b room ≡ refused Room → (length b ≤ 65536) × (length (run_of b) ≤ 4096) × (length (file_of (run_of b)) ≤ 65536) × (room < length (file_of (run_of b)))
-    is_narrow (over k g) e = falsehood (cc)
+    is_narrow (over k g) e = absurd (cc)
     is_narrow (narrow h k m n g) e = (h, k, m, n)
-    is_narrow (done h k m n g) e = falsehood (cc)
+    is_narrow (done h k m n g) e = absurd (cc)
 
     of_narrow : MendCase b room → length b ≤ 65536 → length (run_of b) ≤ 4096 → length (file_of (run_of b)) ≤ 65536 → room < length (file_of (run_of b)) → mend_of b room ≡ refused Room
     of_narrow (over x g) h k m n = ⊎_elim (λ y. absurd (omega arith)) (λ y. ⊎_elim (λ z. absurd (omega arith)) (λ z. absurd (omega arith)) y) x
@@ -264,7 +258,7 @@ mending_exactly b room =
     other : MendCase b room → (r : Refusal) → mend_of b room ≡ refused r → (r ≡ Limit) ⊎ (r ≡ Room)
     other (over k g) r e = inl (cc)
     other (narrow h k m n g) r e = inr (cc)
-    other (done h k m n g) r e = falsehood (cc)
+    other (done h k m n g) r e = absurd (cc)
 
 pub refused_mends_nothing : RefusedMendsNothing
 refused_mends_nothing out m r e = ap (mend_left out) e

@@ -1,27 +1,29 @@
 -- The trailer, compared and written. The idea: both loops pass over the reports that stand before the trailer, and what
--- is left to compare or to write belongs to the reports that are left (`rest_of`); one report more moves both one on
--- (`part_step`, for both loops).
-use mathlib.Core.Path.{◌≡◌, refl, sym, ◌∙◌, ap}
-use mathlib.Core.Bool.{false, ◌&&◌}
+-- is left to compare or to write belongs to the reports that are left; the distance of the first of them is the length of
+-- what is left (`distances_next`, for both loops).
+use mathlib.Core.Path.{◌≡◌, refl, sym, ◌∙◌, ap, subst}
+use mathlib.Core.Bool.{Bool, true, false, ◌&&◌}
 use mathlib.Core.List.{List, [], ◌∷◌, ◌++◌, append_assoc}
-use mathlib.Core.Logic.{by_cases}
-use Prim.Native.Nat.{ℕ, suc, ◌+◌, ◌-◌, ◌*◌, ◌/◌, ◌%◌, ◌≤◌, ◌<◌}
+use mathlib.Core.Logic.{◌⊎◌, inl, inr, by_cases}
+use Prim.Native.Nat.{ℕ, ◌+◌, ◌-◌, ◌*◌, ◌/◌, ◌%◌, ◌≤◌, ◌<◌}
 use native.Mathlib.Omega.{arith}
-use native.Mathlib.Numerals.{add-one}
+use native.Mathlib.Decide.{ℕ_discrete, dec_le}
 use native.Mathlib.Nat.{zero-add}
-use lib.ListN.{length, get_or, take, drop, set, length-set, length-append, length-drop, length-take, take-append-drop, drop_of_length-le}
-use lib.Seq.{length-take-le, take_all, take-set-le, take-take, drop-drop, drop-cons, get_or-drop, get_or-take, get_or_at}
-use lib.Dec.{eqb}
-use borrow.Author.Tests.{eq-eqb, ne_eqb}
-use Rattle.digest.specs.Bytes.{bytes2, laid_over}
+use lib.ListN.{length, get_or, take, drop, length-append, length-drop, take-append-drop, drop_of_length-le}
+use lib.Seq.{length-take-le, take_all, drop-drop, get_or-drop, get_or-take}
+use lib.Dec.{eqb, leb}
+use borrow.Author.Tests.{eq-eqb, ne_eqb, le-leb, lt-leb, leb-true}
+use Rattle.digest.specs.Pick.{pick}
+use Rattle.digest.specs.Bytes.{bytes2, laid_over, laid_within}
 use Rattle.digest.specs.Mac.{same_bytes}
-use Rattle.digest.proofs.Same.{equal_same, differ_same}
+use Rattle.digest.proofs.Same.{differ_same}
 use Rattle.digest.proofs.Lay.{length_laid}
-use Rattle.dayfile.specs.File.{Report, report_of, body_of, distances_of, trailer_of, file_of, Sound}
-use Rattle.dayfile.specs.Runs.{run_of, RunStands, found_in}
-use Rattle.dayfile.proofs.Laying.{pair_back, bytes2_of, laid_append, laid_before, laid_one, laid_at_front}
-use Rattle.dayfile.proofs.Fronts.{length_report}
-use Rattle.dayfile.proofs.Running.{Begins, begins, run_none, run_body, run_sound}
+use Rattle.dayfile.specs.File.{Report, report_of, body_of, distances_of, trailer_of, file_of, is_within, Sound}
+use Rattle.dayfile.specs.Runs.{pair_at, run_of, counted, RunStands}
+use Rattle.dayfile.specs.declared.run.Run.{Run}
+use Rattle.dayfile.proofs.Laying.{pair_back, bytes2_of, laid_append, laid_at_front, laid_within_lem}
+use Rattle.dayfile.proofs.Fronts.{short_nothing, length_report}
+use Rattle.dayfile.proofs.Running.{Begins, begins, run_stop, run_body, run_sound}
 
 -- ---- sizes
 
@@ -38,6 +40,53 @@ pub length_file : (l : List Report) → length (file_of l) ≡ length (body_of l
 unfolding file_of
 length_file l = length-append (body_of l) (trailer_of l) ∙ ap (λ n. length (body_of l) + n) (length_trailer l)
 
+-- the limits of a list, as one test
+pub within_yes : (l : List Report) → length l ≤ 4096 → length (file_of l) ≤ 65536 → is_within l ≡ true
+unfolding is_within
+within_yes l h k = rw (le-leb (length l) 4096 h, le-leb (length (file_of l)) 65536 k)
+
+pub within_is : (l : List Report) → is_within l ≡ true → (length l ≤ 4096) × (length (file_of l) ≤ 65536)
+unfolding is_within
+within_is l e = told (leb (length l) 4096) (leb (length (file_of l)) 65536) refl refl e
+  where
+    told : (x y : Bool) → leb (length l) 4096 ≡ x → leb (length (file_of l)) 65536 ≡ y → pick x y false ≡ true → (length l ≤ 4096) × (length (file_of l) ≤ 65536)
+    told true true p q w = (leb-true (length l) 4096 p, leb-true (length (file_of l)) 65536 q)
+    told true false p q w = absurd (cc)
+    told false y p q w = absurd (cc)
+
+pub within_not : (l : List Report) → is_within l ≡ false → (4096 < length l) ⊎ (65536 < length (file_of l))
+within_not l e =
+    by_cases (dec_le (length l) 4096)
+    (λ h.
+    by_cases (dec_le (length (file_of l)) 65536)
+    (λ k. let w : true ≡ false = sym (within_yes l h k) ∙ e in absurd (cc)) (λ k. inr (omega arith)))
+    (λ h. inl (omega arith))
+
+pub over_many : (l : List Report) → 4096 < length l → is_within l ≡ false
+unfolding is_within
+over_many l h = rw (lt-leb (length l) 4096 h)
+
+pub over_long : (l : List Report) → length l ≤ 4096 → 65536 < length (file_of l) → is_within l ≡ false
+unfolding is_within
+over_long l h k = rw (le-leb (length l) 4096 h, lt-leb (length (file_of l)) 65536 k)
+
+-- the same of a run, which the code tests
+module _ (run : Run) (l : List Report) (c : run ≡ counted l) where
+  pub run_size : run.end + (3 + 2 * run.count) ≡ length (file_of l)
+  run_size = (λ i. (c i).end + (3 + 2 * (c i).count)) ∙ sym (length_file l)
+
+  many_in : run.count ≡ length l
+  many_in = ap (λ r. r.count) c
+
+  pub few_within : run.count ≤ 4096 → leb run.end (65536 - (3 + 2 * run.count)) ≡ is_within l
+  few_within few =
+      by_cases (dec_le run.end (65536 - (3 + 2 * run.count)))
+      (λ h. le-leb run.end (65536 - (3 + 2 * run.count)) h ∙ sym (within_yes l (omega (arith, many_in)) (omega (arith, run_size))))
+      (λ h. lt-leb run.end (65536 - (3 + 2 * run.count)) (omega arith) ∙ sym (over_long l (omega (arith, many_in)) (omega (arith, run_size))))
+
+  pub many_within : 4096 < run.count → leb run.count 4096 ≡ is_within l
+  many_within many = lt-leb run.count 4096 many ∙ sym (over_many l (omega (arith, many_in)))
+
 -- a report has more than one byte
 pub few_in : (l : List Report) → length l ≤ length (body_of l)
 unfolding body_of
@@ -51,281 +100,252 @@ unfolding same_bytes
 same_front [] s t = refl
 same_front (x ∷ a) s t = ap (λ b. b && same_bytes (a ++ s) (a ++ t)) (eq-eqb x x refl) ∙ same_front a s t
 
-pair_yes : (x y n : ℕ) (s t : List ℕ) → x < 256 → y < 256 → x * 256 + y ≡ n → same_bytes (x ∷ y ∷ s) (bytes2 n ++ t) ≡ same_bytes s t
-pair_yes x y n s t h k e =
-    ap (λ l. same_bytes (x ∷ y ∷ s) (l ++ t)) (ap bytes2 (sym e) ∙ bytes2_of x y h k) ∙ same_front (x ∷ y ∷ []) s t
-
-pair_no : (x y n : ℕ) (s t : List ℕ) → n < 65536 → (x * 256 + y ≡ n → ⊥) → same_bytes (x ∷ y ∷ s) (bytes2 n ++ t) ≡ false
-pair_no x y n s t h ne =
-    differ_same (x ∷ y ∷ s) (bytes2 n ++ t)
+-- the number that two bytes spell is compared, and then what stands behind them
+pub number_first : (n t : List ℕ) (k : ℕ) → ((i : ℕ) → get_or n i 0 < 256) → k < 65536 → 2 ≤ length n
+    → same_bytes n (bytes2 k ++ t) ≡ pick (eqb (pair_at n 0) k) (same_bytes (drop 2 n) t) false
+number_first [] t k below h m = absurd (omega arith)
+number_first (x ∷ []) t k below h m = absurd (omega arith)
+number_first (x ∷ y ∷ s) t k below h m =
+    by_cases (ℕ_discrete (x * 256 + y) k)
     (λ e.
-    let p : x ≡ n / 256 % 256 = ap (λ l. get_or l 0 0) e in
-    let q : y ≡ n % 256 = ap (λ l. get_or l 1 0) e in
-    ne ((λ i. p i * 256 + q i) ∙ pair_back n h))
+    ap (λ l. same_bytes (x ∷ y ∷ s) (l ++ t)) (ap bytes2 (sym e) ∙ bytes2_of x y (below 0) (below 1))
+    ∙ same_front (x ∷ y ∷ []) s t
+    ∙ sym (ap (λ b. pick b (same_bytes s t) false) (eq-eqb (x * 256 + y) k e)))
+    (λ ne.
+    differ_same (x ∷ y ∷ s) (bytes2 k ++ t)
+    (λ e.
+    let p : x ≡ k / 256 % 256 = ap (λ l. get_or l 0 0) e in
+    let q : y ≡ k % 256 = ap (λ l. get_or l 1 0) e in
+    ne ((λ i. p i * 256 + q i) ∙ pair_back k h))
+    ∙ sym (ap (λ b. pick b (same_bytes s t) false) (ne_eqb (x * 256 + y) k ne)))
 
-two_first : (b : List ℕ) (at : ℕ) → at + 2 ≤ length b → drop at b ≡ get_or b at 0 ∷ get_or b (at + 1) 0 ∷ drop (at + 2) b
-two_first b at h =
-    let one : suc at ≡ at + 1 = sym (add-one at) in
-    let two : suc (at + 1) ≡ at + 2 = omega arith in
-    drop-cons b at 0 (omega arith)
-    ∙ ap (λ n. get_or b at 0 ∷ drop n b) one
-    ∙ ap (λ l. get_or b at 0 ∷ l) (drop-cons b (at + 1) 0 (omega arith) ∙ ap (λ n. get_or b (at + 1) 0 ∷ drop n b) two)
+pub pair_first : (n d : List ℕ) → d ≡ take 2 n → get_or d 0 0 * 256 + get_or d 1 0 ≡ pair_at n 0
+pair_first n d e =
+    (λ i. get_or (e i) 0 0 * 256 + get_or (e i) 1 0)
+    ∙ (λ i. get_or-take 2 n 0 0 (omega arith) i * 256 + get_or-take 2 n 1 0 (omega arith) i)
+
+-- too few bytes for a number
+pub number_missing : (n t : List ℕ) (k : ℕ) → length n < 2 → same_bytes n (bytes2 k ++ t) ≡ false
+number_missing n t k h = differ_same n (bytes2 k ++ t) (λ e. absurd (omega (arith, ap length e)))
 
 -- ---- the reports that are left
 
--- what stands from `at` on before the end
-abbrev pub rest_of : List ℕ → ℕ → ℕ → List ℕ
-rest_of b end at = drop at (take end b)
-
-pub record PartStep (b : List ℕ) (end at : ℕ) : Type 0 where
-  pub size : ℕ
-  pub report : Report
-  pub spelled : get_or b (at + 3) 0 * 256 + get_or b (at + 4) 0 ≡ size
-  pub inside : at + (5 + size) ≤ end
-  pub next : run_of (rest_of b end at) ≡ report ∷ run_of (rest_of b end (at + (5 + size)))
-  pub stands : body_of (run_of (rest_of b end (at + (5 + size)))) ≡ rest_of b end (at + (5 + size))
-  pub distances : distances_of (run_of (rest_of b end at)) ≡ bytes2 (end - at) ++ distances_of (run_of (rest_of b end (at + (5 + size))))
-
-byte_in : (b : List ℕ) (end at k : ℕ) → at + k < end → get_or (rest_of b end at) k 0 ≡ get_or b (at + k) 0
-byte_in b end at k h = get_or-drop at (take end b) k 0 ∙ get_or-take end b (at + k) 0 h
+-- the first of the reports that are left ends where its head tells; its distance is the length of all that is left
+pub record Step (s : List ℕ) (next : ℕ) : Type 0 where
+  pub some : 5 ≤ next
+  pub inside : next ≤ length s
+  pub many : length (run_of s) ≡ 1 + length (run_of (drop next s))
+  pub stands : body_of (run_of (drop next s)) ≡ drop next s
+  pub distances : distances_of (run_of s) ≡ bytes2 (length s) ++ distances_of (run_of (drop next s))
 
 distances_next : (l m : List Report) (r : Report) → l ≡ r ∷ m → distances_of l ≡ bytes2 (length (body_of l)) ++ distances_of m
 unfolding distances_of
 distances_next l m r e = ap distances_of e ∙ ap (λ x. bytes2 (length (body_of x)) ++ distances_of m) (sym e)
 
-pub part_step : (b : List ℕ) (end at : ℕ) → at < end → end ≤ length b → body_of (run_of (rest_of b end at)) ≡ rest_of b end at → PartStep b end at
-part_step b end at h k e =
-    let s : List ℕ = rest_of b end at in
-    let long : length s ≡ end - at = length-drop at (take end b) ∙ ap (λ n. n - at) (length-take-le end b k) in
-    let w : Begins s = begins s e (omega arith) in
-    let z : ℕ = w.size in
-    let inside : at + (5 + z) ≤ end = omega (arith, w.front.inside) in
-    let three : get_or s 3 0 ≡ get_or b (at + 3) 0 = byte_in b end at 3 (omega arith) in
-    let four : get_or s 4 0 ≡ get_or b (at + 4) 0 = byte_in b end at 4 (omega arith) in
-    let on : drop (5 + z) s ≡ rest_of b end (at + (5 + z)) = drop-drop (5 + z) at (take end b) in
-    let next : run_of s ≡ found_in s w.number z ∷ run_of (rest_of b end (at + (5 + z)))
-    = w.next ∙ ap (λ t. found_in s w.number z ∷ run_of t) on in
-    record {
-      size = z;
-      report = found_in s w.number z;
-      spelled = (λ i. sym three i * 256 + sym four i) ∙ sym w.front.sized;
-      inside = inside;
-      next = next;
-      stands = ap (λ t. body_of (run_of t)) (sym on) ∙ w.stands ∙ on;
+pub step : (s : List ℕ) (next : ℕ) → body_of (run_of s) ≡ s → 5 ≤ length s → next ≡ 5 + pair_at s 3 → Step s next
+step s next e h told =
+    let z : ℕ = pair_at s 3 in
+    let w : Begins s z = begins s e (omega arith) in
+    let first : Step s (5 + z) = record {
+      some = omega arith;
+      inside = w.inside;
+      many = omega (arith, ap length w.next);
+      stands = w.stands;
       distances =
-          distances_next (run_of s) (run_of (rest_of b end (at + (5 + z)))) (found_in s w.number z) next
-          ∙ ap (λ n. bytes2 n ++ distances_of (run_of (rest_of b end (at + (5 + z))))) (ap length e ∙ long);
-    }
+          distances_next (run_of s) (run_of (drop (5 + z) s)) w.report w.next
+          ∙ ap (λ n. bytes2 n ++ distances_of (run_of (drop (5 + z) s))) (ap length e);
+    } in
+    subst (Step s) (sym told) first
 
--- at the end no report is left
-pub rest_none : (b : List ℕ) (end at : ℕ) → end ≤ at → run_of (rest_of b end at) ≡ []
-rest_none b end at h =
-    let short : length (take end b) ≤ at = omega (arith, length-take end b) in
-    ap run_of (drop_of_length-le (take end b) short) ∙ run_none
+-- where none is left, no distance is
+pub none_left : (s : List ℕ) → length s < 5 → distances_of (run_of s) ≡ []
+unfolding distances_of
+none_left s h = ap distances_of (run_stop s (short_nothing s h))
 
--- ---- the trailer that is compared
+-- ---- the numbers that are compared: `numbers` and `left` are left of all the numbers and of the body
 
-pub record Matching (b : List ℕ) (count end at place : ℕ) : Type 0 where
-  pub small : length b ≤ 65536
-  pub behind : end < place
-  pub stands : body_of (run_of (rest_of b end at)) ≡ rest_of b end at
-  pub long : length b ≡ place + (2 * length (run_of (rest_of b end at)) + 2)
-  pub few : end + 2 * count < 65536
-  pub same : same_bytes b (file_of (run_of b)) ≡ same_bytes (drop place b) (distances_of (run_of (rest_of b end at)) ++ bytes2 count)
+pub record Matching (all body : List ℕ) (count : ℕ) (numbers left : List ℕ) : Type 0 where
+  pub below : (k : ℕ) → get_or numbers k 0 < 256
+  pub small : length left < 65536
+  pub stands : body_of (run_of left) ≡ left
+  pub same : same_bytes all (distances_of (run_of body) ++ bytes2 count) ≡ same_bytes numbers (distances_of (run_of left) ++ bytes2 count)
 
-module _ (b : List ℕ) (count end : ℕ) (w : RunStands b count end) where
-  run_length : length (body_of (run_of b)) ≡ end
-  run_length = ap length w.stands ∙ length-take-le end b w.inside
-
-  pub file_length : length (file_of (run_of b)) ≡ end + (3 + 2 * count)
-  file_length = length_file (run_of b) ∙ (λ i. run_length i + (3 + 2 * sym w.many i))
-
-  pub other_length : (length b - end ≡ 3 + 2 * count → ⊥) → false ≡ same_bytes b (file_of (run_of b))
-  other_length h = sym (differ_same b (file_of (run_of b)) (λ e. h (omega (arith, ap length e, file_length, w.inside))))
-
-  pub other_opening : (get_or b end 0 ≡ 210 → ⊥) → false ≡ same_bytes b (file_of (run_of b))
-  unfolding file_of trailer_of
-  other_opening h =
-      sym (differ_same b (file_of (run_of b))
-      (λ e. h (ap (λ l. get_or l end 0) e ∙ get_or_at (body_of (run_of b)) 210 (distances_of (run_of b) ++ bytes2 (length (run_of b))) 0 end run_length)))
-
-  again : ((k : ℕ) → get_or b k 0 < 256) → run_of (take end b) ≡ run_of b
-  again below = ap run_of (sym w.stands) ∙ run_body (run_of b) (run_sound b below)
-
-  pub match_begun : ((k : ℕ) → get_or b k 0 < 256) → length b ≤ 65536 → length b - end ≡ 3 + 2 * count → get_or b end 0 ≡ 210
-      → Matching b count end 0 (end + 1)
-  unfolding file_of trailer_of
-  match_begun below small e opening =
-      let many : length (run_of (take end b)) ≡ count = ap length (again below) ∙ sym w.many in
-      let inside : end < length b = omega arith in
-      let tail : drop end b ≡ 210 ∷ drop (end + 1) b
-      = drop-cons b end 0 inside ∙ (λ i. opening i ∷ drop (sym (add-one end) i) b) in
-      record {
-        small = small;
-        behind = omega arith;
-        stands = ap body_of (again below) ∙ w.stands;
-        long = omega (arith, w.inside);
-        few = omega (arith, w.inside);
-        same =
-            ap (λ s. same_bytes s (file_of (run_of b))) (sym (take-append-drop end b) ∙ (λ i. sym w.stands i ++ tail i))
-            ∙ same_front (body_of (run_of b)) (210 ∷ drop (end + 1) b) (trailer_of (run_of b))
-            ∙ same_front (210 ∷ []) (drop (end + 1) b) (distances_of (run_of b) ++ bytes2 (length (run_of b)))
-            ∙ (λ i. same_bytes (drop (end + 1) b) (distances_of (sym (again below) i) ++ bytes2 (sym w.many i)));
-      }
-
-module _ (b : List ℕ) (count end at place : ℕ) (w : Matching b count end at place) where
-  module _ (h : at < end) where
-    pub step : PartStep b end at
-    step = part_step b end at h (omega (arith, w.behind, w.long)) w.stands
-
-    pub pair_there : place + 2 + 2 ≤ length b
-    pair_there = omega (arith, w.long, ap length step.next)
-
-    opened : same_bytes b (file_of (run_of b))
-        ≡ same_bytes (get_or b place 0 ∷ get_or b (place + 1) 0 ∷ drop (place + 2) b)
-        (bytes2 (end - at) ++ (distances_of (run_of (rest_of b end (at + (5 + step.size)))) ++ bytes2 count))
+module _ (all body : List ℕ) (count : ℕ) (numbers left : List ℕ) (w : Matching all body count numbers left) where
+  module _ (next : ℕ) (x : Step left next) where
+    opened : same_bytes all (distances_of (run_of body) ++ bytes2 count)
+        ≡ same_bytes numbers (bytes2 (length left) ++ (distances_of (run_of (drop next left)) ++ bytes2 count))
     opened =
-        w.same
-        ∙ (λ i. same_bytes (two_first b place (omega (arith, pair_there)) i) (step.distances i ++ bytes2 count))
-        ∙ ap (same_bytes (get_or b place 0 ∷ get_or b (place + 1) 0 ∷ drop (place + 2) b))
-        (append_assoc (bytes2 (end - at)) (distances_of (run_of (rest_of b end (at + (5 + step.size))))) (bytes2 count))
+        w.same ∙ ap (same_bytes numbers)
+        (ap (λ l. l ++ bytes2 count) x.distances ∙ append_assoc (bytes2 (length left)) (distances_of (run_of (drop next left))) (bytes2 count))
 
-    pub match_next : ((k : ℕ) → get_or b k 0 < 256) → get_or b place 0 * 256 + get_or b (place + 1) 0 ≡ end - at
-        → Matching b count end (at + (5 + step.size)) (place + 2)
-    match_next below e =
-        record {
-          small = w.small;
-          behind = omega (arith, w.behind);
-          stands = step.stands;
-          long = omega (arith, w.long, ap length step.next);
-          few = w.few;
-          same =
-              opened
-              ∙ pair_yes (get_or b place 0) (get_or b (place + 1) 0) (end - at) (drop (place + 2) b)
-              (distances_of (run_of (rest_of b end (at + (5 + step.size)))) ++ bytes2 count) (below place) (below (place + 1)) e;
-        }
+    pub match_missing : length numbers < 2 → false ≡ same_bytes all (distances_of (run_of body) ++ bytes2 count)
+    match_missing h = sym (opened ∙ number_missing numbers (distances_of (run_of (drop next left)) ++ bytes2 count) (length left) h)
 
-    pub match_differs : (get_or b place 0 * 256 + get_or b (place + 1) 0 ≡ end - at → ⊥) → false ≡ same_bytes b (file_of (run_of b))
-    match_differs ne =
-        sym (opened
-        ∙ pair_no (get_or b place 0) (get_or b (place + 1) 0) (end - at) (drop (place + 2) b)
-        (distances_of (run_of (rest_of b end (at + (5 + step.size)))) ++ bytes2 count) (omega (arith, w.few)) ne)
+    module _ (h : 2 ≤ length numbers) where
+      pub match_differs : (pair_at numbers 0 ≡ length left → ⊥) → false ≡ same_bytes all (distances_of (run_of body) ++ bytes2 count)
+      match_differs ne =
+          let rest : List ℕ = distances_of (run_of (drop next left)) ++ bytes2 count in
+          sym (opened ∙ number_first numbers rest (length left) w.below w.small h
+          ∙ ap (λ b. pick b (same_bytes (drop 2 numbers) rest) false) (ne_eqb (pair_at numbers 0) (length left) ne))
 
-  module _ (h : end ≤ at) where
-    pub last_there : length b ≡ place + 2
-    last_there = omega (arith, w.long, ap length (rest_none b end at h))
-
-    last : same_bytes b (file_of (run_of b)) ≡ same_bytes (get_or b place 0 ∷ get_or b (place + 1) 0 ∷ []) (bytes2 count ++ [])
-    unfolding distances_of
-    last =
-        let gone : length b ≤ place + 2 = omega (arith, last_there) in
-        w.same
-        ∙ (λ i. same_bytes (drop place b) (distances_of (rest_none b end at h i) ++ bytes2 count))
-        ∙ ap (λ l. same_bytes l (bytes2 count))
-        (two_first b place (omega (arith, last_there))
-        ∙ ap (λ l. get_or b place 0 ∷ get_or b (place + 1) 0 ∷ l) (drop_of_length-le b gone))
-
-    pub match_done : ((k : ℕ) → get_or b k 0 < 256) → eqb (get_or b place 0 * 256 + get_or b (place + 1) 0) count ≡ same_bytes b (file_of (run_of b))
-    match_done below =
-        let n : ℕ = get_or b place 0 * 256 + get_or b (place + 1) 0 in
-        by_cases (native.Mathlib.Decide.ℕ_discrete n count)
-        (λ e. eq-eqb n count e ∙ sym (last ∙ pair_yes (get_or b place 0) (get_or b (place + 1) 0) count [] [] (below place) (below (place + 1)) e ∙ equal_same [] [] refl))
-        (λ ne. ne_eqb n count ne ∙ sym (last ∙ pair_no (get_or b place 0) (get_or b (place + 1) 0) count [] [] (omega (arith, w.few)) ne))
-
--- ---- the trailer that is written: o as it is where the loop begins, `out` as it is now
-
-pub record Putting (o : List ℕ) (count end : ℕ) (out : List ℕ) (at place : ℕ) : Type 0 where
-  pub behind : end < place
-  pub as_long : length out ≡ length o
-  pub front : take end out ≡ take end o
-  pub stands : body_of (run_of (rest_of o end at)) ≡ rest_of o end at
-  pub room : place + (2 * length (run_of (rest_of o end at)) + 2) ≤ length o
-  pub left : laid_over out place (distances_of (run_of (rest_of o end at)) ++ bytes2 count) ≡ laid_over o (end + 1) (distances_of (run_of (take end o)) ++ bytes2 count)
-
-pub put_begun : (d o : List ℕ) (count end : ℕ) → o ≡ set d end 210 → RunStands (take end d) count end → end + (3 + 2 * count) ≤ length d → Putting o count end o 0 (end + 1)
-put_begun d o count end e w h =
-    let same : take end o ≡ take end d = ap (take end) e ∙ take-set-le end d end 210 (omega arith) in
-    record {
-      behind = omega arith;
-      as_long = refl;
-      front = refl;
-      stands = ap (λ t. body_of (run_of t)) same ∙ w.stands ∙ take-take end end d (omega arith) ∙ sym same;
-      room = omega (arith, w.many, ap (λ t. length (run_of t)) same, ap length e ∙ length-set d end 210);
-      left = refl;
-    }
-
-module _ (o : List ℕ) (count end : ℕ) (out : List ℕ) (at place : ℕ) (w : Putting o count end out at place) where
-  module _ (h : at < end) where
-    pub put_step : PartStep o end at
-    put_step = part_step o end at h (omega (arith, w.behind, w.room)) w.stands
-
-    pub put_there : place + 2 + 2 ≤ length out
-    put_there = omega (arith, w.room, w.as_long, ap length put_step.next)
-
-    module _ (next : List ℕ) (e : next ≡ laid_over out place (bytes2 (end - at))) where
-      next_front : take end next ≡ take end o
-      next_front =
-          ap (take end) e
-          ∙ laid_before out end place (bytes2 (end - at)) (omega (arith, w.behind)) (omega (arith, put_there)) ∙ w.front
-
-      -- the size of the report is still there to be read
-      pub still : (k : ℕ) → at + k < end → get_or next (at + k) 0 ≡ get_or o (at + k) 0
-      still k m =
-          sym (get_or-take end next (at + k) 0 m) ∙ ap (λ l. get_or l (at + k) 0) next_front ∙ get_or-take end o (at + k) 0 m
-
-      pub still_spelled : get_or next (at + 3) 0 * 256 + get_or next (at + 4) 0 ≡ put_step.size
-      still_spelled =
-          (λ i. still 3 (omega (arith, put_step.inside)) i * 256 + still 4 (omega (arith, put_step.inside)) i) ∙ put_step.spelled
-
-      pub put_next : Putting o count end next (at + (5 + put_step.size)) (place + 2)
-      put_next =
-          let rest : List ℕ = distances_of (run_of (rest_of o end (at + (5 + put_step.size)))) in
+      pub match_next : pair_at numbers 0 ≡ length left → Matching all body count (drop 2 numbers) (drop next left)
+      match_next q =
+          let rest : List ℕ = distances_of (run_of (drop next left)) ++ bytes2 count in
           record {
-            behind = omega (arith, w.behind);
-            as_long = ap length e ∙ length_laid out place (bytes2 (end - at)) (omega (arith, put_there)) ∙ w.as_long;
-            front = next_front;
-            stands = put_step.stands;
-            room = omega (arith, w.room, ap length put_step.next);
-            left =
-                ap (λ l. laid_over l (place + 2) (rest ++ bytes2 count)) e
-                ∙ sym (laid_append out place (bytes2 (end - at)) (rest ++ bytes2 count) (omega (arith, put_there)))
-                ∙ ap (laid_over out place) (sym (append_assoc (bytes2 (end - at)) rest (bytes2 count)) ∙ ap (λ l. l ++ bytes2 count) (sym put_step.distances))
-                ∙ w.left;
+            below = λ k. rw (get_or-drop 2 numbers k 0) (w.below (2 + k));
+            small = omega (arith, length-drop next left, w.small);
+            stands = x.stands;
+            same =
+                opened ∙ number_first numbers rest (length left) w.below w.small h
+                ∙ ap (λ b. pick b (same_bytes (drop 2 numbers) rest) false) (eq-eqb (pair_at numbers 0) (length left) q);
           }
 
-  pub put_done : (d : List ℕ) → o ≡ set d end 210 → count ≡ length (run_of (take end d)) → end + 1 ≤ length d → end ≤ at
-      → laid_over out place (bytes2 count) ≡ laid_over d end (trailer_of (run_of (take end d)))
-  unfolding distances_of trailer_of
-  put_done d e many room h =
-      let same : take end o ≡ take end d = ap (take end) e ∙ take-set-le end d end 210 (omega arith) in
-      let l : List Report = run_of (take end d) in
-      ap (λ l. laid_over out place (distances_of l ++ bytes2 count)) (sym (rest_none o end at h))
-      ∙ w.left
-      ∙ (λ i. laid_over ((e ∙ laid_one d end 210 room) i) (end + 1) (distances_of (run_of (same i)) ++ bytes2 (many i)))
-      ∙ sym (laid_append d end (210 ∷ []) (distances_of l ++ bytes2 (length l)) room)
+  module _ (e : length left < 5) where
+    last : same_bytes all (distances_of (run_of body) ++ bytes2 count) ≡ same_bytes numbers (bytes2 count ++ [])
+    last = w.same ∙ ap (λ l. same_bytes numbers (l ++ bytes2 count)) (none_left left e)
+
+    pub match_not_one : (length numbers ≡ 2 → ⊥) → false ≡ same_bytes all (distances_of (run_of body) ++ bytes2 count)
+    match_not_one ne = sym (last ∙ differ_same numbers (bytes2 count) (λ q. ne (ap length q)))
+
+    pub match_done : count < 65536 → length numbers ≡ 2
+        → eqb (pair_at numbers 0) count ≡ same_bytes all (distances_of (run_of body) ++ bytes2 count)
+    unfolding same_bytes
+    match_done few h =
+        sym (last ∙ number_first numbers [] count w.below few (omega arith)
+        ∙ ap (λ l. pick (eqb (pair_at numbers 0) count) (same_bytes l []) false) (gone numbers (omega arith))
+        ∙ either (eqb (pair_at numbers 0) count))
+      where
+        gone : (n : List ℕ) → length n ≤ 2 → drop 2 n ≡ []
+        gone n k = drop_of_length-le n k
+
+        either : (b : Bool) → pick b (same_bytes [] []) false ≡ b
+        either true = refl
+        either false = refl
+
+-- ---- a file compared with that of its run
+
+-- bytes that begin with D2
+pub opened_first : (s : List ℕ) → 1 ≤ length s → get_or s 0 0 ≡ 210 → s ≡ 210 ∷ drop 1 s
+opened_first [] h e = absurd (omega arith)
+opened_first (x ∷ s) h e = ap (λ y. y ∷ s) e
+
+module _ (b : List ℕ) (run : Run) (w : RunStands b run) where
+  abbrev end : ℕ
+  end = run.end
+
+  pub run_length : length (body_of (run_of b)) ≡ end
+  run_length = ap length w.stands ∙ length-take-le end b w.inside
+
+  pub again : ((k : ℕ) → get_or b k 0 < 256) → run_of (take end b) ≡ run_of b
+  again below = ap run_of (sym w.stands) ∙ run_body (run_of b) (run_sound b below)
+
+  behind : same_bytes b (file_of (run_of b)) ≡ same_bytes (drop end b) (trailer_of (run_of b))
+  unfolding file_of
+  behind =
+      ap (λ s. same_bytes s (file_of (run_of b))) (sym (take-append-drop end b) ∙ ap (λ s. s ++ drop end b) (sym w.stands))
+      ∙ same_front (body_of (run_of b)) (drop end b) (trailer_of (run_of b))
+
+  -- another byte than D2, or none, stands behind the run
+  pub other_opening : ((rest : List ℕ) → drop end b ≡ 210 ∷ rest → ⊥) → false ≡ same_bytes b (file_of (run_of b))
+  unfolding trailer_of
+  other_opening ne = sym (behind ∙ differ_same (drop end b) (trailer_of (run_of b)) (λ e. ne (distances_of (run_of b) ++ bytes2 (length (run_of b))) e))
+
+  pub opening_there : ((k : ℕ) → get_or b k 0 < 256) → (rest : List ℕ) → drop end b ≡ 210 ∷ rest
+      → same_bytes rest (distances_of (run_of (take end b)) ++ bytes2 run.count) ≡ same_bytes b (file_of (run_of b))
+  unfolding trailer_of
+  opening_there below rest e =
+      sym (behind ∙ ap (λ s. same_bytes s (trailer_of (run_of b))) e
+      ∙ same_front (210 ∷ []) rest (distances_of (run_of b) ++ bytes2 (length (run_of b)))
+      ∙ (λ i. same_bytes rest (distances_of (sym (again below) i) ++ bytes2 (sym w.many i))))
+
+-- ---- the trailer that is written: o as it was lent, `out` as it is now
+
+pub record Putting (o body : List ℕ) (count : ℕ) (out left : List ℕ) (place : ℕ) : Type 0 where
+  pub small : length left < 65536
+  pub as_long : length out ≡ length o
+  pub stands : body_of (run_of left) ≡ left
+  pub room : place + (2 * length (run_of left) + 2) ≤ length o
+  pub laid : laid_over out place (distances_of (run_of left) ++ bytes2 count) ≡ laid_over o 0 (trailer_of (run_of body))
+
+pub put_begun : (o body : List ℕ) (count : ℕ) (out : List ℕ) → body_of (run_of body) ≡ body → count ≡ length (run_of body) → length body < 65536
+    → 3 + 2 * count ≤ length o → out ≡ laid_within o 0 (210 ∷ []) → Putting o body count out body 1
+unfolding trailer_of
+put_begun o body count out stands many small room e =
+    let f : out ≡ laid_over o 0 (210 ∷ []) = e ∙ laid_within_lem o 0 (210 ∷ []) (omega arith) in
+    record {
+      small = small;
+      as_long = ap length f ∙ length_laid o 0 (210 ∷ []) (omega arith);
+      stands = stands;
+      room = omega arith;
+      laid = (λ i. laid_over (f i) 1 (distances_of (run_of body) ++ bytes2 (many i)))
+          ∙ sym (laid_append o 0 (210 ∷ []) (distances_of (run_of body) ++ bytes2 (length (run_of body))) (omega arith));
+    }
+
+module _ (o body : List ℕ) (count : ℕ) (out left : List ℕ) (place : ℕ) (w : Putting o body count out left place) where
+  pub put_next : (next : ℕ) → Step left next → (laid : List ℕ) → laid ≡ laid_within out place (bytes2 (length left))
+      → Putting o body count laid (drop next left) (place + 2)
+  put_next next x laid g =
+      let rest : List ℕ = distances_of (run_of (drop next left)) in
+      let fits : place + 2 ≤ length out = omega (arith, w.room, w.as_long) in
+      let h : laid ≡ laid_over out place (bytes2 (length left)) = g ∙ laid_within_lem out place (bytes2 (length left)) fits in
+      record {
+        small = omega (arith, length-drop next left, w.small);
+        as_long = ap length h ∙ length_laid out place (bytes2 (length left)) fits ∙ w.as_long;
+        stands = x.stands;
+        room = omega (arith, w.room, x.many);
+        laid = ap (λ l. laid_over l (place + 2) (rest ++ bytes2 count)) h
+            ∙ sym (laid_append out place (bytes2 (length left)) (rest ++ bytes2 count) fits)
+            ∙ ap (laid_over out place) (sym (append_assoc (bytes2 (length left)) rest (bytes2 count)) ∙ ap (λ l. l ++ bytes2 count) (sym x.distances))
+            ∙ w.laid;
+      }
+
+  pub put_done : length left < 5 → laid_within out place (bytes2 count) ≡ laid_over o 0 (trailer_of (run_of body))
+  put_done e =
+      laid_within_lem out place (bytes2 count) (omega (arith, w.room, w.as_long))
+      ∙ ap (λ l. laid_over out place (l ++ bytes2 count)) (sym (none_left left e)) ∙ w.laid
 
 -- ---- the trailer behind a body that was laid at the front: the whole file
 
-pub count_in_lem : (b : List ℕ) (count end : ℕ) → RunStands b count end → count ≤ end
-count_in_lem b count end w = omega (arith, w.many, few_in (run_of b), ap length w.stands ∙ length-take-le end b w.inside)
+pub count_in_lem : (b : List ℕ) (run : Run) → RunStands b run → run.count ≤ run.end
+count_in_lem b run w = omega (arith, w.many, few_in (run_of b), run_length b run w)
 
-module _ (o out : List ℕ) (l : List Report) (count end : ℕ) (s : Sound l) (e : out ≡ laid_over o 0 (body_of l)) (many : length l ≡ count) (long : length (body_of l) ≡ end) where
-  body_there : take end out ≡ body_of l
-  body_there = ap (take end) e ∙ laid_at_front o (body_of l) end (sym long)
+-- what is laid at the front of the part behind a place is laid at that place
+pub laid_in_part : (d : List ℕ) (at : ℕ) (s : List ℕ) → take at d ++ laid_over (drop at d) 0 s ≡ laid_over d at s
+unfolding laid_over
+laid_in_part d at s =
+    let sum : at + (0 + length s) ≡ at + length s = omega arith in
+    let same : drop (0 + length s) (drop at d) ≡ drop (at + length s) d = drop-drop (0 + length s) at d ∙ ap (λ n. drop n d) sum in
+    (λ i. take at d ++ (s ++ same i)) ∙ sym (append_assoc (take at d) s (drop (at + length s) d))
 
-  body_run : run_of (take end out) ≡ l
+-- the run of a file that is put at the front of a room is its body there
+pub laid_run : (o b : List ℕ) (run : Run) → RunStands b run → (next : List ℕ) → run.end ≤ length o → next ≡ laid_within o 0 (take run.end b)
+    → next ≡ laid_over o 0 (body_of (run_of b))
+laid_run o b run w next room e =
+    e ∙ laid_within_lem o 0 (take run.end b) (omega (arith, length-take-le run.end b w.inside)) ∙ ap (laid_over o 0) (sym w.stands)
+
+module _ (o out : List ℕ) (l : List Report) (run : Run) (s : Sound l) (e : out ≡ laid_over o 0 (body_of l)) (c : run ≡ counted l) where
+  many : run.count ≡ length l
+  many = ap (λ r. r.count) c
+
+  long : run.end ≡ length (body_of l)
+  long = ap (λ r. r.end) c
+
+  body_there : take run.end out ≡ body_of l
+  body_there = ap (take run.end) e ∙ laid_at_front o (body_of l) run.end long
+
+  body_run : run_of (take run.end out) ≡ l
   body_run = ap run_of body_there ∙ run_body l s
 
-  pub laid_stands : RunStands (take end out) count end
+  pub laid_stands : RunStands (take run.end out) run
   laid_stands =
       record {
-        many = sym (ap length body_run ∙ many);
-        inside = omega (arith, ap length body_there);
-        stands = ap body_of body_run ∙ sym body_there ∙ sym (take_all end (take end out) (omega (arith, ap length body_there)));
+        many = many ∙ ap length (sym body_run);
+        inside = omega (arith, long, ap length body_there);
+        stands = ap body_of body_run ∙ sym body_there ∙ sym (take_all run.end (take run.end out) (omega (arith, long, ap length body_there)));
       }
 
-  pub laid_file : end ≤ length o → laid_over out end (trailer_of (run_of (take end out))) ≡ laid_over o 0 (file_of l)
+  pub laid_file : run.end ≤ length o → laid_over out run.end (trailer_of (run_of (take run.end out))) ≡ laid_over o 0 (file_of l)
   unfolding file_of
   laid_file room =
-      (λ i. laid_over (e i) ((sym long ∙ sym (zero-add (length (body_of l)))) i) (trailer_of (body_run i)))
+      (λ i. laid_over (e i) ((long ∙ sym (zero-add (length (body_of l)))) i) (trailer_of (body_run i)))
       ∙ sym (laid_append o 0 (body_of l) (trailer_of l) (omega (arith, long)))

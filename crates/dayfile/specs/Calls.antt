@@ -1,33 +1,22 @@
 -- The exported calls answer one number. Its upper 32 bits are the number of the refusal, 0 where the call is done; the lower
 -- 32 are what is told: how many bytes the file has, how many reports. A report is told by its number and its size, 16 bits
 -- each; where there is none, by 0.
-use Rattle.std.specs.Prelude.{Bool, true, false, ℕ, ◌+◌, ◌*◌}
+use Rattle.std.specs.Prelude.{Bool, true, false, ℕ, ◌+◌, ◌*◌, Option, Some, None, Result, Ok, Err}
 use Rattle.dayfile.specs.Writing.{refusal_number}
 use Rattle.dayfile.specs.declared.refusal.Refusal.{Refusal}
-use Rattle.dayfile.specs.declared.write.Writing.{Writing}
-use Rattle.dayfile.specs.declared.write.Writing.TheVariants as W
-use Rattle.dayfile.specs.declared.read.Reading.{Reading}
-use Rattle.dayfile.specs.declared.read.Reading.TheVariants as R
 use Rattle.dayfile.specs.declared.mend.Mended.{Mended}
-use Rattle.dayfile.specs.declared.mend.Mending.{Mending}
-use Rattle.dayfile.specs.declared.mend.Mending.TheVariants as M
 use Rattle.dayfile.specs.declared.report.Found.{Found}
-use Rattle.dayfile.specs.declared.report.Found.TheVariants.{Whole, Nothing}
 
 abbrev pub refused_result : Refusal → ℕ
 refused_result r = refusal_number r * 4294967296
 
-abbrev pub writing_result : Writing → ℕ
-writing_result (W.Written size) = size
-writing_result (W.Refused r) = refused_result r
+abbrev pub counted_result : Result ℕ Refusal → ℕ
+counted_result (Ok count) = count
+counted_result (Err r) = refused_result r
 
-abbrev pub reading_result : Reading → ℕ
-reading_result (R.Reports count) = count
-reading_result (R.Refused r) = refused_result r
-
-abbrev pub found_result : Found → ℕ
-found_result (Whole number size) = number * 65536 + size
-found_result Nothing = 0
+abbrev pub found_result : Option Found → ℕ
+found_result (Some found) = found.number * 65536 + found.size
+found_result None = 0
 
 -- Of a mended file: whether it changed (1 bit), how many reports were kept (14 bits), how many bytes stood after them (17).
 abbrev pub changed_bit : Bool → ℕ
@@ -37,6 +26,6 @@ changed_bit false = 0
 abbrev pub mended_result : Mended → ℕ
 mended_result said = changed_bit said.changed * 2147483648 + said.kept * 131072 + said.after
 
-abbrev pub mending_result : Mending → ℕ
-mending_result (M.Done said) = mended_result said
-mending_result (M.Refused r) = refused_result r
+abbrev pub mending_result : Result Mended Refusal → ℕ
+mending_result (Ok said) = mended_result said
+mending_result (Err r) = refused_result r

@@ -1,5 +1,5 @@
 -- What is claimed of the day file (02 P9), each claim under the sentence that it renders. `proofs/Claimed.antt` proves them.
-use Rattle.std.specs.Prelude.{◌≡◌, true, List, [], ◌∷◌, ◌⊎◌, ℕ, ◌+◌, ◌*◌, ◌≤◌, ◌<◌, length, get_or, drop}
+use Rattle.std.specs.Prelude.{◌≡◌, true, List, [], ◌∷◌, ◌⊎◌, ℕ, ◌+◌, ◌*◌, ◌≤◌, ◌<◌, length, get_or, drop, Some, None}
 use Rattle.dayfile.specs.File.{Report, file_of, Sound, Writable}
 use Rattle.dayfile.specs.Runs.{front_of, found_in, run_of}
 use Rattle.dayfile.specs.Lent.{is_list, list_of}
@@ -8,7 +8,7 @@ use Rattle.dayfile.specs.Reading.{Read, reports, read_of}
 use Rattle.dayfile.specs.Reading as reading
 use Rattle.dayfile.specs.declared.refusal.Refusal.{Refusal}
 use Rattle.dayfile.specs.declared.refusal.Refusal.TheVariants.{Argument, Limit, Room, NoFile}
-use Rattle.dayfile.specs.declared.report.Found.TheVariants.{Whole, Nothing}
+use Rattle.dayfile.specs.declared.report.Found.{Found}
 
 -- one holds if and only if the other does
 abbrev pub Exactly : Type 0 → Type 0 → Type 0
@@ -40,9 +40,9 @@ OnlyFiles = (b : List ℕ) → AreBytes b → (l : List Report) → read_of b �
 -- The reports of what reads are found one behind the other: the first at place 0, each next one behind the one before.
 pub record FoundInOrder : Type 0 where
   pub whole : (b : List ℕ) (l : List Report) → read_of b ≡ reports l → l ≡ run_of b
-  pub next : (b : List ℕ) (at number size : ℕ) → front_of (drop at b) ≡ Whole number size
-      → run_of (drop at b) ≡ found_in (drop at b) number size ∷ run_of (drop (at + (5 + size)) b)
-  pub last : (b : List ℕ) (at : ℕ) → front_of (drop at b) ≡ Nothing → run_of (drop at b) ≡ []
+  pub next : (b : List ℕ) (at : ℕ) (found : Found) → front_of (drop at b) ≡ Some found
+      → run_of (drop at b) ≡ found_in (drop at b) found ∷ run_of (drop (at + (5 + found.size)) b)
+  pub last : (b : List ℕ) (at : ℕ) → front_of (drop at b) ≡ None → run_of (drop at b) ≡ []
 
 -- ---- "Refusals: in writing 16 for a report not 1 to 1,400 bytes, then 24, too many or too long, given exactly then, then 6 for room"
 

@@ -2,7 +2,7 @@
 -- one report's behind the other's.
 use Rattle.std.specs.Prelude.{Bool, false, List, [], ◌∷◌, ℕ, ◌+◌, ◌-◌, length, take, drop, eqb, ltb}
 use Rattle.digest.specs.Pick.{pick}
-use Rattle.dayfile.specs.File.{Report}
+use Rattle.dayfile.specs.File.{Report, is_sized}
 
 unfoldable pub sum_of : List ℕ → ℕ
 sum_of [] = 0
@@ -22,5 +22,4 @@ list_of (n ∷ numbers) (s ∷ sizes) bytes =
 -- the same as the sizes tell it: each is 1 to 1,400, and they use up what is left of the bytes
 unfoldable pub are_sized : List ℕ → ℕ → Bool
 are_sized [] left = eqb left 0
-are_sized (s ∷ sizes) left =
-    pick (ltb s 1) false (pick (ltb 1400 s) false (pick (ltb left s) false (are_sized sizes (left - s))))
+are_sized (s ∷ sizes) left = pick (is_sized s) (pick (ltb left s) false (are_sized sizes (left - s))) false

@@ -1,7 +1,7 @@
 -- Mending a cut day file (02 P10). "A mending tool keeps the longest run of whole reports from the front, writes a new
 -- trailer and says how many reports it kept, how many bytes stood after them and whether the file changed. .. Refusals: 24
 -- if the file lent, or the file it would become, passes P9's limits, then 6 if the mended file does not fit the room."
-use Rattle.std.specs.Prelude.{not, List, ℕ, ◌-◌, length, ltb, leb}
+use Rattle.std.specs.Prelude.{not, List, ℕ, ◌-◌, length, ltb, leb, Result, Ok, Err}
 use Rattle.digest.specs.Pick.{pick}
 use Rattle.digest.specs.Bytes.{laid_over}
 use Rattle.digest.specs.Mac.{same_bytes}
@@ -10,8 +10,6 @@ use Rattle.dayfile.specs.Runs.{run_of}
 use Rattle.dayfile.specs.declared.refusal.Refusal.{Refusal}
 use Rattle.dayfile.specs.declared.refusal.Refusal.TheVariants.{Limit, Room}
 use Rattle.dayfile.specs.declared.mend.Mended.{Mended}
-use Rattle.dayfile.specs.declared.mend.Mending.{Mending}
-use Rattle.dayfile.specs.declared.mend.Mending.TheVariants as M
 
 -- what mending gives: the new file and what is said of it, or the refusal
 pub data Mend : Type 0 where
@@ -36,9 +34,9 @@ mend_of b room =
     (refused Limit))
 
 -- what is told of it
-abbrev pub mending_told : Mend → Mending
-mending_told (mended f said) = M.Done said
-mending_told (refused r) = M.Refused r
+abbrev pub mending_told : Mend → Result Mended Refusal
+mending_told (mended f said) = Ok said
+mending_told (refused r) = Err r
 
 -- what the lent room then holds: the new file from its front on, or what it held
 abbrev pub mend_left : List ℕ → Mend → List ℕ

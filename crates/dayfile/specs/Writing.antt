@@ -1,14 +1,12 @@
 -- Writing (02 P9): "Refusals: in writing 16 for a report not 1 to 1,400 bytes, then 24, too many or too long, given exactly
 -- then, then 6 for room". A refusal writes nothing.
-use Rattle.std.specs.Prelude.{List, ℕ, length, leb}
+use Rattle.std.specs.Prelude.{List, ℕ, length, leb, Result, Ok, Err}
 use Rattle.digest.specs.Pick.{pick}
 use Rattle.digest.specs.Bytes.{laid_over}
 use Rattle.dayfile.specs.File.{Report, file_of, all_sized, is_within}
 use Rattle.dayfile.specs.Lent.{is_list, list_of}
 use Rattle.dayfile.specs.declared.refusal.Refusal.{Refusal}
 use Rattle.dayfile.specs.declared.refusal.Refusal.TheVariants.{Argument, Limit, Room, NoFile}
-use Rattle.dayfile.specs.declared.write.Writing.{Writing}
-use Rattle.dayfile.specs.declared.write.Writing.TheVariants as W
 
 -- the number of a refusal
 abbrev pub refusal_number : Refusal → ℕ
@@ -35,9 +33,9 @@ write_lent numbers sizes bytes room =
     pick (is_list numbers sizes bytes) (write_of (list_of numbers sizes bytes) room) (refused Argument)
 
 -- what is told of it: how many bytes the file has
-abbrev pub writing_told : Written → Writing
-writing_told (file f) = W.Written (length f)
-writing_told (refused r) = W.Refused r
+abbrev pub writing_told : Written → Result ℕ Refusal
+writing_told (file f) = Ok (length f)
+writing_told (refused r) = Err r
 
 -- what the lent room then holds: the file from its front on, or what it held
 abbrev pub left_by : List ℕ → Written → List ℕ

@@ -8,8 +8,8 @@ ghost use Rattle.dayfile.specs.Runs.{front_of};
 ghost use Rattle.dayfile.specs.Writing.{write_lent, writing_told, left_by};
 ghost use Rattle.dayfile.specs.Reading.{read_of, reading_told};
 ghost use Rattle.dayfile.specs.Mending.{mend_of, mending_told, mend_left};
-ghost use Rattle.dayfile.specs.Calls.{refused_result, writing_result, reading_result, found_result};
-ghost use Rattle.dayfile.specs.Calls.{changed_bit, mended_result, mending_result};
+ghost use Rattle.dayfile.specs.Calls.{refused_result, counted_result, found_result};
+ghost use Rattle.dayfile.specs.Calls.{mended_result, mending_result};
 
 pub mod mend;
 pub mod read;
@@ -19,32 +19,26 @@ pub mod run;
 mod trailer;
 pub mod write;
 
-use mend::{Mended, Mending, mend_file};
-use read::{Reading, read_file};
-use refusal::{Refusal, number};
+use mend::{Mended, mend_file};
+use read::read_file;
+use refusal::Refusal;
 use report::{Found, report_at};
-use write::{Writing, write_file};
+use write::write_file;
 
 // The file of a list, at the front of `out`: report i has numbers[i], and the next sizes[i] of the
 // bytes. Answers how many bytes the file has. Refusals: 16, 24, 6.
 pub fn dayfile_write(numbers: &[u16], sizes: &[usize], bytes: &[u8], out: &mut [u8]) -> u64
-    ensures exact { result ≡ writing_result (writing_told (write_lent numbers.now sizes.now bytes.now (length out.old))) }
+    ensures exact { result ≡ counted_result (writing_told (write_lent numbers.now sizes.now bytes.now (length out.old))) }
     ensures bytes { out.new ≡ left_by out.old (write_lent numbers.now sizes.now bytes.now (length out.old)) }
 {
-    match write_file(numbers, sizes, bytes, out) {
-        Writing::Written(size) => size as u64,
-        Writing::Refused(refusal) => refused(refusal),
-    }
+    counted(write_file(numbers, sizes, bytes, out))
 }
 
 // Whether bytes are the file of a list. Answers how many reports it has. Refusals: 24, 25.
 pub fn dayfile_read(file: &[u8]) -> u64
-    ensures exact { result ≡ reading_result (reading_told (read_of file.now)) }
+    ensures exact { result ≡ counted_result (reading_told (read_of file.now)) }
 {
-    match read_file(file) {
-        Reading::Reports(count) => count as u64,
-        Reading::Refused(refusal) => refused(refusal),
-    }
+    counted(read_file(file))
 }
 
 // The whole report that begins at `at`: its number and its size, 0 where there is none. Its bytes
@@ -53,8 +47,8 @@ pub fn dayfile_report(file: &[u8], at: usize) -> u64
     ensures exact { result ≡ found_result (front_of (drop at file.now)) }
 {
     match report_at(file, at) {
-        Found::Whole(number, size) => told(number, size),
-        Found::Nothing => 0,
+        Some(found) => told(found),
+        None => 0,
     }
 }
 
@@ -66,8 +60,17 @@ pub fn dayfile_mend(file: &[u8], out: &mut [u8]) -> u64
     ensures bytes { out.new ≡ mend_left out.old (mend_of file.now (length out.old)) }
 {
     match mend_file(file, out) {
-        Mending::Done(said) => mended(said),
-        Mending::Refused(refusal) => refused(refusal),
+        Ok(said) => mended(said),
+        Err(refusal) => refused(refusal),
+    }
+}
+
+fn counted(outcome: Result<usize, Refusal>) -> u64
+    ensures { result ≡ counted_result outcome }
+{
+    match outcome {
+        Ok(count) => count as u64,
+        Err(refusal) => refused(refusal),
     }
 }
 
@@ -75,28 +78,18 @@ fn mended(said: Mended) -> u64
     requires { (said.kept ≤ 4096) × (said.after ≤ 65536) }
     ensures { result ≡ mended_result said }
 {
-    bit(said.changed) * 2147483648 + (said.kept as u64) * 131072 + (said.after as u64)
-}
-
-fn bit(changed: bool) -> u64
-    ensures value { result ≡ changed_bit changed }
-    ensures upper_bound { result ≤ 1 }
-{
-    if changed {
-        return 1;
-    }
-    0
+    u64::from(said.changed) * 2147483648 + (said.kept as u64) * 131072 + (said.after as u64)
 }
 
 fn refused(refusal: Refusal) -> u64
     ensures { result ≡ refused_result refusal }
 {
-    (number(refusal) as u64) * 4294967296
+    u64::from(u8::from(refusal)) * 4294967296
 }
 
-fn told(number: u16, size: usize) -> u64
-    requires { size ≤ 1400 }
-    ensures { result ≡ number * 65536 + size }
+fn told(found: Found) -> u64
+    requires { found.size ≤ 1400 }
+    ensures { result ≡ found.number * 65536 + found.size }
 {
-    (number as u64) * 65536 + (size as u64)
+    u64::from(found.number) * 65536 + (found.size as u64)
 }

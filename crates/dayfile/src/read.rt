@@ -4,29 +4,19 @@ ghost use Rattle.std.specs.Prelude.{◌≡◌};
 ghost use Rattle.dayfile.specs.Reading.{read_of, reading_told};
 
 use crate::refusal::Refusal;
-use crate::run::run_in;
+use crate::run::{MOST_BYTES, MOST_REPORTS, run_in};
 use crate::trailer::trailer_stands;
 
-#[derive(Clone, Copy)]
-pub enum Reading {
-    Reports(usize),
-    Refused(Refusal),
-}
-
-// Refusals: 24, 25.
-pub fn read_file(file: &[u8]) -> Reading
+// Answers how many reports the list has. Refusals: 24, 25.
+pub fn read_file(file: &[u8]) -> Result<usize, Refusal>
     ensures exact { result ≡ reading_told (read_of file.now) }
 {
-    if 65536 < file.len() {
-        return Reading::Refused(Refusal::Limit);
+    if MOST_BYTES < file.len() {
+        return Err(Refusal::Limit);
     }
     let run = run_in(file);
-    let count = run.count;
-    if 4096 < count {
-        return Reading::Refused(Refusal::NoFile);
+    if MOST_REPORTS < run.count || !trailer_stands(file, run) {
+        return Err(Refusal::NoFile);
     }
-    if trailer_stands(file, count, run.end) {
-        return Reading::Reports(count);
-    }
-    Reading::Refused(Refusal::NoFile)
+    Ok(run.count)
 }

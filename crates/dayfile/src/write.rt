@@ -7,43 +7,39 @@ ghost use Rattle.dayfile.specs.Lent.{list_of, are_sized};
 ghost use Rattle.dayfile.specs.Writing.{write_lent, writing_told, left_by};
 
 use crate::refusal::Refusal;
-use crate::report::{HEAD, OPENING};
-use crate::trailer::{put_pair, put_trailer};
+use crate::report::{HEAD, OPENING, is_sized};
+use crate::run::Run;
+use crate::trailer::put_trailer;
 use digest::put;
 
-#[derive(Clone, Copy)]
-pub enum Writing {
-    // how many bytes the file has
-    Written(usize),
-    Refused(Refusal),
-}
-
-// The file of the list, at the front of `out`. Refusals: 16, 24, 6.
-pub fn write_file(numbers: &[u16], sizes: &[usize], bytes: &[u8], out: &mut [u8]) -> Writing
+// The file of the list, at the front of `out`. Answers how many bytes it has. Refusals: 16, 24, 6.
+pub fn write_file(
+    numbers: &[u16],
+    sizes: &[usize],
+    bytes: &[u8],
+    out: &mut [u8],
+) -> Result<usize, Refusal>
     ensures exact { result ≡ writing_told (write_lent numbers.now sizes.now bytes.now (length out.old)) }
     ensures bytes { out.new ≡ left_by out.old (write_lent numbers.now sizes.now bytes.now (length out.old)) }
 {
     let count = sizes.len();
-    if numbers.len() != count {
-        return Writing::Refused(Refusal::Argument);
+    if numbers.len() != count || !are_sized(sizes, bytes.len()) {
+        return Err(Refusal::Argument);
     }
-    if !are_sized(sizes, bytes.len()) {
-        return Writing::Refused(Refusal::Argument);
+    let run = Run {
+        count,
+        end: bytes.len() + HEAD * count,
+    };
+    if !run.is_within() {
+        return Err(Refusal::Limit);
     }
-    if 4096 < count {
-        return Writing::Refused(Refusal::Limit);
-    }
-    if 65536 - (3 + 7 * count) < bytes.len() {
-        return Writing::Refused(Refusal::Limit);
-    }
-    let end = bytes.len() + 5 * count;
-    let size = end + (3 + 2 * count);
+    let size = run.file_size();
     if out.len() < size {
-        return Writing::Refused(Refusal::Room);
+        return Err(Refusal::Room);
     }
     put_reports(numbers, sizes, bytes, out);
-    put_trailer(out, count, end);
-    Writing::Written(size)
+    put_trailer(out, run);
+    Ok(size)
 }
 
 // Whether each size is 1 to 1,400, and all of them add up to `total`.
@@ -51,20 +47,11 @@ fn are_sized(sizes: &[usize], total: usize) -> bool
     ensures { result ≡ are_sized sizes.now total }
 {
     let mut left = total;
-    let mut i: usize = 0;
-    while i < sizes.len() {
-        let size = sizes[i];
-        if size < 1 {
+    for size in sizes {
+        if !is_sized(*size) || left < *size {
             return false;
         }
-        if 1400 < size {
-            return false;
-        }
-        if left < size {
-            return false;
-        }
-        left -= size;
-        i += 1;
+        left -= *size;
     }
     left == 0
 }
@@ -75,25 +62,24 @@ fn put_reports(numbers: &[u16], sizes: &[usize], bytes: &[u8], out: &mut [u8])
     requires sizes_in_bounds { length bytes.now + 5 * length sizes.now ≤ length out.old }
     ensures { out.new ≡ laid_over out.old 0 (body_of (list_of numbers.now sizes.now bytes.now)) }
 {
-    let mut at: usize = 0;
-    let mut from: usize = 0;
-    let mut i: usize = 0;
-    while i < sizes.len() {
-        let end = from + sizes[i];
-        put_report(out, at, numbers[i], &bytes[from..end]);
-        at += HEAD + sizes[i];
-        from = end;
-        i += 1;
+    let mut at = 0;
+    let mut left = bytes;
+    for (number, size) in numbers.iter().zip(sizes) {
+        let (report, behind) = left.split_at(*size);
+        put_report(out, at, *number, report);
+        at += HEAD + *size;
+        left = behind;
     }
 }
 
 // One report at a place.
 fn put_report(out: &mut [u8], at: usize, number: u16, bytes: &[u8])
-    requires { at + (5 + length bytes.now) ≤ length out.old }
+    requires fits { at + (5 + length bytes.now) ≤ length out.old }
+    requires sized { length bytes.now ≤ 1400 }
     ensures { out.new ≡ laid_over out.old at (head_of number (length bytes.now) ++ bytes.now) }
 {
-    out[at] = OPENING;
-    put_pair(out, at + 1, number as usize);
-    put_pair(out, at + 3, bytes.len());
+    let [n0, n1] = number.to_be_bytes();
+    let [s0, s1] = (bytes.len() as u16).to_be_bytes();
+    put(out, at, &[OPENING, n0, n1, s0, s1]);
     put(out, at + HEAD, bytes);
 }

@@ -7,7 +7,7 @@ ghost use Rattle.dayfile.specs.Runs.{front_of};
 ghost use Rattle.dayfile.specs.Writing.{write_lent, writing_told, left_by};
 ghost use Rattle.dayfile.specs.Reading.{read_of, reading_told};
 ghost use Rattle.dayfile.specs.Mending.{mend_of, mending_told, mend_left};
-ghost use Rattle.dayfile.specs.Calls.{writing_result, reading_result, found_result, mending_result};
+ghost use Rattle.dayfile.specs.Calls.{counted_result, found_result, mending_result};
 
 // The file of a list, at the front of `out`: report i has numbers[i], and the next sizes[i] of the
 // bytes. Answers how many bytes the file has. Refusals: 16, 24, 6.
@@ -18,7 +18,7 @@ pub extern "C" fn dayfile_write(
     bytes: &[u8],
     out: &mut [u8],
 ) -> u64
-    ensures exact { result ≡ writing_result (writing_told (write_lent numbers.now sizes.now bytes.now (length out.old))) }
+    ensures exact { result ≡ counted_result (writing_told (write_lent numbers.now sizes.now bytes.now (length out.old))) }
     ensures bytes { out.new ≡ left_by out.old (write_lent numbers.now sizes.now bytes.now (length out.old)) }
 {
     dayfile::dayfile_write(numbers, sizes, bytes, out)
@@ -27,7 +27,7 @@ pub extern "C" fn dayfile_write(
 // Whether bytes are the file of a list. Answers how many reports it has. Refusals: 24, 25.
 #[unsafe(no_mangle)]
 pub extern "C" fn dayfile_read(file: &[u8]) -> u64
-    ensures exact { result ≡ reading_result (reading_told (read_of file.now)) }
+    ensures exact { result ≡ counted_result (reading_told (read_of file.now)) }
 {
     dayfile::dayfile_read(file)
 }

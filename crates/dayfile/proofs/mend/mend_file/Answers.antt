@@ -1,50 +1,73 @@
 -- `mend_file`: the tests of the definition, in its order; then the run, and the trailer behind it.
 use mathlib.Core.Path.{◌≡◌, sym, ◌∙◌, ap}
-use Prim.Native.Nat.{◌-◌}
 use mathlib.Core.Bool.{not}
-use lib.ListN.{length, take}
-use lib.Seq.{length-take-le}
+use Prim.Native.Nat.{◌+◌, ◌-◌, ◌*◌, ◌≤◌}
+use native.Mathlib.Omega.{arith}
+use lib.ListN.{length}
+use Rattle.std.specs.Prelude.{Ok}
 use Rattle.digest.specs.Bytes.{laid_over}
 use Rattle.digest.proofs.Lay.{length_laid}
-use Rattle.dayfile.specs.File.{body_of}
-use Rattle.dayfile.specs.Runs.{run_of}
+use Rattle.dayfile.specs.File.{body_of, file_of}
+use Rattle.dayfile.specs.Runs.{run_of, RunStands}
 use Rattle.dayfile.specs.Mending.{said_of}
-use Rattle.dayfile.specs.declared.mend.Mending.TheVariants.{Done}
-use Rattle.dayfile.proofs.Laying.{laid_within_lem}
 use Rattle.dayfile.proofs.Running.{ran_stands, run_sound}
-use Rattle.dayfile.proofs.Trailing.{file_length, laid_stands, laid_file}
-use Rattle.dayfile.proofs.Mendings.{given, mend_long, mend_many, mend_wide, mend_narrow, mend_done}
-use native.Mathlib.Omega.{arith}
+use Rattle.dayfile.proofs.Trailing.{run_size, run_length, laid_run, laid_stands, laid_file}
+use Rattle.dayfile.proofs.Mendings.{given, mend_long, mend_over, mend_narrow, mend_done}
 use Rattle.dayfile.proofs.mend.mend_file.Goals as goal
 
-pub returns-then-file-gt65536 : goal.returns-then-file-gt65536
-returns-then-file-gt65536 c = let o = given c.args.out.now _ _ (mend_long c.args.file.now (length c.args.out.now) c.if-file-gt65536.true) in record { exact = o.told; bytes = o.held }
+pub returns-then-file-gt-MOST_BYTES : goal.returns-then-file-gt-MOST_BYTES
+returns-then-file-gt-MOST_BYTES c =
+    let o = given c.args.out.now _ _ (mend_long _ (length c.args.out.now) c.if-file-gt-MOST_BYTES.true) in record { exact = o.told; bytes = o.held }
 
-pub returns-then-count-gt4096 : goal.returns-then-count-gt4096
-returns-then-count-gt4096 c = let o = given c.args.out.now _ _ (mend_many c.args.file.now (length c.args.out.now) c.if-file-gt65536.false (omega (arith, ap (λ x. x.count) c.run_in-run.ensures.exact, c.if-count-gt4096.true))) in record { exact = o.told; bytes = o.held }
+pub returns-then-not-is_within : goal.returns-then-not-is_within
+returns-then-not-is_within c =
+    let over = sym (c.is_within.ensures.exact (run_of c.args.file.now) c.run_in-run.ensures.exact) ∙ c.if-not-is_within.true in
+    let o = given c.args.out.now _ _ (mend_over _ (length c.args.out.now) c.if-file-gt-MOST_BYTES.false over) in record { exact = o.told; bytes = o.held }
 
-pub overflow_add-size-2 : goal.overflow_add-size-2
-overflow_add-size-2 c = omega (arith, c.if-file-gt65536.false, c.if-count-gt4096.false, (ran_stands _ _ c.run_in-run.ensures.exact c.run_in-run.ensures.stands).inside)
-
-pub returns-then-size-gt65536 : goal.returns-then-size-gt65536
-returns-then-size-gt65536 c = let o = given c.args.out.now _ _ (mend_wide c.args.file.now (length c.args.out.now) c.if-file-gt65536.false (omega (arith, ap (λ x. x.count) c.run_in-run.ensures.exact, c.if-count-gt4096.false)) (omega (arith, file_length c.args.file.now _ _ (ran_stands _ _ c.run_in-run.ensures.exact c.run_in-run.ensures.stands), c.if-size-gt65536.true))) in record { exact = o.told; bytes = o.held }
-
-pub returns-then-out-size : goal.returns-then-out-size
-returns-then-out-size c = let o = given c.args.out.now _ _ (mend_narrow c.args.file.now (length c.args.out.now) c.if-file-gt65536.false (omega (arith, ap (λ x. x.count) c.run_in-run.ensures.exact, c.if-count-gt4096.false)) (omega (arith, file_length c.args.file.now _ _ (ran_stands _ _ c.run_in-run.ensures.exact c.run_in-run.ensures.stands), c.if-size-gt65536.false)) (omega (arith, file_length c.args.file.now _ _ (ran_stands _ _ c.run_in-run.ensures.exact c.run_in-run.ensures.stands), c.if-out-size.true))) in record { exact = o.told; bytes = o.held }
+pub returns-then-out-file_size : goal.returns-then-out-file_size
+returns-then-out-file_size c =
+    let l = run_of c.args.file.now in
+    let within = sym (c.is_within.ensures.exact l c.run_in-run.ensures.exact) ∙ c.if-not-is_within.false in
+    let o = given c.args.out.now _ _ (mend_narrow _ _ c.if-file-gt-MOST_BYTES.false within (omega (arith, c.file_size.ensures l c.run_in-run.ensures.exact, c.if-out-file_size.true))) in
+    record { exact = o.told; bytes = o.held }
 
 pub trailer_stands-sound-requires : goal.trailer_stands-sound-requires
-trailer_stands-sound-requires c = record { run_stands = (ran_stands _ _ c.run_in-run.ensures.exact c.run_in-run.ensures.stands); file_len_bound = c.if-file-gt65536.false }
-
-pub slice_bounds-put-end : goal.slice_bounds-put-end
-slice_bounds-put-end c = sym (length-take-le _ _ (ran_stands _ _ c.run_in-run.ensures.exact c.run_in-run.ensures.stands).inside)
+trailer_stands-sound-requires c = record { run_stands = ran_stands _ _ c.run_in-run.ensures.exact c.run_in-run.ensures.stands; file_len_bound = c.if-file-gt-MOST_BYTES.false }
 
 pub put_trailer-requires : goal.put_trailer-requires
-put_trailer-requires c = let long : length (body_of (run_of c.args.file.now)) ≡ c.run_in-run.result.end = sym (ap (λ x. x.end) c.run_in-run.ensures.exact) in record { run_stands = laid_stands c.args.out.now _ (run_of c.args.file.now) c.run_in-run.result.count c.run_in-run.result.end (run_sound c.args.file.now (λ k. omega (arith, c.shared_slice_known-1.given k))) (c.put.ensures.exact ∙ laid_within_lem c.args.out.now 0 (take c.run_in-run.result.end c.args.file.now) (omega (arith, c.if-out-size.false, length-take-le c.run_in-run.result.end c.args.file.now (ran_stands _ _ c.run_in-run.ensures.exact c.run_in-run.ensures.stands).inside)) ∙ ap (laid_over c.args.out.now 0) (sym c.run_in-run.ensures.stands)) (sym (ap (λ x. x.count) c.run_in-run.ensures.exact)) long; count_in_bounds = omega (arith, c.if-out-size.false, ap length (c.put.ensures.exact ∙ laid_within_lem c.args.out.now 0 (take c.run_in-run.result.end c.args.file.now) (omega (arith, c.if-out-size.false, length-take-le c.run_in-run.result.end c.args.file.now (ran_stands _ _ c.run_in-run.ensures.exact c.run_in-run.ensures.stands).inside)) ∙ ap (laid_over c.args.out.now 0) (sym c.run_in-run.ensures.stands)) ∙ length_laid c.args.out.now 0 (body_of (run_of c.args.file.now)) (omega (arith, c.if-out-size.false, long))) }
-
-pub overflow_sub-result : goal.overflow_sub-result
-overflow_sub-result c = omega (arith, (ran_stands _ _ c.run_in-run.ensures.exact c.run_in-run.ensures.stands).inside)
+put_trailer-requires c =
+    let out = c.args.out.now in
+    let l = run_of c.args.file.now in
+    let run = c.run_in-run.result in
+    let w : RunStands c.args.file.now run = ran_stands _ _ c.run_in-run.ensures.exact c.run_in-run.ensures.stands in
+    let size = run_size run l c.run_in-run.ensures.exact in
+    let room : run.end + (3 + 2 * run.count) ≤ length out = omega (arith, size, c.file_size.ensures l c.run_in-run.ensures.exact, c.if-out-file_size.false) in
+    let put : c.put.new.d ≡ laid_over out 0 (body_of l) = laid_run out c.args.file.now run w c.put.new.d (omega arith) c.put.ensures.exact in
+    record {
+      run_stands = laid_stands out c.put.new.d l run (run_sound c.args.file.now (λ k. omega (arith, c.type_inv.file k))) put c.run_in-run.ensures.exact;
+      count_in_bounds = omega (arith, ap length put ∙ length_laid out 0 (body_of l) (omega (arith, run_length _ _ w)));
+      end_bound = (c.is_within.ensures.bounds c.if-not-is_within.false).1;
+    }
 
 pub returns : goal.returns
 unfolding said_of
-returns c = let long : length (body_of (run_of c.args.file.now)) ≡ c.run_in-run.result.end = sym (ap (λ x. x.end) c.run_in-run.ensures.exact) in
-    let o = given c.args.out.now _ _ (mend_done c.args.file.now (length c.args.out.now) c.if-file-gt65536.false (omega (arith, ap (λ x. x.count) c.run_in-run.ensures.exact, c.if-count-gt4096.false)) (omega (arith, file_length c.args.file.now _ _ (ran_stands _ _ c.run_in-run.ensures.exact c.run_in-run.ensures.stands), c.if-size-gt65536.false)) (omega (arith, file_length c.args.file.now _ _ (ran_stands _ _ c.run_in-run.ensures.exact c.run_in-run.ensures.stands), c.if-out-size.false))) in record { exact = (λ i. Done (record { kept = (ap (λ x. x.count) c.run_in-run.ensures.exact) i; after = length c.args.file.now - (ap (λ x. x.end) c.run_in-run.ensures.exact) i; changed = not (c.trailer_stands-sound.ensures i) })) ∙ o.told; bytes = c.put_trailer.ensures ∙ laid_file c.args.out.now _ (run_of c.args.file.now) c.run_in-run.result.count c.run_in-run.result.end (run_sound c.args.file.now (λ k. omega (arith, c.shared_slice_known-1.given k))) (c.put.ensures.exact ∙ laid_within_lem c.args.out.now 0 (take c.run_in-run.result.end c.args.file.now) (omega (arith, c.if-out-size.false, length-take-le c.run_in-run.result.end c.args.file.now (ran_stands _ _ c.run_in-run.ensures.exact c.run_in-run.ensures.stands).inside)) ∙ ap (laid_over c.args.out.now 0) (sym c.run_in-run.ensures.stands)) (sym (ap (λ x. x.count) c.run_in-run.ensures.exact)) long (omega (arith, c.if-out-size.false)) ∙ o.held }
+returns c =
+    let out = c.args.out.now in
+    let file = c.args.file.now in
+    let l = run_of file in
+    let run = c.run_in-run.result in
+    let counts = c.run_in-run.ensures.exact in
+    let w : RunStands file run = ran_stands _ _ counts c.run_in-run.ensures.stands in
+    let within = sym (c.is_within.ensures.exact l counts) ∙ c.if-not-is_within.false in
+    let size = c.file_size.ensures l counts in
+    let room : run.end ≤ length out = omega (arith, run_size run l counts, size, c.if-out-file_size.false) in
+    let put : c.put.new.d ≡ laid_over out 0 (body_of l) = laid_run out file run w c.put.new.d room c.put.ensures.exact in
+    let fits : length (file_of l) ≤ length out = omega (arith, size, c.if-out-file_size.false) in
+    let o = given out _ _ (mend_done file (length out) c.if-file-gt-MOST_BYTES.false within fits) in
+    record {
+      exact =
+          (λ i. Ok (record { kept = (counts i).count; after = length file - (counts i).end; changed = not (c.trailer_stands-sound.ensures i) })) ∙ o.told;
+      bytes =
+          c.put_trailer.ensures
+          ∙ laid_file out c.put.new.d l run (run_sound file (λ k. omega (arith, c.type_inv.file k))) put counts room ∙ o.held;
+    }

@@ -1,16 +1,26 @@
 -- `front`: the tests of the definition, in its order; what was found stands there.
-use mathlib.Core.Path.{refl, sym, ◌∙◌}
-use Rattle.dayfile.proofs.Fronts.{short_nothing, other_nothing, nothing_stands, front_stands, front_opened}
+use mathlib.Core.Path.{◌≡◌, sym, ◌∙◌, ap}
+use lib.ListN.{length, get_or}
+use Rattle.std.proofs.lemmas.List.{take_rest}
+use lib.ListN.{length-drop}
 use native.Mathlib.Omega.{arith}
+use Rattle.dayfile.specs.Runs.{whole_if}
+use Rattle.dayfile.proofs.Fronts.{short_nothing, other_nothing, front_stands, front_opened}
 use Rattle.dayfile.proofs.report.front.Goals as goal
 
-pub returns-then-part-lt-HEAD : goal.returns-then-part-lt-HEAD
-returns-then-part-lt-HEAD c = record { exact = sym (short_nothing _ c.if-part-lt-HEAD.true); stands = nothing_stands _ _ refl }
+pub returns-in_default-clause-exact : goal.returns-in_default-clause-exact
+returns-in_default-clause-exact c = sym (short_nothing _ c.in_default.len_below)
 
-pub returns-then-part : goal.returns-then-part
-returns-then-part c = let s = c.args.part.now in
-    let same = c.whole_if.ensures ∙ front_opened s c.pair-number.result c.pair-size.result c.if-part-lt-HEAD.false c.if-part.true c.pair-number.ensures c.pair-size.ensures in
-    record { exact = same; stands = λ n z e. front_stands s (λ k. omega (arith, c.shared_slice_known-1.given k)) n z (sym same ∙ e) }
+pub returns-in_default-2-clause-exact : goal.returns-in_default-2-clause-exact
+returns-in_default-2-clause-exact c = sym (other_nothing c.args.part.now (λ e. omega arith))
 
 pub returns : goal.returns
-returns c = record { exact = sym (other_nothing _ c.if-part.false); stands = nothing_stands _ _ refl }
+returns c =
+    let s = c.args.part.now in
+    let opens : get_or s 0 0 ≡ 209 = omega arith in
+    let same =
+    c.whole_if.ensures
+    ∙ ap (λ l. whole_if c.from_be_bytes-number.result c.from.result (length l)) (take_rest s 5)
+    ∙ ap (whole_if c.from_be_bytes-number.result c.from.result) (length-drop 5 s)
+    ∙ front_opened s c.from_be_bytes-number.result c.from.result c.in-209.len_at_least opens c.from_be_bytes-number.ensures (c.from.ensures ∙ c.from_be_bytes-size.ensures) in
+    record { exact = same; stands = λ f e. front_stands s (λ k. omega (arith, c.type_inv.part k)) f (sym same ∙ e) }

@@ -1,25 +1,14 @@
--- `whole_if`: the tests of the definition, in its order, each by its limit.
-use mathlib.Core.Path.{refl}
-use native.Mathlib.Omega.{arith}
-use Rattle.digest.proofs.Picks.{pick_yes, pick_no, if_lt, if_ge}
-use Rattle.dayfile.proofs.Fronts.{sized_yes, sized_short, sized_long}
-use Rattle.dayfile.specs.Runs.{whole_if}
+-- `whole_if`: the tests of the definition, in its order.
+use mathlib.Core.Path.{sym, ◌∙◌}
+use mathlib.Core.Logic.{⊎_elim}
+use Rattle.dayfile.proofs.Fronts.{ill_sized, too_short, whole_found}
 use Rattle.dayfile.proofs.report.whole_if.Goals as goal
 
-pub returns-then-size-lt1 : goal.returns-then-size-lt1
-unfolding whole_if
-returns-then-size-lt1 c = pick_no _ _ _ _ _ (sized_short c.args.size (omega arith)) refl
-
-pub returns-then-size-gt1400 : goal.returns-then-size-gt1400
-unfolding whole_if
-returns-then-size-gt1400 c = pick_no _ _ _ _ _ (sized_long c.args.size (omega arith) (omega arith)) refl
-
-pub returns-then-left-size : goal.returns-then-left-size
-unfolding whole_if
-returns-then-left-size c = let a = c.args in
-    pick_yes _ _ _ _ _ (sized_yes a.size (omega arith) (omega arith)) (if_lt _ a.left a.size (omega arith) refl)
+pub returns-then-not-is_sized : goal.returns-then-not-is_sized
+returns-then-not-is_sized c =
+    let a = c.args in
+    ⊎_elim (λ e. ill_sized a.number a.size a.left (sym c.is_sized.ensures ∙ e)) (λ w. too_short a.number a.size a.left (sym c.is_sized.ensures ∙ w.0) w.1)
+    c.then-not-is_sized.either
 
 pub returns : goal.returns
-unfolding whole_if
-returns c = let a = c.args in
-    pick_yes _ _ _ _ _ (sized_yes a.size (omega arith) (omega arith)) (if_ge _ a.left a.size (omega arith) refl)
+returns c = whole_found _ c.args.left (sym c.is_sized.ensures ∙ c.if-not-is_sized.false) c.if-left-size.false

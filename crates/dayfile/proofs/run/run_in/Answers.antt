@@ -1,31 +1,31 @@
 -- `run_in`: the loop keeps `Ran`; each report moves it one on.
 use mathlib.Core.Path.{sym, ◌∙◌}
-use lib.ListN.{length-drop}
-use Rattle.dayfile.proofs.Fronts.{front_is, short_nothing}
-use Rattle.dayfile.proofs.Running.{begun, go_on, ended}
+use lib.ListN.{drop, length-drop}
 use native.Mathlib.Omega.{arith}
+use Rattle.dayfile.proofs.Fronts.{FrontIs, front_is}
+use Rattle.dayfile.proofs.Running.{go_on, ended}
 use Rattle.dayfile.proofs.run.run_in.Goals as goal
 
-pub loop-end-init : goal.loop-end-init
-loop-end-init c = begun _
+pub overflow_add-run-in-Some : goal.overflow_add-run-in-Some
+overflow_add-run-in-Some c =
+    let w : FrontIs (drop c.loop-found.run.end c.args.file.now) c.in-Some.found = front_is _ _ (sym c.report_at.ensures.exact ∙ c.in-Some.is) in
+    omega (arith, w.small)
 
-pub returns-in-Nothing : goal.returns-in-Nothing
-returns-in-Nothing c = let both = ended _ _ _ c.loop-end.invariant (sym c.report_at.ensures.exact ∙ c.in-Nothing.is) in record { exact = both.0; stands = both.1 }
+pub overflow_add-run-in-Some-2 : goal.overflow_add-run-in-Some-2
+overflow_add-run-in-Some-2 c =
+    let w : FrontIs (drop c.loop-found.run.end c.args.file.now) c.in-Some.found = front_is _ _ (sym c.report_at.ensures.exact ∙ c.in-Some.is) in
+    omega (arith, w.inside, length-drop c.loop-found.run.end c.args.file.now)
 
-pub overflow_add-count : goal.overflow_add-count
-overflow_add-count c = omega (arith, c.loop-end.invariant.few, c.loop-end.invariant.inside, c.loop-end-test.true, c.well_formed)
+pub loop-found-smaller : goal.loop-found-smaller
+loop-found-smaller c =
+    let w : FrontIs (drop c.loop-found.run.end c.args.file.now) c.in-Some.found = front_is _ _ (sym c.report_at.ensures.exact ∙ c.in-Some.is) in
+    omega (arith, w.inside, length-drop c.loop-found.run.end c.args.file.now)
 
-pub overflow_add-end : goal.overflow_add-end
-overflow_add-end c = omega (arith, (front_is _ _ _ (sym c.report_at.ensures.exact ∙ c.in-Whole.is)).small)
+pub loop-found-preserved : goal.loop-found-preserved
+loop-found-preserved c = go_on _ _ c.loop-found.invariant _ (sym c.report_at.ensures.exact ∙ c.in-Some.is) (λ f e. c.report_at.ensures.stands f (c.in-Some.is ∙ e))
 
-pub overflow_add-end-in-Whole : goal.overflow_add-end-in-Whole
-overflow_add-end-in-Whole c = omega (arith, (front_is _ _ _ (sym c.report_at.ensures.exact ∙ c.in-Whole.is)).inside, length-drop c.loop-end.end c.args.file.now, c.well_formed)
+pub returns-clause-exact : goal.returns-clause-exact
+returns-clause-exact c = (ended _ _ c.loop-found.invariant (sym c.report_at.ensures.exact ∙ c.in_default.is)).0
 
-pub loop-end-smaller : goal.loop-end-smaller
-loop-end-smaller c = omega (arith, c.loop-end-test.true)
-
-pub loop-end-preserved : goal.loop-end-preserved
-loop-end-preserved c = go_on _ _ _ c.loop-end.invariant _ _ (sym c.report_at.ensures.exact ∙ c.in-Whole.is) (λ n z e. c.report_at.ensures.stands n z (c.in-Whole.is ∙ e))
-
-pub returns : goal.returns
-returns c = let both = ended _ _ _ c.loop-end.invariant (short_nothing _ (omega (arith, length-drop c.loop-end.end c.args.file.now, c.loop-end-test.false))) in record { exact = both.0; stands = both.1 }
+pub returns-clause-stands : goal.returns-clause-stands
+returns-clause-stands c = (ended _ _ c.loop-found.invariant (sym c.report_at.ensures.exact ∙ c.in_default.is)).1

@@ -4,8 +4,8 @@ use lib.ListN.{length}
 use Rattle.dayfile.proofs.Running.{Ran}
 use Rattle.dayfile.proofs.run.run_in.Given as goal
 
-abbrev pub invariant-loop-end : goal.invariant-loop-end
-invariant-loop-end l = Ran l.file l.count l.end
+abbrev pub invariant-loop-found : goal.invariant-loop-found
+invariant-loop-found l = Ran l.file l.run
 
-abbrev pub decreases-loop-end : goal.decreases-loop-end
-decreases-loop-end l = length l.file - l.end
+abbrev pub decreases-loop-found : goal.decreases-loop-found
+decreases-loop-found l = length l.file - l.run.end

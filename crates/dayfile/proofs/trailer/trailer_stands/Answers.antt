@@ -1,74 +1,39 @@
--- `trailer_stands`: the loop keeps `Matching`; a number that differs, or a length, tells that the files do.
-use mathlib.Core.Path.{sym, ◌∙◌, ap, subst}
-use Prim.Native.Nat.{ℕ, ◌+◌}
-use lib.Dec.{eqb}
-use Rattle.dayfile.proofs.Trailing.{Matching, match_begun, match_next, match_differs, match_done, other_length, other_opening, pair_there, last_there, step, count_in_lem}
+-- `trailer_stands`: the run stands at the front of its file too, so what stands behind it is compared.
+use mathlib.Core.Path.{◌≡◌, sym, ◌∙◌, ap}
+use mathlib.Core.List.{◌∷◌, ◌++◌}
 use native.Mathlib.Omega.{arith}
+use lib.ListN.{length, get_or, drop}
+use Rattle.std.proofs.lemmas.List.{take_rest}
+use Rattle.digest.specs.Mac.{same_bytes}
+use Rattle.digest.specs.Bytes.{bytes2}
+use Rattle.dayfile.specs.File.{distances_of}
+use Rattle.dayfile.specs.Runs.{run_of}
+use Rattle.dayfile.proofs.Trailing.{again, other_opening, opening_there, opened_first, count_in_lem}
 use Rattle.dayfile.proofs.trailer.trailer_stands.Goals as goal
 
-pub overflow_mul-count : goal.overflow_mul-count
-overflow_mul-count c = omega (arith, count_in_lem _ _ _ c.requires.run_stands, c.requires.run_stands.inside, c.requires.file_len_bound)
+pub returns-in_default : goal.returns-in_default
+returns-in_default c = other_opening _ _ c.requires.run_stands (λ rest e. omega (arith, ap length (c.split_at.ensures.back ∙ e), c.in_default.len_below))
 
-pub overflow_add-count : goal.overflow_add-count
-overflow_add-count c = omega (arith, count_in_lem _ _ _ c.requires.run_stands, c.requires.run_stands.inside, c.requires.file_len_bound)
+pub returns-in_default-2 : goal.returns-in_default-2
+returns-in_default-2 c =
+    other_opening _ _ c.requires.run_stands
+    (λ rest e. let first : get_or c.split_at.result.1.now 0 0 ≡ 210 = ap (λ l. get_or l 0 0) (c.split_at.ensures.back ∙ e) in omega arith)
 
-pub returns-then-file-end : goal.returns-then-file-end
-returns-then-file-end c = other_length _ _ _ c.requires.run_stands c.if-file-end.true
+pub numbers_stand-requires-clause-reports : goal.numbers_stand-requires-clause-reports
+numbers_stand-requires-clause-reports c =
+    rw c.split_at.ensures.front
+    (ap Rattle.dayfile.specs.File.body_of (again _ _ c.requires.run_stands (λ k. omega (arith, c.type_inv.file k))) ∙ c.requires.run_stands.stands)
 
-pub returns-then-file-end-2 : goal.returns-then-file-end-2
-returns-then-file-end-2 c = other_opening _ _ _ c.requires.run_stands c.if-file-end-2.true
-
-pub loop-at-init : goal.loop-at-init
-loop-at-init c = match_begun _ _ _ c.requires.run_stands (λ k. omega (arith, c.shared_slice_known-1.given k)) c.requires.file_len_bound c.if-file-end.false c.if-file-end-2.false
-
-pub bounds-file-place : goal.bounds-file-place
-bounds-file-place c = omega (arith, pair_there _ _ _ _ _ c.loop-at.invariant c.loop-at-test.true)
-
-pub overflow_add-place-in-loop-at : goal.overflow_add-place-in-loop-at
-overflow_add-place-in-loop-at c = omega (arith, pair_there _ _ _ _ _ c.loop-at.invariant c.loop-at-test.true, c.well_formed)
-
-pub bounds-file-place-in-loop-at : goal.bounds-file-place-in-loop-at
-bounds-file-place-in-loop-at c = omega (arith, pair_there _ _ _ _ _ c.loop-at.invariant c.loop-at-test.true)
-
-pub returns-then-pair-end : goal.returns-then-pair-end
-returns-then-pair-end c = match_differs _ _ _ _ _ c.loop-at.invariant c.loop-at-test.true (λ e. c.if-pair-end.true (c.pair.ensures ∙ e))
-
-pub overflow_add-at : goal.overflow_add-at
-overflow_add-at c = omega (arith, (step _ _ _ _ _ c.loop-at.invariant c.loop-at-test.true).inside, c.loop-at.invariant.few)
-
-pub bounds-file-at : goal.bounds-file-at
-bounds-file-at c = omega (arith, (step _ _ _ _ _ c.loop-at.invariant c.loop-at-test.true).inside, c.loop-at.invariant.behind, c.loop-at.invariant.long)
-
-pub overflow_add-at-in-loop-at : goal.overflow_add-at-in-loop-at
-overflow_add-at-in-loop-at c = omega (arith, (step _ _ _ _ _ c.loop-at.invariant c.loop-at-test.true).inside, c.loop-at.invariant.few)
-
-pub bounds-file-at-in-loop-at : goal.bounds-file-at-in-loop-at
-bounds-file-at-in-loop-at c = omega (arith, (step _ _ _ _ _ c.loop-at.invariant c.loop-at-test.true).inside, c.loop-at.invariant.behind, c.loop-at.invariant.long)
-
-pub overflow_add-at-in-loop-at-2 : goal.overflow_add-at-in-loop-at-2
-overflow_add-at-in-loop-at-2 c = omega (arith, (c.pair-in-loop-at.ensures ∙ (step _ _ _ _ _ c.loop-at.invariant c.loop-at-test.true).spelled), (step _ _ _ _ _ c.loop-at.invariant c.loop-at-test.true).inside, c.loop-at.invariant.few)
-
-pub overflow_add-at-in-loop-at-3 : goal.overflow_add-at-in-loop-at-3
-overflow_add-at-in-loop-at-3 c = omega (arith, (c.pair-in-loop-at.ensures ∙ (step _ _ _ _ _ c.loop-at.invariant c.loop-at-test.true).spelled), (step _ _ _ _ _ c.loop-at.invariant c.loop-at-test.true).inside, c.loop-at.invariant.few)
-
-pub overflow_add-place-in-loop-at-2 : goal.overflow_add-place-in-loop-at-2
-overflow_add-place-in-loop-at-2 c = omega (arith, pair_there _ _ _ _ _ c.loop-at.invariant c.loop-at-test.true, c.well_formed)
-
-pub loop-at-smaller : goal.loop-at-smaller
-loop-at-smaller c = omega (arith, c.loop-at-test.true)
-
-pub loop-at-preserved : goal.loop-at-preserved
-loop-at-preserved c = subst (λ (r : ℕ). Matching c.args.file.now c.args.count c.args.end (c.loop-at.at + (5 + r)) (c.loop-at.place + 2)) (sym (c.pair-in-loop-at.ensures ∙ (step _ _ _ _ _ c.loop-at.invariant c.loop-at-test.true).spelled))
-    (match_next _ _ _ _ _ c.loop-at.invariant c.loop-at-test.true (λ k. omega (arith, c.shared_slice_known-1.given k)) (sym c.pair.ensures ∙ c.if-pair-end.false))
-
-pub bounds-file-place-2 : goal.bounds-file-place-2
-bounds-file-place-2 c = omega (arith, last_there _ _ _ _ _ c.loop-at.invariant c.loop-at-test.false)
-
-pub overflow_add-place-2 : goal.overflow_add-place-2
-overflow_add-place-2 c = omega (arith, last_there _ _ _ _ _ c.loop-at.invariant c.loop-at-test.false, c.well_formed)
-
-pub bounds-file-place-3 : goal.bounds-file-place-3
-bounds-file-place-3 c = omega (arith, last_there _ _ _ _ _ c.loop-at.invariant c.loop-at-test.false)
+pub numbers_stand-requires-clause-count_bound : goal.numbers_stand-requires-clause-count_bound
+numbers_stand-requires-clause-count_bound c =
+    omega (arith, count_in_lem _ _ c.requires.run_stands, c.split_at.ensures.back_len, c.in-210.len_at_least, c.requires.file_len_bound)
 
 pub returns : goal.returns
-returns c = ap (λ n. eqb n c.args.count) c.pair-2.ensures ∙ match_done _ _ _ _ _ c.loop-at.invariant c.loop-at-test.false (λ k. omega (arith, c.shared_slice_known-1.given k))
+returns c =
+    let file = c.args.file.now in
+    let trailer = c.split_at.result.1.now in
+    let opens : get_or trailer 0 0 ≡ 210 = omega arith in
+    let cut : drop c.args.run.end file ≡ 210 ∷ drop 1 trailer = sym c.split_at.ensures.back ∙ opened_first trailer c.in-210.len_at_least opens in
+    c.numbers_stand.ensures
+    ∙ (λ i. same_bytes (take_rest trailer 1 i) (distances_of (run_of (c.split_at.ensures.front i)) ++ bytes2 c.args.run.count))
+    ∙ opening_there _ _ c.requires.run_stands (λ k. omega (arith, c.type_inv.file k)) (drop 1 trailer) cut
