@@ -12,7 +12,7 @@ use borrow.Author.Tests.{eq-eqb, ne_eqb, le-leb, lt-leb}
 use Rattle.digest.specs.Pick.{pick}
 use Rattle.message.specs.Field.{told_end, short_end}
 use Rattle.message.specs.Handshake.{fills, client_hello}
-use Rattle.message.specs.Hello.{suites_end, behind, walk_of, read_of}
+use Rattle.message.specs.Hello.{suites_end, walk_on, walk_of, read_of}
 use Rattle.message.specs.declared.hello.Hello.{Hello}
 use Rattle.message.specs.declared.hello.Field.{Field}
 use Rattle.message.specs.declared.hello.Field.TheVariants.{Header, Size, Rest}
@@ -36,19 +36,19 @@ err_same f g e = cc
 
 -- a field that is not there is at fault; behind one that is there the reading goes on
 module _ (o : Option ℕ) (end : ℕ) (fault : Field) (next : ℕ → Result Hello Field) (h : o ≡ told_end end) where
-  pub missing : (f : Field) → Err f ≡ ok_or o fault → Err f ≡ behind end fault next
-  unfolding behind
+  pub missing : (f : Field) → Err f ≡ ok_or o fault → Err f ≡ walk_on end fault next
+  unfolding walk_on
   missing f e = go o h e
     where
-      go : (a : Option ℕ) → a ≡ told_end end → Err f ≡ ok_or a fault → Err f ≡ behind end fault next
+      go : (a : Option ℕ) → a ≡ told_end end → Err f ≡ ok_or a fault → Err f ≡ walk_on end fault next
       go None k g = rw (end_none end k) (λ i. Err (err_same f fault g i))
       go (Some x) k g = let y : ◌≡◌ {A = ℕ} 0 1 = cc in absurd (omega arith)
 
-  pub there : (e : ℕ) (r : Result Hello Field) → Ok e ≡ ok_or o fault → r ≡ next e → r ≡ behind end fault next
-  unfolding behind
+  pub there : (e : ℕ) (r : Result Hello Field) → Ok e ≡ ok_or o fault → r ≡ next e → r ≡ walk_on end fault next
+  unfolding walk_on
   there e r g q = go o h g
     where
-      go : (a : Option ℕ) → a ≡ told_end end → Ok e ≡ ok_or a fault → r ≡ behind end fault next
+      go : (a : Option ℕ) → a ≡ told_end end → Ok e ≡ ok_or a fault → r ≡ walk_on end fault next
       go None k z = let y : ◌≡◌ {A = ℕ} 0 1 = cc in absurd (omega arith)
       go (Some x) k z =
           let w = end_some x end k in

@@ -30,21 +30,21 @@ placed v r s c t p z n k =
     }
 
 -- a field that is not there is at fault; behind one that is there the reading goes on
-unfoldable pub behind : ℕ → Field → (ℕ → Result Hello Field) → Result Hello Field
-behind end fault next = pick (eqb end 0) (Err fault) (next end)
+unfoldable pub walk_on : ℕ → Field → (ℕ → Result Hello Field) → Result Hello Field
+walk_on end fault next = pick (eqb end 0) (Err fault) (next end)
 
 -- the fields one after the other, the last of which ends the message
 abbrev pub walk_of : List ℕ → Result Hello Field
 walk_of m =
-    behind (field_end m 3 1) Version (λ v.
-    behind (field_end m v 16) Random (λ r.
-    behind (short_end 0 8 m r) SessionId (λ s.
-    behind (keys_end m s) ClientKeyIds (λ c.
-    behind (keys_end m c) TrustedKeyIds (λ t.
-    behind (suites_end m t) CipherSuites (λ p.
-    behind (short_end 1 255 m p) CompressionMethods (λ z.
-    behind (field_end m z 1) SequenceNumberMode (λ n.
-    behind (field_end m n 1) KeyRefresh (λ k.
+    walk_on (field_end m 3 1) Version (λ v.
+    walk_on (field_end m v 16) Random (λ r.
+    walk_on (short_end 0 8 m r) SessionId (λ s.
+    walk_on (keys_end m s) ClientKeyIds (λ c.
+    walk_on (keys_end m c) TrustedKeyIds (λ t.
+    walk_on (suites_end m t) CipherSuites (λ p.
+    walk_on (short_end 1 255 m p) CompressionMethods (λ z.
+    walk_on (field_end m z 1) SequenceNumberMode (λ n.
+    walk_on (field_end m n 1) KeyRefresh (λ k.
     pick (eqb k (length m)) (Ok (placed v r s c t p z n k)) (Err Rest))))))))))
 
 -- 01: "a ClientHello message is at most 256 bytes, laid out as in 10.5.1.2; all its lists are walked"
