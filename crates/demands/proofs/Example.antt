@@ -13,7 +13,7 @@ use Rattle.record.specs.declared.reader.Record.{Record}
 use Rattle.message.specs.Field.{field_end, short_end, long_end}
 use Rattle.message.specs.Handshake.{fills}
 use Rattle.message.specs.Keys.{specifier_end, identifier_end, entry_end, entries_from, key_list, keys_end}
-use Rattle.message.specs.Hello.{suites_end, read_of}
+use Rattle.message.specs.Hello.{suites_end, walk_on, read_of}
 use Rattle.message.specs.Acceptance.{fits_pair, first_fit, has_null, accepted_of, heard_of}
 use Rattle.connection.specs.Judge.{judged_record}
 use Rattle.connection.specs.declared.state.State.TheVariants.{Idle, Replied, Spec, Open}
@@ -37,14 +37,14 @@ use Rattle.demands.proofs.Asked.{tells_is}
 use Rattle.std.specs.Prelude.{Ok}
 
 pub example_heard : heard_of example_hello example_id ≡ Ok example_plan
-unfolding heard_of accepted_of has_null first_fit fits_pair read_of suites_end keys_end key_list entries_from entry_end identifier_end specifier_end fills long_end short_end field_end listed_as same_bytes
+unfolding heard_of accepted_of has_null first_fit fits_pair read_of walk_on suites_end keys_end key_list entries_from entry_end identifier_end specifier_end fills long_end short_end field_end listed_as same_bytes
 example_heard = refl
 
 pub example_held : Held example_width
 example_held = (lit≤ tt, lit≤ tt)
 
 pub sha_heard : heard_of sha_hello example_id ≡ Ok sha_plan
-unfolding heard_of accepted_of has_null first_fit fits_pair read_of suites_end keys_end key_list entries_from entry_end identifier_end specifier_end fills long_end short_end field_end listed_as same_bytes
+unfolding heard_of accepted_of has_null first_fit fits_pair read_of walk_on suites_end keys_end key_list entries_from entry_end identifier_end specifier_end fills long_end short_end field_end listed_as same_bytes
 sha_heard = refl
 
 pub example_walk : Walk example_id example_secret example_width example_random example_data

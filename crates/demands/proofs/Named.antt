@@ -17,7 +17,7 @@ use Rattle.record.specs.declared.reader.Record.{Record}
 use Rattle.message.specs.Acceptance.{heard_of, accepted_of}
 use Rattle.message.specs.Field.{field_end, short_end, long_end}
 use Rattle.message.specs.Handshake.{fills}
-use Rattle.message.specs.Hello.{read_of, suites_end}
+use Rattle.message.specs.Hello.{read_of, walk_on, suites_end}
 use Rattle.message.specs.Keys.{specifier_end, identifier_end, entry_end, entries_from, key_list, keys_end}
 use Rattle.message.specs.declared.acceptance.Condition.TheVariants as N
 use Rattle.message.specs.declared.acceptance.Unheard.TheVariants as H
@@ -95,14 +95,14 @@ unfolding framing_of framing_from D.read_of D.read_as D.framed_of kind_of sound_
 strange_framed = refl
 
 strange_heard : heard_of strange example_id ≡ Err (H.Unacceptable N.Version)
-unfolding heard_of accepted_of read_of suites_end keys_end key_list entries_from entry_end identifier_end specifier_end fills long_end short_end field_end
+unfolding heard_of accepted_of read_of walk_on suites_end keys_end key_list entries_from entry_end identifier_end specifier_end fills long_end short_end field_end
 strange_heard = refl
 
 strange_row : Row example_fresh no_records example_random strange_datagram strange_record (refusing X.Unacceptable example_fresh)
 strange_row = row_unacceptable N.Version (record { hello = record { clear = refl; handshake = refl; begins = refl }; first = refl; another = inl refl }) strange_heard
 
 strange_place : unmet_of 3 strange example_id ≡ R.Unacceptable N.Version 6 1
-unfolding unmet_of heard_of accepted_of read_of suites_end keys_end key_list entries_from entry_end identifier_end specifier_end fills long_end short_end field_end
+unfolding unmet_of heard_of accepted_of read_of walk_on suites_end keys_end key_list entries_from entry_end identifier_end specifier_end fills long_end short_end field_end
 strange_place = refl
 
 version : Named (R.Unacceptable N.Version 6 1)

@@ -16,10 +16,9 @@ fn main() {
 fn hear_all(s: &[u8], planted: &[u8]) {
     let mut at: usize = 0;
     while at < s.len() {
-        let end = field::long_end(s, at);
-        if end == 0 {
+        let Some(end) = field::long_end(s, at) else {
             return;
-        }
+        };
         show(acceptance::hear(field::part(s, at + 2, end), planted));
         at = end;
     }

@@ -9,7 +9,7 @@ use Rattle.digest.specs.declared.mac.Mac.TheVariants.{Sha80}
 use Rattle.message.specs.Field.{field_end, short_end, long_end}
 use Rattle.message.specs.Handshake.{fills}
 use Rattle.message.specs.Keys.{specifier_end, identifier_end, entry_end, entries_from, key_list, keys_end}
-use Rattle.message.specs.Hello.{suites_end, read_of}
+use Rattle.message.specs.Hello.{suites_end, walk_on, read_of}
 use Rattle.message.specs.Given.{Given, given_of, hello_from}
 use Rattle.message.specs.Acceptance.{fits_pair, first_fit, has_null, accepted_of, heard_of, heard_number}
 use Rattle.message.specs.Server.{reply_of}
@@ -29,7 +29,7 @@ unfolding padded
 size_256 = refl
 
 pub heard_256 : heard_of (hello_from (padded 217)) identifier ≡ Ok (record { mac = Sha80; refresh = 3; key = 0 })
-unfolding padded identifier heard_of accepted_of has_null first_fit fits_pair read_of suites_end keys_end key_list entries_from entry_end identifier_end specifier_end fills long_end short_end field_end listed_as same_bytes
+unfolding padded identifier heard_of accepted_of has_null first_fit fits_pair read_of walk_on suites_end keys_end key_list entries_from entry_end identifier_end specifier_end fills long_end short_end field_end listed_as same_bytes
 heard_256 = refl
 
 pub size_257 : length (hello_from (padded 218)) ≡ 257
@@ -37,7 +37,7 @@ unfolding padded
 size_257 = refl
 
 pub heard_257 : heard_of (hello_from (padded 218)) identifier ≡ Err (Malformed Size)
-unfolding padded identifier heard_of accepted_of has_null first_fit fits_pair read_of suites_end keys_end key_list entries_from entry_end identifier_end specifier_end fills long_end short_end field_end listed_as same_bytes
+unfolding padded identifier heard_of accepted_of has_null first_fit fits_pair read_of walk_on suites_end keys_end key_list entries_from entry_end identifier_end specifier_end fills long_end short_end field_end listed_as same_bytes
 heard_257 = refl
 
 pub heard_257_number : heard_number (heard_of (hello_from (padded 218)) identifier) ≡ 12

@@ -88,23 +88,30 @@ entries_done s at e =
     entries_same (length s) zero s at (omega arith) (omega arith)
     ∙ eq-eqb at (length s) e
 
+-- an entry by its parts
+module _ (s : List ℕ) (at : ℕ) where
+  pub entry_cut : length s ≤ at → 0 ≡ entry_end s at
+  unfolding entry_end
+  entry_cut h = rw (le-ltb at (length s) h) refl
+
+  module _ (l : at < length s) (suite k : ℕ) (e : suite ≡ get_or s at 0) where
+    pub entry_none : specifier_end s (at + 1) suite ≡ 0 → 0 ≡ entry_end s at
+    unfolding entry_end
+    entry_none h = rw (lt-ltb at (length s) l, sym e, h) refl
+
+    pub entry_some : k ≡ specifier_end s (at + 1) suite → (k ≡ 0 → ⊥) → identifier_end s k ≡ entry_end s at
+    unfolding entry_end
+    entry_some p h = rw (lt-ltb at (length s) l, sym e, sym p, ne_eqb k 0 h) refl
+
 -- a key list whose length is not there is not there
 pub keys_cut : (m : List ℕ) (at : ℕ) → long_end m at ≡ 0 → 0 ≡ keys_end m at
 unfolding keys_end
 keys_cut m at h = rw h (pick_same (key_list (part_of m (at + 2) 0)) 0)
 
 -- one whose length is there, by what the walk says of its bytes
-keys_by : (m : List ℕ) (at end : ℕ) (list : List ℕ) (sound : Bool) → end ≡ long_end m at → list ≡ part_of m (at + 2) end
+pub keys_by : (m : List ℕ) (at end : ℕ) (list : List ℕ) (sound : Bool) → end ≡ long_end m at → list ≡ part_of m (at + 2) end
     → sound ≡ key_list list → pick sound end 0 ≡ keys_end m at
 unfolding keys_end
 keys_by m at end list sound e p w =
     ap (λ (b : Bool). pick b end 0) (w ∙ ap key_list p)
     ∙ ap (λ (k : ℕ). pick (key_list (part_of m (at + 2) k)) k 0) e
-
-pub keys_sound : (m : List ℕ) (at end : ℕ) (list : List ℕ) (sound : Bool) → end ≡ long_end m at → list ≡ part_of m (at + 2) end
-    → sound ≡ key_list list → sound ≡ true → end ≡ keys_end m at
-keys_sound m at end list sound e p w h = ap (λ (b : Bool). pick b end 0) (sym h) ∙ keys_by m at end list sound e p w
-
-pub keys_unsound : (m : List ℕ) (at end : ℕ) (list : List ℕ) (sound : Bool) → end ≡ long_end m at → list ≡ part_of m (at + 2) end
-    → sound ≡ key_list list → sound ≡ false → 0 ≡ keys_end m at
-keys_unsound m at end list sound e p w h = ap (λ (b : Bool). pick b end 0) (sym h) ∙ keys_by m at end list sound e p w

@@ -14,7 +14,7 @@ use Rattle.digest.specs.Bytes.{bytes2}
 use Rattle.message.specs.Field.{field_end, short_end, long_end, two_at, part_of, short, long}
 use Rattle.message.specs.Handshake.{fills, client_hello, message_of}
 use Rattle.message.specs.Keys.{key_list, keys_end}
-use Rattle.message.specs.Hello.{suites_end, placed, read_of}
+use Rattle.message.specs.Hello.{suites_end, placed, walk_on, read_of}
 use Rattle.message.specs.Given.{Given, body_of, hello_from, fields_given, offers_allowed, given_allowed, sent_of, given_at}
 use Rattle.message.specs.Values.{places_from}
 use Rattle.message.specs.declared.hello.Hello.{Hello}
@@ -201,7 +201,7 @@ pub record Walked (m : List ℕ) (h : Hello) : Type 0 where
   pub places : placed (version_end m) (random_end m) (session_end m) (client_end m) (trusted_end m) (pairs_end m) (methods_end m) (numbering_end m) (refresh_end m) ≡ h
 
 pub walked : (m : List ℕ) (h : Hello) → read_of m ≡ Ok h → Walked m h
-unfolding read_of
+unfolding read_of walk_on
 walked m h e =
     let a = unpick_else (fills client_hello m) Header _ h e in
     let b = unpick_else (leb (length m) 256) Size _ h a.1 in
@@ -233,7 +233,7 @@ walked m h e =
 
 -- and the other way round
 pub reads : (m : List ℕ) → (h : Hello) → Walked m h → read_of m ≡ Ok h
-unfolding read_of
+unfolding read_of walk_on
 reads m h w =
     rw (
       w.kind,

@@ -5,19 +5,19 @@ use mathlib.Core.List.{List}
 use mathlib.Core.Bool.{true, false}
 use Prim.Native.Nat.{ℕ, ◌%◌, ◌≤◌, ◌<◌}
 use native.Mathlib.Nat.{ne_of_lt}
+use native.Mathlib.Omega.{arith}
 use lib.ListN.{length, get_or}
 use lib.Dec.{eqb}
 use borrow.Author.Tests.{eq-eqb, ne_eqb, le-leb, lt-leb}
 use Rattle.digest.specs.Pick.{pick}
-use Rattle.message.specs.Field.{field_end, short_end}
+use Rattle.message.specs.Field.{told_end, short_end}
 use Rattle.message.specs.Handshake.{fills, client_hello}
-use Rattle.message.specs.Keys.{keys_end}
-use Rattle.message.specs.Hello.{suites_end, told_by, read_of}
+use Rattle.message.specs.Hello.{suites_end, walk_on, walk_of, read_of}
 use Rattle.message.specs.declared.hello.Hello.{Hello}
 use Rattle.message.specs.declared.hello.Field.{Field}
 use Rattle.message.specs.declared.hello.Field.TheVariants.{Header, Size, Rest}
-use Rattle.message.proofs.Fields.{short_cut, pick_same}
-use Rattle.std.specs.Prelude.{Err, Ok, Result}
+use Rattle.message.proofs.Fields.{end_none, end_some, short_cut, pick_same}
+use Rattle.std.specs.Prelude.{Err, Ok, Result, None, Some, Option, ok_or}
 
 pub suites_cut : (m : List ℕ) (at : ℕ) → length m ≤ at → 0 ≡ suites_end m at
 unfolding suites_end
@@ -31,12 +31,29 @@ pub suites_even : (m : List ℕ) (at end : ℕ) → get_or m at 0 % 2 ≡ 0 → 
 unfolding suites_end
 suites_even m at end h e = rw (eq-eqb (get_or m at 0 % 2) 0 h) e
 
--- a field that is not there is at fault; behind one that is there, the reading goes on
-pub missing : (end : ℕ) (fault : Field) (next : Result Hello Field) → end ≡ 0 → Err fault ≡ pick (eqb end 0) (Err fault) next
-missing end fault next h = rw (eq-eqb end 0 h) refl
+err_same : (f g : Field) → ◌≡◌ {A = Result ℕ Field} (Err f) (Err g) → f ≡ g
+err_same f g e = cc
 
-pub there : (end : ℕ) (fault : Field) (next r : Result Hello Field) → (end ≡ 0 → ⊥) → r ≡ next → r ≡ pick (eqb end 0) (Err fault) next
-there end fault next r h e = rw (ne_eqb end 0 h) e
+-- a field that is not there is at fault; behind one that is there the reading goes on
+module _ (o : Option ℕ) (end : ℕ) (fault : Field) (next : ℕ → Result Hello Field) (h : o ≡ told_end end) where
+  pub missing : (f : Field) → Err f ≡ ok_or o fault → Err f ≡ walk_on end fault next
+  unfolding walk_on
+  missing f e = go o h e
+    where
+      go : (a : Option ℕ) → a ≡ told_end end → Err f ≡ ok_or a fault → Err f ≡ walk_on end fault next
+      go None k g = rw (end_none end k) (λ i. Err (err_same f fault g i))
+      go (Some x) k g = let y : ◌≡◌ {A = ℕ} 0 1 = cc in absurd (omega arith)
+
+  pub there : (e : ℕ) (r : Result Hello Field) → Ok e ≡ ok_or o fault → r ≡ next e → r ≡ walk_on end fault next
+  unfolding walk_on
+  there e r g q = go o h g
+    where
+      go : (a : Option ℕ) → a ≡ told_end end → Ok e ≡ ok_or a fault → r ≡ walk_on end fault next
+      go None k z = let y : ◌≡◌ {A = ℕ} 0 1 = cc in absurd (omega arith)
+      go (Some x) k z =
+          let w = end_some x end k in
+          let s : e ≡ x = cc in
+          rw (ne_eqb end 0 w.1) (q ∙ ap next (s ∙ w.0))
 
 -- the last field ends the message, or bytes are left over
 pub whole : (end size : ℕ) (h : Hello) → end ≡ size → Ok h ≡ pick (eqb end size) (Ok h) (Err Rest)
@@ -54,28 +71,6 @@ pub over_size : (m : List ℕ) → fills client_hello m ≡ true → 256 < lengt
 unfolding read_of
 over_size m h l = rw (h, lt-leb (length m) 256 l) refl
 
-pub by_ends : (m : List ℕ) (v r s c t p z n k : ℕ) (reading : Result Hello Field)
-    → fills client_hello m ≡ true
-    → length m ≤ 256
-    → v ≡ field_end m 3 1
-    → r ≡ field_end m v 16
-    → s ≡ short_end 0 8 m r
-    → c ≡ keys_end m s
-    → t ≡ keys_end m c
-    → p ≡ suites_end m t
-    → z ≡ short_end 1 255 m p
-    → n ≡ field_end m z 1
-    → k ≡ field_end m n 1
-    → reading ≡ told_by v r s c t p z n k (length m)
-    → reading ≡ read_of m
+pub walked : (m : List ℕ) (r : Result Hello Field) → fills client_hello m ≡ true → length m ≤ 256 → r ≡ walk_of m → r ≡ read_of m
 unfolding read_of
-by_ends m v r s c t p z n k reading h l ev er es ec et ep ez en ek e =
-    let dr = er ∙ ap (λ (a : ℕ). field_end m a 16) ev in
-    let ds = es ∙ ap (short_end 0 8 m) dr in
-    let dc = ec ∙ ap (keys_end m) ds in
-    let dt = et ∙ ap (keys_end m) dc in
-    let dp = ep ∙ ap (suites_end m) dt in
-    let dz = ez ∙ ap (short_end 1 255 m) dp in
-    let dn = en ∙ ap (λ (a : ℕ). field_end m a 1) dz in
-    let dk = ek ∙ ap (λ (a : ℕ). field_end m a 1) dn in
-    rw (h, le-leb (length m) 256 l) (e ∙ λ i. told_by (ev i) (dr i) (ds i) (dc i) (dt i) (dp i) (dz i) (dn i) (dk i) (length m))
+walked m r h l e = rw (h, le-leb (length m) 256 l) e

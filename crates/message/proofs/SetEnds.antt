@@ -1,4 +1,5 @@
 -- Laws of the ends of a set's parts and of what is told of them: one for each return of the reader.
+use Rattle.std.specs.Prelude.{Option, None, Some}
 use mathlib.Core.Path.{◌≡◌, refl, sym, ◌∙◌, ap}
 use mathlib.Core.List.{List}
 use mathlib.Core.Bool.{Bool, true, false}
@@ -7,14 +8,14 @@ use native.Mathlib.Omega.{arith}
 use lib.ListN.{length, get_or, get_or-eq_default}
 use borrow.Author.Tests.{le-leb, lt-leb, le-ltb, lt-ltb, eq-eqb, ne_eqb}
 use Rattle.digest.specs.Pick.{pick}
-use Rattle.message.specs.Field.{field_end, short_end, long_end, two_at, part_of}
+use Rattle.message.specs.Field.{field_end, short_end, long_end, told_end, two_at, part_of}
 use Rattle.message.specs.Keys.{specifier_end}
 use Rattle.message.specs.Set.{is_diffie_hellman, is_elliptic_curve, next_end, next_long, basis_end, curve_field_end, field_id_of, place, dh_placed, ec_placed, filling, read_dh, read_ec, read_of, set_sound}
 use Rattle.message.specs.declared.set.FieldId.{FieldId}
 use Rattle.message.specs.declared.set.FieldId.TheVariants as F
-use Rattle.message.specs.declared.set.Reading.{Reading}
-use Rattle.message.specs.declared.set.Reading.TheVariants.{Skipped, Malformed, DiffieHellman, EllipticCurve}
-use Rattle.message.proofs.Fields.{pick_same}
+use Rattle.message.specs.declared.set.Set.{Set}
+use Rattle.message.specs.declared.set.Set.TheVariants.{Skipped, DiffieHellman, EllipticCurve}
+use Rattle.message.proofs.Fields.{pick_same, end_none, end_some}
 
 -- a vector behind another part
 module _ (floor : ℕ) (s : List ℕ) (at : ℕ) where
@@ -25,6 +26,13 @@ module _ (floor : ℕ) (s : List ℕ) (at : ℕ) where
   pub next_some : (at ≡ 0 → ⊥) → next_end floor s at ≡ short_end floor 255 s at
   unfolding next_end
   next_some h = rw (ne_eqb at 0 h) refl
+
+  -- as it is answered, behind a part that is there
+  pub next_there : 0 < at → (e : ℕ) → Some e ≡ told_end (short_end floor 255 s at) → e ≡ next_end floor s at
+  next_there p e h = (end_some e _ h).0 ∙ sym (next_some (λ z. omega arith))
+
+  pub next_gone : 0 < at → None ≡ told_end (short_end floor 255 s at) → 0 ≡ next_end floor s at
+  next_gone p h = sym (next_some (λ z. omega arith) ∙ end_none _ h)
 
 module _ (s : List ℕ) (at : ℕ) where
   pub long_none : at ≡ 0 → 0 ≡ next_long s at
@@ -136,18 +144,18 @@ module _ (s : List ℕ) (n : get_or s 0 0 ≡ 1 → ⊥) where
       refl
 
 -- the last part ends the bytes
-module _ (end size : ℕ) (r : Reading) where
-  pub fill_none : end ≡ 0 → Malformed ≡ filling end size r
+module _ (end size : ℕ) (r : Set) where
+  pub fill_none : end ≡ 0 → None ≡ filling end size r
   fill_none h = rw (eq-eqb end 0 h) refl
 
-  pub fill_left : (end ≡ 0 → ⊥) → end < size → Malformed ≡ filling end size r
+  pub fill_left : (end ≡ 0 → ⊥) → end < size → None ≡ filling end size r
   fill_left h k = rw (ne_eqb end 0 h, ne_eqb end size (λ z. omega arith)) refl
 
-  pub fill_whole : (end ≡ 0 → ⊥) → end ≡ size → r ≡ filling end size r
+  pub fill_whole : (end ≡ 0 → ⊥) → end ≡ size → Some r ≡ filling end size r
   fill_whole h k = rw (ne_eqb end 0 h, eq-eqb end size k) refl
 
 -- the reading of a set, by the ends of its parts
-pub dh_by : (s : List ℕ) (p g : ℕ) (r : Reading)
+pub dh_by : (s : List ℕ) (p g : ℕ) (r : Option Set)
     → p ≡ next_long s 1
     → g ≡ next_long s p
     → r ≡ filling g (length s) (DiffieHellman (dh_placed (get_or s 0 0) p g))
@@ -157,7 +165,7 @@ dh_by s p g r ep eg e =
     let dg = eg ∙ ap (next_long s) ep in
     e ∙ λ i. filling (dg i) (length s) (DiffieHellman (dh_placed (get_or s 0 0) (ep i) (dg i)))
 
-pub ec_by : (s : List ℕ) (field : FieldId) (f a b seed base order cofactor : ℕ) (r : Reading)
+pub ec_by : (s : List ℕ) (field : FieldId) (f a b seed base order cofactor : ℕ) (r : Option Set)
     → field ≡ field_id_of s
     → f ≡ curve_field_end s
     → a ≡ next_end 1 s f
@@ -179,6 +187,18 @@ ec_by s field f a b seed base order cofactor r ei ef ea eb es ep en eh e =
     e
     ∙ λ i. filling (dh i) (length s) (EllipticCurve (ec_placed (ei i) (ef i) (da i) (db i) (ds i) (dp i) (dn i) (dh i)))
 
+pub ec_none : (s : List ℕ) (f a b seed base order : ℕ)
+    → f ≡ curve_field_end s
+    → a ≡ next_end 1 s f
+    → b ≡ next_end 1 s a
+    → seed ≡ next_end 0 s b
+    → base ≡ next_end 1 s seed
+    → order ≡ next_end 1 s base
+    → 0 ≡ next_end 1 s order
+    → None ≡ read_ec s
+ec_none s f a b seed base order ef ea eb es ep en eh =
+    ec_by s (field_id_of s) f a b seed base order 0 None refl ef ea eb es ep en eh refl
+
 -- the suites
 pub below_dh : (n : ℕ) → n < 2 → is_diffie_hellman n ≡ false
 below_dh n h = rw (lt-leb 2 n h) refl
@@ -199,7 +219,7 @@ pub in_ec : (n : ℕ) → 11 ≤ n → n ≤ 18 → is_elliptic_curve n ≡ true
 in_ec n h k = rw (le-leb 11 n h, le-leb n 18 k) refl
 
 module _ (suite : ℕ) (s : List ℕ) where
-  pub read_skipped : is_diffie_hellman suite ≡ false → is_elliptic_curve suite ≡ false → Skipped ≡ read_of suite s
+  pub read_skipped : is_diffie_hellman suite ≡ false → is_elliptic_curve suite ≡ false → Some Skipped ≡ read_of suite s
   unfolding read_of
   read_skipped h k = rw (h, k) refl
 

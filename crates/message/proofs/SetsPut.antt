@@ -1,4 +1,5 @@
 -- Laws of writing a set: what is written by the tests of the values, how long it is, and its pieces put one after the other.
+use Rattle.std.specs.Prelude.{Option}
 use mathlib.Core.Path.{◌≡◌, refl, sym, ◌∙◌, ap, subst}
 use mathlib.Core.List.{List, [], ◌∷◌, ◌++◌}
 use mathlib.Core.Bool.{true, false}
@@ -11,7 +12,7 @@ use Rattle.message.specs.Field.{short, long}
 use Rattle.message.specs.Buffer.{over, fitting, Puts}
 use Rattle.message.specs.Set.{Basis, onb, trinomial, pentanomial, polynomial, CurveField, prime, two, dh, ec, basis_bytes, field_bytes, set_bytes, vector_allowed, vectors_allowed, basis_allowed, field_allowed, curve_allowed, dh_written, field_written, ec_written, written_of, field_at, set_at}
 use Rattle.message.specs.declared.set.FieldId.{FieldId}
-use Rattle.message.specs.declared.set.Reading.{Reading}
+use Rattle.message.specs.declared.set.Set.{Set}
 use Rattle.message.proofs.Fields.{by_test, both_split}
 use Rattle.message.proofs.Buffers.{put_on, puts_as}
 use Rattle.message.proofs.SetsWritten.{vector_ceiling}
@@ -270,8 +271,8 @@ pub ec_same : (f : CurveField) (a a' b b' s s' p p' n n' h h' : List ℕ)
 ec_same f a a' b b' s s' p p' n n' h h' ea eb es ep en eh =
     λ i. ec_written f (ea i) (eb i) (es i) (ep i) (en i) (eh i)
 
-pub set_as : (s : List ℕ) (i j : Reading) → i ≡ j → written_of (set_at s j) ≡ written_of (set_at s i)
-set_as s i j e = ap (λ (k : Reading). written_of (set_at s k)) (sym e)
+pub set_as : (s : List ℕ) (i j : Option Set) → i ≡ j → written_of (set_at s j) ≡ written_of (set_at s i)
+set_as s i j e = ap (λ (k : Option Set). written_of (set_at s k)) (sym e)
 
 -- the pieces of a field whose prime or polynomial is a part of the lent bytes
 pub prime_as : (x y o o' : List ℕ) (r : ℕ) → x ≡ y → FieldPuts (prime x) o o' r → FieldPuts (prime y) o o' r

@@ -1,5 +1,6 @@
 -- A sound set is the one that is written of the values that stand in it: each part that is there is its bytes, and what is
 -- left after it.
+use Rattle.std.specs.Prelude.{Option}
 use mathlib.Core.Path.{◌≡◌, refl, sym, ◌∙◌, ap, subst}
 use mathlib.Core.List.{List, [], ◌∷◌, ◌++◌, append-nil}
 use mathlib.Core.Bool.{true, false}
@@ -14,8 +15,8 @@ use borrow.Author.Tests.{le-leb, lt-ltb, eqb-true, eqb-false}
 use Rattle.digest.specs.Bytes.{bytes2}
 use Rattle.message.specs.Field.{short, long, field_end, short_end, long_end, two_at, part_of}
 use Rattle.message.specs.Set.{Basis, onb, trinomial, pentanomial, polynomial, CurveField, prime, two, is_diffie_hellman, is_elliptic_curve, basis_bytes, field_bytes, set_bytes, vector_allowed, basis_allowed, field_allowed, vectors_allowed, curve_allowed, set_allowed, next_end, next_long, basis_end, curve_field_end, field_id_of, dh_placed, ec_placed, filling, read_dh, read_ec, read_of, well_formed, set_sound, field_at, set_at, set_in}
-use Rattle.message.specs.declared.set.Reading.{Reading}
-use Rattle.message.specs.declared.set.Reading.TheVariants.{DiffieHellman, EllipticCurve}
+use Rattle.message.specs.declared.set.Set.{Set}
+use Rattle.message.specs.declared.set.Set.TheVariants.{DiffieHellman, EllipticCurve}
 use Rattle.message.proofs.Rests.{ShortThere, short_there, short_size, short_piece, long_at_lem, long_size, long_piece, bytes2_of, byte_piece}
 use Rattle.message.proofs.Fields.{field_there, by_test, clash, both_true}
 use Rattle.message.proofs.SetEnds.{next_none, next_some, long_none, long_empty, long_some, basis_onb, basis_trinomial, basis_pentanomial, basis_polynomial, basis_other, basis_cut, field_is_prime, field_is_two, field_other, field_cut, id_prime, id_onb, id_trinomial, id_pentanomial, id_polynomial, fill_whole, read_skipped, read_as_dh, read_as_ec}
@@ -218,7 +219,7 @@ module _ (s : List ℕ) (b : (i : ℕ) → get_or s i 0 < 256) where
     pub some : end ≡ 0 → ⊥
     pub whole : end ≡ length s
 
-  pub filled : (end : ℕ) (r : Reading) → well_formed (filling end (length s) r) ≡ true → Filled end
+  pub filled : (end : ℕ) (r : Set) → well_formed (filling end (length s) r) ≡ true → Filled end
   filled end r h =
       by_test (Filled end) (eqb end 0) (λ e. clash (rw e at h))
       (λ e. by_test (Filled end) (eqb end (length s))
@@ -228,7 +229,7 @@ module _ (s : List ℕ) (b : (i : ℕ) → get_or s i 0 < 256) where
   last : (e : ℕ) → e ≡ length s → drop e s ≡ []
   last e z = ap (λ (k : ℕ). drop k s) z ∙ drop-length s
 
-  pub record SetThere (suite : ℕ) (r : Reading) : Type 0 where
+  pub record SetThere (suite : ℕ) (r : Option Set) : Type 0 where
     pub can : set_allowed suite (set_at s r) ≡ true
     pub laid : set_bytes (set_at s r) ≡ s
 
@@ -249,7 +250,7 @@ module _ (s : List ℕ) (b : (i : ℕ) → get_or s i 0 < 256) where
       let all : s ≡ get_or s 0 0 ∷ (long xp ++ long xg) =
       first_byte 0 (get_or s 0 0) n refl
       ∙ ap (λ (t : List ℕ). get_or s 0 0 ∷ t) (wp.laid ∙ ap (λ (t : List ℕ). long xp ++ t) tail) in
-      subst (λ (q : Reading). SetThere suite q) (fill_whole g (length s) r f.some f.whole)
+      subst (λ (q : Option Set). SetThere suite q) (fill_whole g (length s) r f.some f.whole)
       (record { can = both_true _ _ d (both_true _ _ wp.can wg.can); laid = sym all })
 
   ec_there : (suite : ℕ) → is_elliptic_curve suite ≡ true → well_formed (read_ec s) ≡ true → SetThere suite (read_ec s)
@@ -285,7 +286,7 @@ module _ (s : List ℕ) (b : (i : ℕ) → get_or s i 0 < 256) where
       let tb = wb.laid ∙ ap (λ (t : List ℕ). short xb ++ t) ts in
       let ta = wa.laid ∙ ap (λ (t : List ℕ). short xa ++ t) tb in
       let all = wf.laid ∙ ap (λ (t : List ℕ). field_bytes (field_at s (field_id_of s)) ++ t) ta in
-      subst (λ (q : Reading). SetThere suite q) (fill_whole eh (length s) r f.some f.whole)
+      subst (λ (q : Option Set). SetThere suite q) (fill_whole eh (length s) r f.some f.whole)
       (record {
         can = both_true _ _ d
             (both_true _ _ wf.can
@@ -298,7 +299,7 @@ module _ (s : List ℕ) (b : (i : ℕ) → get_or s i 0 < 256) where
   skipped_there : (suite : ℕ) → is_diffie_hellman suite ≡ false → is_elliptic_curve suite ≡ false → SetThere suite (read_of suite s)
   unfolding set_bytes set_allowed
   skipped_there suite d c =
-      subst (λ (q : Reading). SetThere suite q) (read_skipped suite s d c) (record { can = rw (d, c) refl; laid = refl })
+      subst (λ (q : Option Set). SetThere suite q) (read_skipped suite s d c) (record { can = rw (d, c) refl; laid = refl })
 
   set_there : (suite : ℕ) → well_formed (read_of suite s) ≡ true → SetThere suite (read_of suite s)
   set_there suite h =
@@ -306,11 +307,11 @@ module _ (s : List ℕ) (b : (i : ℕ) → get_or s i 0 < 256) where
       by_test C (is_diffie_hellman suite)
       (λ d.
       let e = read_as_dh suite s d in
-      subst (λ (q : Reading). SetThere suite q) e (dh_there suite d (ap well_formed e ∙ h)))
+      subst (λ (q : Option Set). SetThere suite q) e (dh_there suite d (ap well_formed e ∙ h)))
       (λ d. by_test C (is_elliptic_curve suite)
       (λ c.
       let e = read_as_ec suite s d c in
-      subst (λ (q : Reading). SetThere suite q) e (ec_there suite c (ap well_formed e ∙ h)))
+      subst (λ (q : Option Set). SetThere suite q) e (ec_there suite c (ap well_formed e ∙ h)))
       (λ c. skipped_there suite d c))
 
 -- a sound set is what is written of the values that stand in it

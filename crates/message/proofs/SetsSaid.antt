@@ -1,5 +1,6 @@
 -- What is said of explicit sets, in one place: from the laws of sets that are written (SetsWritten) and of sets that are read
 -- (SetsRead).
+use Rattle.std.specs.Prelude.{None}
 use mathlib.Core.Path.{◌≡◌, refl, sym, ◌∙◌, ap, subst}
 use mathlib.Core.Logic.{◌⊎◌, inl, inr, ◌↔◌}
 use mathlib.Core.List.{List, []}
@@ -8,7 +9,6 @@ use Prim.Native.Nat.{ℕ}
 use native.Mathlib.Omega.{arith}
 use Rattle.message.specs.Set.{ParameterSet, dh, ec, other, is_diffie_hellman, is_elliptic_curve, vector_allowed, set_bytes, set_allowed, read_dh, read_ec, well_formed, set_sound, set_in, ec_written, written_of}
 use Rattle.message.specs.Said.{Bytes, SetsAsWritten}
-use Rattle.message.specs.declared.set.Reading.TheVariants.{Malformed}
 use Rattle.message.proofs.Fields.{clash, both_split}
 use Rattle.message.proofs.SetEnds.{next_none, field_cut, long_none, long_empty, two_past, dh_by, ec_by, read_skipped, read_as_dh, read_as_ec}
 use Rattle.message.proofs.SetsWritten.{set_written, dh_not_ec}
@@ -47,16 +47,16 @@ skipped : (suite : ℕ) (s : List ℕ) → is_diffie_hellman suite ≡ false →
 unfolding set_sound
 skipped suite s d c = ap well_formed (sym (read_skipped suite s d c))
 
-dh_empty : read_dh [] ≡ Malformed
+dh_empty : read_dh [] ≡ None
 unfolding read_dh
 dh_empty =
     let one = long_empty [] 1 (λ z. omega arith) (sym (two_past [] 1 (omega arith))) in
-    sym (dh_by [] 0 0 Malformed one (long_none [] 0 refl) refl)
+    sym (dh_by [] 0 0 None one (long_none [] 0 refl) refl)
 
-ec_empty : read_ec [] ≡ Malformed
+ec_empty : read_ec [] ≡ None
 ec_empty =
     sym
-    (ec_by [] _ 0 0 0 0 0 0 0 Malformed refl (sym (field_cut [] refl)) (next_none 1 [] 0 refl) (next_none 1 [] 0 refl)
+    (ec_by [] _ 0 0 0 0 0 0 0 None refl (sym (field_cut [] refl)) (next_none 1 [] 0 refl) (next_none 1 [] 0 refl)
     (next_none 0 [] 0 refl) (next_none 1 [] 0 refl) (next_none 1 [] 0 refl) (next_none 1 [] 0 refl) refl)
 
 empty : (suite : ℕ) → Read suite → set_sound suite [] ≡ false

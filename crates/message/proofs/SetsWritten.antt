@@ -1,4 +1,5 @@
 -- What is written of a set's values is sound, and the same values stand in it: by what is left of the bytes after each part.
+use Rattle.std.specs.Prelude.{Option, Some}
 use mathlib.Core.Path.{◌≡◌, refl, sym, ◌∙◌, ap, subst}
 use mathlib.Core.List.{List, [], ◌∷◌, ◌++◌, append-nil}
 use mathlib.Core.Bool.{true, false}
@@ -10,8 +11,8 @@ use borrow.Author.Tests.{leb-true, ltb-true}
 use Rattle.digest.specs.Bytes.{bytes2}
 use Rattle.message.specs.Field.{short, long, long_end, two_at, part_of}
 use Rattle.message.specs.Set.{Basis, onb, trinomial, pentanomial, polynomial, CurveField, prime, two, ParameterSet, dh, ec, other, is_diffie_hellman, is_elliptic_curve, basis_bytes, field_bytes, set_bytes, vector_allowed, basis_allowed, field_allowed, vectors_allowed, curve_allowed, set_allowed, next_end, next_long, basis_end, curve_field_end, field_id_of, read_dh, read_ec, read_of, well_formed, set_sound, field_at, set_at, set_in}
-use Rattle.message.specs.declared.set.Reading.{Reading}
-use Rattle.message.specs.declared.set.Reading.TheVariants.{Skipped}
+use Rattle.message.specs.declared.set.Set.{Set}
+use Rattle.message.specs.declared.set.Set.TheVariants.{Skipped}
 use Rattle.message.proofs.Rests as rests
 use Rattle.message.proofs.Rests.{rest_byte, front_end, front_part, front_rest, short_end_lem, short_part, short_rest, long_end_lem, long_part, long_rest}
 use Rattle.message.proofs.Fields.{by_test, clash, both_split, long_there}
@@ -186,7 +187,7 @@ field_is s (two m b) l h w =
     }
 
 -- a whole set: it is read, and its values stand at the places that were read
-pub record SetIs (r : Reading) (s : List ℕ) (v : ParameterSet) : Type 0 where
+pub record SetIs (r : Option Set) (s : List ℕ) (v : ParameterSet) : Type 0 where
   pub sound : well_formed r ≡ true
   pub is : set_at s r ≡ v
 
@@ -207,7 +208,7 @@ dh_is e p g hp hg =
     let j = long_is s (next_long s 1) g [] i.some hg (ended s (long g) (next_long s 1) i.rest) in
     let z : next_long s (next_long s 1) ≡ length s = omega (arith, j.rest.size) in
     let read = dh_by s _ _ _ refl refl (fill_whole (next_long s (next_long s 1)) (length s) _ j.some z) in
-    subst (λ (r : Reading). SetIs r s (dh e p g)) read
+    subst (λ (r : Option Set). SetIs r s (dh e p g)) read
     (record { sound = refl; is = λ k. dh (y k) (i.part k) (j.part k) })
 
 ec_is : (f : CurveField) (a b seed base order cofactor : List ℕ) → curve_allowed f a b seed base order cofactor ≡ true
@@ -243,7 +244,7 @@ ec_is f a b seed base order cofactor h =
     let eh = next_end 1 s en in
     let z : eh ≡ length s = omega (arith, wh.rest.size) in
     let read = ec_by s (field_id_of s) ef ea eb es ep en eh _ refl refl refl refl refl refl refl refl (fill_whole eh (length s) _ wh.some z) in
-    subst (λ (r : Reading). SetIs r s (ec f a b seed base order cofactor)) read
+    subst (λ (r : Option Set). SetIs r s (ec f a b seed base order cofactor)) read
     (record {
       sound = refl;
       is = λ k. ec (wf.is k) (wa.part k) (wb.part k) (ws.part k) (wp.part k) (wn.part k) (wh.part k);
@@ -264,21 +265,21 @@ unfolding set_allowed
 set_is suite (dh e p g) h =
     let k = both_split (is_diffie_hellman suite) _ h in
     let q = both_split (vector_allowed 1 65535 p) _ k.1 in
-    subst (λ (r : Reading). SetIs r (set_bytes (dh e p g)) (dh e p g)) (read_as_dh suite (set_bytes (dh e p g)) k.0)
+    subst (λ (r : Option Set). SetIs r (set_bytes (dh e p g)) (dh e p g)) (read_as_dh suite (set_bytes (dh e p g)) k.0)
     (dh_is e p g q.0 q.1)
 set_is suite (ec f a b seed base order cofactor) h =
     let k = both_split (is_elliptic_curve suite) _ h in
     let v = ec f a b seed base order cofactor in
-    subst (λ (r : Reading). SetIs r (set_bytes v) v) (read_as_ec suite (set_bytes v) (dh_not_ec suite k.0) k.0)
+    subst (λ (r : Option Set). SetIs r (set_bytes v) v) (read_as_ec suite (set_bytes v) (dh_not_ec suite k.0) k.0)
     (ec_is f a b seed base order cofactor k.1)
 set_is suite (other s) h =
     by_test (SetIs (read_of suite (set_bytes (other s))) (set_bytes (other s)) (other s)) (is_diffie_hellman suite)
     (λ d. clash (rw d at h))
     (λ d. by_test (SetIs (read_of suite (set_bytes (other s))) (set_bytes (other s)) (other s)) (is_elliptic_curve suite)
     (λ c. clash (rw (d, c) at h))
-    (λ c. subst (λ (r : Reading). SetIs r (set_bytes (other s)) (other s)) (read_skipped suite (set_bytes (other s)) d c) skipped))
+    (λ c. subst (λ (r : Option Set). SetIs r (set_bytes (other s)) (other s)) (read_skipped suite (set_bytes (other s)) d c) skipped))
   where
-    skipped : SetIs Skipped (set_bytes (other s)) (other s)
+    skipped : SetIs (Some Skipped) (set_bytes (other s)) (other s)
     skipped = record { sound = refl; is = ap other (other_bytes s) }
 
 -- what is written of a set's values is sound, and they stand in it

@@ -1,8 +1,12 @@
 -- Fields of a message, one after the other (002 8.1, 8.3). A field is told by the place where it ends; 0 says that
 -- the message has no such field there.
-use Rattle.std.specs.Prelude.{List, ◌∷◌, ◌++◌, Bool, false, ℕ, ◌+◌, ◌*◌, ◌-◌, length, get_or, take, drop, leb, ltb}
+use Rattle.std.specs.Prelude.{List, ◌∷◌, ◌++◌, Bool, false, ℕ, ◌+◌, ◌*◌, ◌-◌, length, get_or, take, drop, leb, ltb, eqb, Option, None, Some}
 use Rattle.digest.specs.Pick.{pick}
 use Rattle.digest.specs.Bytes.{bytes2}
+
+-- an end as it is answered: that of a field that is not there is None
+abbrev pub told_end : ℕ → Option ℕ
+told_end end = pick (eqb end 0) None (Some end)
 
 -- 8.3, T T'[n]: a field of n bytes that begins at a place
 unfoldable pub field_end : List ℕ → ℕ → ℕ → ℕ

@@ -29,32 +29,24 @@ placed v r s c t p z n k =
       refresh = place n k;
     }
 
--- the first field that is not there is at fault; where all are there, the last one ends the message
-abbrev pub told_by : ℕ → ℕ → ℕ → ℕ → ℕ → ℕ → ℕ → ℕ → ℕ → ℕ → Result Hello Field
-told_by v r s c t p z n k size =
-    pick (eqb v 0) (Err Version)
-    (pick (eqb r 0) (Err Random)
-    (pick (eqb s 0) (Err SessionId)
-    (pick (eqb c 0) (Err ClientKeyIds)
-    (pick (eqb t 0) (Err TrustedKeyIds)
-    (pick (eqb p 0) (Err CipherSuites)
-    (pick (eqb z 0) (Err CompressionMethods)
-    (pick (eqb n 0) (Err SequenceNumberMode)
-    (pick (eqb k 0) (Err KeyRefresh)
-    (pick (eqb k size) (Ok (placed v r s c t p z n k)) (Err Rest))))))))))
+-- a field that is not there is at fault; behind one that is there the reading goes on
+unfoldable pub walk_on : ℕ → Field → (ℕ → Result Hello Field) → Result Hello Field
+walk_on end fault next = pick (eqb end 0) (Err fault) (next end)
+
+-- the fields one after the other, the last of which ends the message
+abbrev pub walk_of : List ℕ → Result Hello Field
+walk_of m =
+    walk_on (field_end m 3 1) Version (λ v.
+    walk_on (field_end m v 16) Random (λ r.
+    walk_on (short_end 0 8 m r) SessionId (λ s.
+    walk_on (keys_end m s) ClientKeyIds (λ c.
+    walk_on (keys_end m c) TrustedKeyIds (λ t.
+    walk_on (suites_end m t) CipherSuites (λ p.
+    walk_on (short_end 1 255 m p) CompressionMethods (λ z.
+    walk_on (field_end m z 1) SequenceNumberMode (λ n.
+    walk_on (field_end m n 1) KeyRefresh (λ k.
+    pick (eqb k (length m)) (Ok (placed v r s c t p z n k)) (Err Rest))))))))))
 
 -- 01: "a ClientHello message is at most 256 bytes, laid out as in 10.5.1.2; all its lists are walked"
 unfoldable pub read_of : List ℕ → Result Hello Field
-read_of m =
-    let v = field_end m 3 1 in
-    let r = field_end m v 16 in
-    let s = short_end 0 8 m r in
-    let c = keys_end m s in
-    let t = keys_end m c in
-    let p = suites_end m t in
-    let z = short_end 1 255 m p in
-    let n = field_end m z 1 in
-    let k = field_end m n 1 in
-    pick (fills client_hello m)
-    (pick (leb (length m) 256) (told_by v r s c t p z n k (length m)) (Err Size))
-    (Err Header)
+read_of m = pick (fills client_hello m) (pick (leb (length m) 256) (walk_of m) (Err Size)) (Err Header)

@@ -1,6 +1,6 @@
 -- Explicit parameter sets: as values, as they are written, and as they stand in the bytes of a set (002 10.5.1.2). The
 -- bytes of a set are what its length counts; its first byte stands at place 0.
-use Rattle.std.specs.Prelude.{List, [], ◌∷◌, ◌++◌, Bool, true, false, ℕ, ◌+◌, length, get_or, leb, ltb, eqb}
+use Rattle.std.specs.Prelude.{List, [], ◌∷◌, ◌++◌, Bool, true, false, ℕ, ◌+◌, length, get_or, leb, ltb, eqb, Option, None, Some, is_some}
 use Rattle.digest.specs.Pick.{pick}
 use Rattle.digest.specs.Bytes.{bytes2}
 use Rattle.message.specs.Field.{both, short, long, field_end, short_end, long_end, two_at, part_of}
@@ -9,8 +9,8 @@ use Rattle.message.specs.declared.set.FieldId.{FieldId}
 use Rattle.message.specs.declared.set.FieldId.TheVariants as F
 use Rattle.message.specs.declared.set.DhParameters.{DhParameters}
 use Rattle.message.specs.declared.set.EcParameters.{EcParameters}
-use Rattle.message.specs.declared.set.Reading.{Reading}
-use Rattle.message.specs.declared.set.Reading.TheVariants.{Skipped, Malformed, DiffieHellman, EllipticCurve}
+use Rattle.message.specs.declared.set.Set.{Set}
+use Rattle.message.specs.declared.set.Set.TheVariants.{Skipped, DiffieHellman, EllipticCurve}
 
 -- appendix A: DH_anon, DH_anon_512, DH_anon_768; ECDH_anon to ECDH_ECDSA_uncomp
 abbrev pub is_diffie_hellman : ℕ → Bool
@@ -141,16 +141,16 @@ ec_placed field f a b seed base order cofactor =
     }
 
 -- "A set must fill its stated length exactly": the last part ends the bytes
-abbrev pub filling : ℕ → ℕ → Reading → Reading
-filling end size r = pick (eqb end 0) Malformed (pick (eqb end size) r Malformed)
+abbrev pub filling : ℕ → ℕ → Set → Option Set
+filling end size set = pick (eqb end 0) None (pick (eqb end size) (Some set) None)
 
-unfoldable pub read_dh : List ℕ → Reading
+unfoldable pub read_dh : List ℕ → Option Set
 read_dh s =
     let p = next_long s 1 in
     let g = next_long s p in
     filling g (length s) (DiffieHellman (dh_placed (get_or s 0 0) p g))
 
-unfoldable pub read_ec : List ℕ → Reading
+unfoldable pub read_ec : List ℕ → Option Set
 read_ec s =
     let f = curve_field_end s in
     let a = next_end 1 s f in
@@ -162,15 +162,12 @@ read_ec s =
     filling cofactor (length s) (EllipticCurve (ec_placed (field_id_of s) f a b seed base order cofactor))
 
 -- "sets of other suites stay skipped"
-unfoldable pub read_of : ℕ → List ℕ → Reading
-read_of suite s = pick (is_diffie_hellman suite) (read_dh s) (pick (is_elliptic_curve suite) (read_ec s) Skipped)
+unfoldable pub read_of : ℕ → List ℕ → Option Set
+read_of suite s = pick (is_diffie_hellman suite) (read_dh s) (pick (is_elliptic_curve suite) (read_ec s) (Some Skipped))
 
 -- "a malformed set, unknown field or basis included, makes the hello 12"
-abbrev pub well_formed : Reading → Bool
-well_formed Skipped = true
-well_formed Malformed = false
-well_formed (DiffieHellman d) = true
-well_formed (EllipticCurve c) = true
+abbrev pub well_formed : Option Set → Bool
+well_formed r = is_some r
 
 unfoldable pub set_sound : ℕ → List ℕ → Bool
 set_sound suite s = well_formed (read_of suite s)
@@ -186,11 +183,11 @@ field_at s (F.Trinomial m k) = two m (trinomial k)
 field_at s (F.Pentanomial m k1 k2 k3) = two m (pentanomial k1 k2 k3)
 field_at s (F.Polynomial m p) = two m (polynomial (bytes_at s p))
 
-abbrev pub set_at : List ℕ → Reading → ParameterSet
-set_at s Skipped = other s
-set_at s Malformed = other s
-set_at s (DiffieHellman d) = dh d.e (bytes_at s d.p) (bytes_at s d.g)
-set_at s (EllipticCurve c) =
+abbrev pub set_at : List ℕ → Option Set → ParameterSet
+set_at s None = other s
+set_at s (Some Skipped) = other s
+set_at s (Some (DiffieHellman d)) = dh d.e (bytes_at s d.p) (bytes_at s d.g)
+set_at s (Some (EllipticCurve c)) =
     ec (field_at s c.field) (bytes_at s c.a) (bytes_at s c.b) (bytes_at s c.seed) (bytes_at s c.base)
     (bytes_at s c.order) (bytes_at s c.cofactor)
 

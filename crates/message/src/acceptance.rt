@@ -1,5 +1,5 @@
 // Whether a ClientHello is acceptable (01, Handshake), and what is planned for it.
-ghost use Rattle.std.specs.Prelude.{◌≡◌, get_or};
+ghost use Rattle.std.specs.Prelude.{◌≡◌};
 ghost use Rattle.message.specs.Values.{values_at};
 ghost use Rattle.message.specs.Acceptance.{fits_pair, first_fit, has_null, accepted_of, acceptance_of, heard_of};
 
@@ -57,24 +57,14 @@ fn judge(m: &[u8], h: Hello, planted: &[u8]) -> Result<Plan, Condition>
     let numbering = h.numbering;
     let refresh = h.refresh;
     accept(
-        byte_at(m, version.from),
+        field::byte_at(m, version.from),
         field::part(m, session.from, session.end),
         field::part(m, suites.from, suites.end),
         field::part(m, methods.from, methods.end),
-        byte_at(m, numbering.from),
-        byte_at(m, refresh.from),
+        field::byte_at(m, numbering.from),
+        field::byte_at(m, refresh.from),
         planted,
     )
-}
-
-// The byte at a place, or 0 past the end.
-pub(crate) fn byte_at(m: &[u8], at: usize) -> u8
-    ensures { result ≡ get_or m.now at 0 }
-{
-    if at < m.len() {
-        return m[at];
-    }
-    0
 }
 
 // Judges a hello's values: accepted with the first pair that fits, or the first condition that fails.

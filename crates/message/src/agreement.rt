@@ -2,7 +2,7 @@
 ghost use Rattle.std.specs.Prelude.{◌≡◌, ◌≤◌};
 ghost use Rattle.message.specs.Agreement.{agreement_of, agreed_at, agreed_of, chosen_of, offered_as};
 
-use crate::acceptance::{Plan, byte_at};
+use crate::acceptance::Plan;
 use crate::offer::{Kinds, Offer, is_offered};
 use crate::{field, server_hello};
 use digest::Mac;
@@ -42,14 +42,14 @@ fn judge(m: &[u8], end: usize, planted: &[u8], offer: Offer) -> Result<Plan, Dis
     ensures { result ≡ agreed_at m.now end planted.now offer }
 {
     judged(
-        byte_at(m, 3),
+        field::byte_at(m, 3),
         field::part(m, 21, end),
-        byte_at(m, end),
-        byte_at(m, end + 1),
-        byte_at(m, end + 2),
-        byte_at(m, end + 3),
-        byte_at(m, end + 4),
-        byte_at(m, end + 5),
+        field::byte_at(m, end),
+        field::byte_at(m, end + 1),
+        field::byte_at(m, end + 2),
+        field::byte_at(m, end + 3),
+        field::byte_at(m, end + 4),
+        field::byte_at(m, end + 5),
         planted,
         offer,
     )

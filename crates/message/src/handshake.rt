@@ -14,5 +14,5 @@ pub fn fills_with(m: &[u8], kind: u8) -> bool
     if m[0] != kind {
         return false;
     }
-    field::two_at(m, 1) == m.len() - 3
+    usize::from(field::two_at(m, 1)) == m.len() - 3
 }

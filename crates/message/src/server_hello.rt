@@ -3,8 +3,7 @@
 ghost use Rattle.std.specs.Prelude.{◌≡◌};
 ghost use Rattle.message.specs.ServerHello.{server_read};
 
-use crate::acceptance::byte_at;
-use crate::handshake;
+use crate::{field, handshake};
 
 // Reads a handshake message as a ServerHello.
 pub fn read(m: &[u8]) -> Option<usize>
@@ -13,7 +12,7 @@ pub fn read(m: &[u8]) -> Option<usize>
     if !handshake::fills_with(m, 2) {
         return None;
     }
-    let session = byte_at(m, 20) as usize;
+    let session = field::byte_at(m, 20) as usize;
     if 8 < session {
         return None;
     }

@@ -4,19 +4,21 @@ ghost use Rattle.digest.specs.Pick.{pick};
 ghost use Rattle.message.specs.Buffer.{over, fitting, Puts};
 ghost use Rattle.message.specs.Set.{vector_allowed, vectors_allowed, field_allowed, field_bytes, field_written, dh_written, ec_written, written_of, field_at, set_at};
 
-use crate::set::{FieldId, Reading};
+use crate::set::{FieldId, Set};
 use crate::{field, put};
 
 // Writes the set whose values stand at the places of the lent bytes, at the front of the buffer, and gives its size. What has
 // no values, values that no set can have, or a buffer that is too small give 0, and nothing is written.
-pub fn write(s: &[u8], set: Reading, out: &mut [u8]) -> usize
+pub fn write(s: &[u8], set: Option<Set>, out: &mut [u8]) -> usize
     ensures value { result ≡ length (fitting (length out.old) (written_of (set_at s.now set))) }
     ensures out_after { out.new ≡ over out.old (fitting (length out.old) (written_of (set_at s.now set))) }
 {
-    match set {
-        Reading::Skipped => 0,
-        Reading::Malformed => 0,
-        Reading::DiffieHellman(d) => {
+    let Some(found) = set else {
+        return 0;
+    };
+    match found {
+        Set::Skipped => 0,
+        Set::DiffieHellman(d) => {
             let p = d.p;
             let g = d.g;
             write_dh(
@@ -26,7 +28,7 @@ pub fn write(s: &[u8], set: Reading, out: &mut [u8]) -> usize
                 out,
             )
         }
-        Reading::EllipticCurve(c) => {
+        Set::EllipticCurve(c) => {
             let field = c.field;
             let a = c.a;
             let b = c.b;

@@ -4,7 +4,7 @@ use lines::number::number;
 use lines::text::{put, put_hex, put_number};
 use lines::words::word;
 use message::hello::Place;
-use message::set::{DhParameters, EcParameters, FieldId, Reading};
+use message::set::{DhParameters, EcParameters, FieldId, Set};
 use message::{field, set, set_writer};
 
 // set SUITE BYTES
@@ -35,12 +35,12 @@ fn put_written(out: &[u8], written: usize, text: &mut [u8], at: usize) -> usize 
     put(text, end, b"\n")
 }
 
-fn put_reading(reading: Reading, s: &[u8], text: &mut [u8], at: usize) -> usize {
+fn put_reading(reading: Option<Set>, s: &[u8], text: &mut [u8], at: usize) -> usize {
     match reading {
-        Reading::Skipped => put(text, at, b"set skipped\n"),
-        Reading::Malformed => put(text, at, b"set refused 12\n"),
-        Reading::DiffieHellman(d) => put_dh(d, s, text, at),
-        Reading::EllipticCurve(c) => put_ec(c, s, text, at),
+        None => put(text, at, b"set refused 12\n"),
+        Some(Set::Skipped) => put(text, at, b"set skipped\n"),
+        Some(Set::DiffieHellman(d)) => put_dh(d, s, text, at),
+        Some(Set::EllipticCurve(c)) => put_ec(c, s, text, at),
     }
 }
 

@@ -1,24 +1,15 @@
 -- `message::field::long_end` meets its contract: each return is a case of `long_end`. Assumes nothing.
-use Prim.Native.Nat.{◌+◌}
-use mathlib.Core.Path.{◌∙◌, ap}
-use Rattle.message.proofs.Fields.{long_fits, long_cut}
-use Rattle.message.specs.Field.{field_end}
 use native.Mathlib.Omega.{arith}
+use Rattle.std.proofs.Common.{ap, ◌∙◌, ◌+◌}
 use Rattle.message.specs.Field.{field_end}
+use Rattle.message.proofs.Fields.{told_none, told_same, long_fits, long_cut}
 use Rattle.message.proofs.field.long_end.Goals as goal
+use Rattle.message.proofs.field.long_end.Goals.{then-m-at-via-then-m-at, then-m-at-via-else-m-at+then-m-at-2}
 
-pub returns-then-m-at : goal.returns-then-m-at
-returns-then-m-at c = let a = c.args in
-    record { value = long_cut a.m.now a.at (omega arith); upper_bound = omega arith }
+pub returns-then-m-at-clause-value : goal.returns-then-m-at-clause-value
+returns-then-m-at-clause-value c = told_none _ (long_cut c.args.m.now c.args.at
+    (elim c.then-m-at.branch [ then-m-at-via-then-m-at w ↦ omega arith | then-m-at-via-else-m-at+then-m-at-2 w ↦ omega arith ]))
 
-pub returns-then-m-at-2 : goal.returns-then-m-at-2
-returns-then-m-at-2 c = let a = c.args in
-    record { value = long_cut a.m.now a.at (omega arith); upper_bound = omega arith }
-
-pub returns : goal.returns
-returns c = let a = c.args in record {
-  value = c.field_end.ensures.value
-      ∙ ap (field_end a.m.now (a.at + 2)) c.two_at.ensures.0
-      ∙ long_fits a.m.now a.at (omega arith);
-  upper_bound = c.field_end.ensures.upper_bound;
-}
+pub returns-clause-value : goal.returns-clause-value
+returns-clause-value c = told_same _ _ _ c.field_end.ensures.value
+    (ap (field_end c.args.m.now (c.args.at + 2)) (c.from.ensures ∙ c.two_at.ensures) ∙ long_fits c.args.m.now c.args.at (omega arith))

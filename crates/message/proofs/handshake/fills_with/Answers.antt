@@ -1,7 +1,6 @@
 -- `message::handshake::fills_with` meets its contract: each return is a case of `fills`. Assumes nothing.
-use mathlib.Core.Path.{refl, sym}
+use Rattle.std.proofs.Common.{refl, get_or, length}
 use native.Mathlib.Omega.{arith}
-use lib.ListN.{length, get_or}
 use borrow.Author.Tests.{le-leb, lt-leb}
 use Rattle.digest.proofs.Picks.{pick_yes, pick_no, if_eq, if_ne}
 use Rattle.message.specs.Handshake.{fills}
@@ -17,11 +16,8 @@ returns-then-m-kind c = let a = c.args in
     let m = a.m.now in
     pick_yes _ _ _ _ _ (le-leb 3 (length m) (omega arith)) (if_ne _ (get_or m 0 0) a.kind (λ z. omega arith) refl)
 
-pub two_at-requires : goal.two_at-requires
-two_at-requires c = omega arith
-
 pub returns : goal.returns
 unfolding fills
 returns c = let a = c.args in
     let m = a.m.now in
-    rw (sym c.two_at.ensures.0) (pick_yes _ _ _ _ _ (le-leb 3 (length m) (omega arith)) (if_eq _ (get_or m 0 0) a.kind (omega arith) refl))
+    rw (c.from.ensures, c.two_at.ensures) (pick_yes _ _ _ _ _ (le-leb 3 (length m) (omega arith)) (if_eq _ (get_or m 0 0) a.kind (omega arith) refl))

@@ -1,29 +1,35 @@
 -- `message::keys::specifier_end` meets its contract: each return is a case of `specifier_end`. Assumes nothing.
-use mathlib.Core.Path.{sym, ◌∙◌}
 use native.Mathlib.Omega.{arith}
-use Rattle.digest.proofs.Picks.{picks}
-use mathlib.Core.Path.{sym, ◌∙◌}
-use mathlib.Core.Bool.{true, false}
+use Rattle.std.proofs.Common.{sym, ◌∙◌, refl, length, get_or}
+use Rattle.digest.proofs.Picks.{if_lt, if_ge, if_ne}
 use Rattle.message.specs.Keys.{specifier_end}
+use Rattle.message.proofs.Fields.{told_none, told_some, told_if, end_none, end_some, got, not_got}
 use Rattle.message.proofs.SetEnds.{specifier_cut, specifier_by}
 use Rattle.message.proofs.keys.specifier_end.Goals as goal
 
-pub returns-then-s-at : goal.returns-then-s-at
+pub returns-in_err-index-clause-value : goal.returns-in_err-index-clause-value
 unfolding specifier_end
-returns-then-s-at c = record { value = search picks; upper_bound = omega arith }
+returns-in_err-index-clause-value c =
+    let a = c.args in
+    rw c.from_residual.ensures (told_none _ (if_ge _ a.at (length a.s.now) (not_got _ _ c.in_err-index.ensures.lookup.0) refl))
 
-pub returns-then-s-at-2 : goal.returns-then-s-at-2
+pub returns-then-index-clause-value : goal.returns-then-index-clause-value
 unfolding specifier_end
-returns-then-s-at-2 c = record { value = search picks; upper_bound = omega arith }
+returns-then-index-clause-value c =
+    let a = c.args in
+    let g = got a.s.now a.at _ c.in_ok-index.ensures.lookup.0 c.in_ok-index.ensures.lookup.1 in
+    told_some _ _ (omega arith) (if_lt _ a.at (length a.s.now) g.0 (if_ne _ (get_or a.s.now a.at 0) 255 (λ z. c.if-index.true (g.1 ∙ z)) refl))
 
-pub returns-then-end-eq0 : goal.returns-then-end-eq0
-returns-then-end-eq0 c = let b = c in
-    let a = b.args in record { value = specifier_cut a.s.now a.at a.suite b.if-s-at.false (omega (arith, b.if-s-at-2.false)) (sym c.long_end-end.ensures.value ∙ c.if-end-eq0.true); upper_bound = omega arith }
+pub returns-in_err-end-clause-value : goal.returns-in_err-end-clause-value
+returns-in_err-end-clause-value c = let a = c.args in
+    let g = got a.s.now a.at _ c.in_ok-index.ensures.lookup.0 c.in_ok-index.ensures.lookup.1 in
+    rw c.from_residual-in_err-end.ensures
+    (told_none _ (specifier_cut a.s.now a.at a.suite g.0 (sym g.1 ∙ c.if-index.false) (end_none _ c.in_err-end.ensures.value)))
 
-pub returns-then-sound : goal.returns-then-sound
-returns-then-sound c = let b = c in
-    let a = b.args in record { value = specifier_by a.s.now a.at a.suite b.if-s-at.false (omega (arith, b.if-s-at-2.false)) _ _ _ true c.long_end-end.ensures.value c.part.ensures c.sound.ensures c.if-sound.true; upper_bound = c.long_end-end.ensures.upper_bound }
-
-pub returns : goal.returns
-returns c = let b = c in
-    let a = b.args in record { value = specifier_by a.s.now a.at a.suite b.if-s-at.false (omega (arith, b.if-s-at-2.false)) _ _ _ false c.long_end-end.ensures.value c.part.ensures c.sound.ensures c.if-sound.false; upper_bound = omega arith }
+pub returns-clause-value : goal.returns-clause-value
+returns-clause-value c = let a = c.args in
+    let g = got a.s.now a.at _ c.in_ok-index.ensures.lookup.0 c.in_ok-index.ensures.lookup.1 in
+    let e = end_some _ _ c.in_ok-end.ensures.value in
+    rw c.then_some.ensures
+    (told_if _ _ _ (omega (arith, e))
+    (specifier_by a.s.now a.at a.suite g.0 (sym g.1 ∙ c.if-index.false) _ _ _ _ e.0 c.part.ensures c.sound.ensures refl))

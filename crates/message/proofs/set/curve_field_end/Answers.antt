@@ -1,24 +1,25 @@
 -- `message::set::curve_field_end` meets its contract: each arm is a case of `curve_field_end`. Assumes nothing.
 use native.Mathlib.Omega.{arith}
-use mathlib.Core.Path.{sym, ◌∙◌}
+use Rattle.std.proofs.Common.{sym, ◌∙◌}
+use Rattle.message.proofs.Fields.{told_none, told_same, first_got, first_not_got}
 use Rattle.message.proofs.SetEnds.{field_is_prime, field_is_two, field_other, field_cut}
 use Rattle.message.proofs.set.curve_field_end.Goals as goal
 
-pub returns-then-s-eq0 : goal.returns-then-s-eq0
-returns-then-s-eq0 c = record { value = sym (field_cut c.args.s.now c.if-s-eq0.true); upper_bound = omega arith }
+pub returns-in_err-kind-clause-value : goal.returns-in_err-kind-clause-value
+returns-in_err-kind-clause-value c =
+    rw c.from_residual.ensures (told_none _ (sym (field_cut c.args.s.now (first_not_got _ c.in_err-kind.ensures.value))))
 
-pub returns-in-1 : goal.returns-in-1
-returns-in-1 c = let s = c.args.s.now in
-    let h = c.if-s-eq0.false in
-    record { value = c.short_end.ensures.value ∙ sym (field_is_prime s h c.in-1.is); upper_bound = c.short_end.ensures.upper_bound }
+pub returns-in-1-clause-value : goal.returns-in-1-clause-value
+returns-in-1-clause-value c =
+    let g = first_got c.args.s.now _ c.in_ok-kind.ensures.value in
+    told_same _ _ _ c.short_end.ensures.value (sym (field_is_prime c.args.s.now g.0 (sym g.1 ∙ c.in-1.is)))
 
-pub returns-in-2 : goal.returns-in-2
-returns-in-2 c = let s = c.args.s.now in
-    let h = c.if-s-eq0.false in
-    record { value = c.basis_end.ensures.value ∙ sym (field_is_two s h c.in-2.is); upper_bound = c.basis_end.ensures.upper_bound }
+pub returns-in-2-clause-value : goal.returns-in-2-clause-value
+returns-in-2-clause-value c =
+    let g = first_got c.args.s.now _ c.in_ok-kind.ensures.value in
+    told_same _ _ _ c.basis_end.ensures.value (sym (field_is_two c.args.s.now g.0 (sym g.1 ∙ c.in-2.is)))
 
-pub returns-in_default : goal.returns-in_default
-returns-in_default c = let s = c.args.s.now in
-    let h = c.if-s-eq0.false in
-    let w = c.in_default.in_default-own.rest in
-    record { value = sym (field_other s h w.0.1 w.1); upper_bound = omega arith }
+pub returns-in_default-clause-value : goal.returns-in_default-clause-value
+returns-in_default-clause-value c =
+    let g = first_got c.args.s.now _ c.in_ok-kind.ensures.value in
+    told_none _ (sym (field_other c.args.s.now g.0 (λ z. omega (arith, g.1)) (λ z. omega (arith, g.1))))

@@ -1,7 +1,0 @@
--- `message::acceptance::byte_at` meets its contract. Assumes nothing.
-use mathlib.Core.Path.{sym}
-use lib.ListN.{get_or-eq_default}
-use Rattle.message.proofs.acceptance.byte_at.Goals as goal
-
-pub returns : goal.returns
-returns c = sym (get_or-eq_default c.args.m.now 0 c.if-at-m.false)
