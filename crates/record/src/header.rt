@@ -18,13 +18,13 @@ pub struct Kind {
     pub content: u8,
 }
 
-// The four kinds of content, 1 to 4 on the wire.
-#[derive(Clone, Copy)]
+// The four kinds of content, with their numbers on the wire.
+#[derive(Clone, Copy, PartialEq, Eq, Debug)]
 pub enum Content {
-    ChangeCipherSpec,
-    Alert,
-    Handshake,
-    Data,
+    ChangeCipherSpec = 1,
+    Alert = 2,
+    Handshake = 3,
+    Data = 4,
 }
 
 // The parts of a type byte.
@@ -53,45 +53,29 @@ pub fn built(kind: Kind) -> u8
 
 // Whether a record may have this type byte: with a sequence number, the reserved bit clear, and a
 // content from 1 to 4.
+#[tactic(auto, unfolding(crate::specs::Header::sound_kind))]
 pub fn sound(kind: Kind) -> bool
     ensures { result ≡ sound_kind kind }
 {
-    if !kind.numbered {
-        return false;
-    }
-    if kind.reserved {
-        return false;
-    }
-    if kind.content < 1 {
-        return false;
-    }
-    kind.content <= 4
+    kind.numbered && !kind.reserved && matches!(kind.content, 1..=4)
 }
 
 // The content of a number; those outside 1 to 4, which no sound record has, count as data.
+#[tactic(auto, unfolding(crate::specs::Header::content_of))]
 pub fn content_of(number: u8) -> Content
     ensures { result ≡ content_of number }
 {
-    if number == 1 {
-        return Content::ChangeCipherSpec;
+    match number {
+        1 => Content::ChangeCipherSpec,
+        2 => Content::Alert,
+        3 => Content::Handshake,
+        _ => Content::Data,
     }
-    if number == 2 {
-        return Content::Alert;
-    }
-    if number == 3 {
-        return Content::Handshake;
-    }
-    Content::Data
 }
 
 // The number of a content on the wire.
 pub fn number_of(content: Content) -> u8
     ensures { result ≡ number_of content }
 {
-    match content {
-        Content::ChangeCipherSpec => 1,
-        Content::Alert => 2,
-        Content::Handshake => 3,
-        Content::Data => 4,
-    }
+    content as u8
 }
