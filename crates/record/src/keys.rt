@@ -29,11 +29,8 @@ impl Keys {
     pub fn key(self, sense: Sense, number: u16) -> Key
         ensures { result ≡ key_of (secret_for self sense number) }
     {
-        let secret = self.secret;
         let label = label(sense);
-        let server = self.server;
-        let client = self.client;
-        record_key(&secret, &label, self.refresh, number, &server, &client)
+        record_key(&self.secret, &label, self.refresh, number, &self.server, &self.client)
     }
 }
 
@@ -48,14 +45,15 @@ fn label(sense: Sense) -> [u8; 16]
 }
 
 // The first number of the run of 2^refresh numbers that `number` is in. Above 15 there is one run.
+#[tactic(auto, using(crate::proofs::Marks::remainder_gone), unfolding(crate::specs::Keys::key_number))]
 pub fn key_number(refresh: u8, number: u16) -> u16
     ensures { result ≡ key_number refresh number }
 {
     if refresh <= 15 {
-        let places = refresh as u16;
-        return (number >> places) << places;
+        (number >> refresh) << refresh
+    } else {
+        0
     }
-    0
 }
 
 // The key of a record's own number in the direction of the label, so that a late record from before
@@ -74,11 +72,11 @@ pub fn record_key(
 }
 
 // The key of a key number: records whose key numbers are the same may share it.
+#[tactic(auto, unfolding(crate::specs::Keys::mac_secret))]
 pub fn derived(secret: &[u8], label: &[u8], first: u16, server: &[u8], client: &[u8]) -> Key
     ensures { result ≡ key_of (mac_secret secret.now label.now first server.now client.now) }
 {
-    let seed = [(first / 256 % 256) as u8, (first % 256) as u8];
     let mut out = [0u8; Mac::SECRET_SIZE];
-    digest::prf(secret, label, &seed, server, client, &mut out);
+    digest::prf(secret, label, &first.to_be_bytes(), server, client, &mut out);
     Key::new(&out)
 }

@@ -2,12 +2,13 @@
 // the numbers that go out next (002 9.2.3.1, 9.2.3.2 and 11.2). Its two acts are to open a protected record and
 // to write one. Every value of it is safe to pass in.
 ghost use Rattle.std.specs.Prelude.{◌≡◌, ◌≤◌, length};
-ghost use Rattle.record.specs.Protection.{opened_by, wrote_by, output_by, wrote_size, with_window, counted_on};
+ghost use Rattle.record.specs.Protection.{unopened_of, opening_by, opened_by, wrote_by, output_by, wrote_size, with_window, counted_on};
 
-use crate::code::{genuine, write_protected};
+use crate::code::{genuine, write_coded};
 use crate::header::Content;
 use crate::keys::{Keys, Sense};
 use crate::window::{NotNew, Window};
+use crate::written::Head;
 
 // The next protected and clear numbers are 65,536 once spent.
 #[derive(Clone, Copy)]
@@ -24,6 +25,17 @@ pub enum Unopened {
     Forged,
     TooOld,
     Repeated,
+}
+
+impl From<NotNew> for Unopened {
+    ghost from_gives = { λ why told. told ≡ unopened_of why };
+
+    fn from(why: NotNew) -> Self {
+        match why {
+            NotNew::TooOld => Unopened::TooOld,
+            NotNew::Repeated => Unopened::Repeated,
+        }
+    }
 }
 
 // What becomes of a protected record, and the protection that it leaves. Of a new one so many bytes of the fragment are
@@ -54,11 +66,7 @@ impl Writing {
     pub fn size(self) -> usize
         ensures { result ≡ wrote_size self.wrote }
     {
-        match self.wrote {
-            Err(Unwritten::Spent) => 0,
-            Err(Unwritten::NoRoom) => 0,
-            Ok(size) => size,
-        }
+        self.wrote.unwrap_or(0)
     }
 }
 
@@ -68,31 +76,29 @@ impl Protection {
     pub fn open(self, sense: Sense, number: u16, byte: u8, fragment: &[u8]) -> Opening
         ensures { result ≡ opened_by self sense number byte fragment.now }
     {
-        let keys = self.keys;
-        let mac = keys.mac;
-        let key = keys.key(sense, number);
-        if !genuine(key, mac, number, byte, fragment) {
-            return Opening {
-                opened: Err(Unopened::Forged),
-                protection: self,
-            };
-        }
-        let size = fragment.len() - mac.size();
-        let window = self.window;
-        match window.accept(number) {
-            Err(NotNew::TooOld) => Opening {
-                opened: Err(Unopened::TooOld),
+        match self.judged(sense, number, byte, fragment) {
+            Err(why) => Opening {
+                opened: Err(why),
                 protection: self,
             },
-            Err(NotNew::Repeated) => Opening {
-                opened: Err(Unopened::Repeated),
-                protection: self,
-            },
-            Ok((marked, _)) => Opening {
+            Ok((size, marked)) => Opening {
                 opened: Ok(size),
                 protection: self.with_window(marked),
             },
         }
+    }
+
+    // The size of the content of a record that is opened, and the window with the mark of its number.
+    fn judged(self, sense: Sense, number: u16, byte: u8, fragment: &[u8]) -> Result<(usize, Window), Unopened>
+        ensures { opening_by self result ≡ opened_by self sense number byte fragment.now }
+    {
+        let mac = self.keys.mac;
+        let key = self.keys.key(sense, number);
+        if !genuine(key, mac, number, byte, fragment) {
+            return Err(Unopened::Forged);
+        }
+        let (marked, _) = self.window.accept(number)?;
+        Ok((fragment.len() - mac.size(), marked))
     }
 
     // Writes the next record, without a length. Where it is not written, no byte of the output is touched.
@@ -107,19 +113,22 @@ impl Protection {
             };
         }
         let number = self.protected as u16;
-        let keys = self.keys;
-        let mac = keys.mac;
-        let key = keys.key(sense, number);
-        let size = write_protected(key, mac, false, content, number, body, out);
-        if size == 0 {
-            return Writing {
+        let key = self.keys.key(sense, number);
+        let head = Head {
+            long: false,
+            protected: true,
+            content,
+            number,
+        };
+        match write_coded(key, self.keys.mac, head, body, out) {
+            None => Writing {
                 wrote: Err(Unwritten::NoRoom),
                 protection: self,
-            };
-        }
-        Writing {
-            wrote: Ok(size),
-            protection: self.counted_on(),
+            },
+            Some(size) => Writing {
+                wrote: Ok(size),
+                protection: self.counted_on(),
+            },
         }
     }
 
