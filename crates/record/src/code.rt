@@ -60,7 +60,13 @@ pub fn write_protected(
 }
 
 // The record of a content with its code behind it: its size, where it fits.
-pub(crate) fn write_coded(key: Key, mac: Mac, head: Head, body: &[u8], out: &mut [u8]) -> Option<usize>
+pub(crate) fn write_coded(
+    key: Key,
+    mac: Mac,
+    head: Head,
+    body: &[u8],
+    out: &mut [u8],
+) -> Option<usize>
     requires { head.protected ≡ true }
     ensures size { result ≡ size_within out.old (protected_by (code_under key) (size_of mac) head.long head.content head.number body.now) }
     ensures bytes { out.new ≡ written_of out.old (protected_by (code_under key) (size_of mac) head.long head.content head.number body.now) }

@@ -30,7 +30,14 @@ impl Keys {
         ensures { result ≡ key_of (secret_for self sense number) }
     {
         let label = label(sense);
-        record_key(&self.secret, &label, self.refresh, number, &self.server, &self.client)
+        record_key(
+            &self.secret,
+            &label,
+            self.refresh,
+            number,
+            &self.server,
+            &self.client,
+        )
     }
 }
 
@@ -77,6 +84,13 @@ pub fn derived(secret: &[u8], label: &[u8], first: u16, server: &[u8], client: &
     ensures { result ≡ key_of (mac_secret secret.now label.now first server.now client.now) }
 {
     let mut out = [0u8; Mac::SECRET_SIZE];
-    digest::prf(secret, label, &first.to_be_bytes(), server, client, &mut out);
+    digest::prf(
+        secret,
+        label,
+        &first.to_be_bytes(),
+        server,
+        client,
+        &mut out,
+    );
     Key::new(&out)
 }

@@ -89,7 +89,13 @@ impl Protection {
     }
 
     // The size of the content of a record that is opened, and the window with the mark of its number.
-    fn judged(self, sense: Sense, number: u16, byte: u8, fragment: &[u8]) -> Result<(usize, Window), Unopened>
+    fn judged(
+        self,
+        sense: Sense,
+        number: u16,
+        byte: u8,
+        fragment: &[u8],
+    ) -> Result<(usize, Window), Unopened>
         ensures { opening_by self result ≡ opened_by self sense number byte fragment.now }
     {
         let mac = self.keys.mac;

@@ -40,6 +40,20 @@ pub struct Record {
     pub used: usize,
 }
 
+impl Record {
+    // What stands in a place with no record.
+    pub const BLANK: Record = Record {
+        byte: 0,
+        content: Content::ChangeCipherSpec,
+        protected: false,
+        number: 0,
+        start: 0,
+        head: 0,
+        size: 0,
+        used: 0,
+    };
+}
+
 // The record that begins at the front of `part`, or the first fault in the order 3, 2, 4. An empty
 // part has not even a type byte: its header passes the end.
 #[tactic(auto, unfolding(crate::specs::Reader::read_of))]
