@@ -31,9 +31,9 @@ pub fn genuine(key: Key, mac: Mac, number: u16, byte: u8, fragment: &[u8]) -> bo
     if fragment.len() < size {
         return false;
     }
-    let end = fragment.len() - size;
-    let whole = code(key, number, byte, &fragment[..end]);
-    digest::same_code(&fragment[end..], mac.cut(&whole))
+    let (content, sent) = fragment.split_at(fragment.len() - size);
+    let whole = code(key, number, byte, content);
+    digest::same_code(sent, mac.cut(&whole))
 }
 
 // A protected record with this content and its code. Answers how many bytes it wrote: the whole

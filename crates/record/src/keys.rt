@@ -18,10 +18,22 @@ pub struct Keys {
 }
 
 // Whose records: each end has keys of its own.
-#[derive(Clone, Copy)]
+#[derive(Clone, Copy, PartialEq, Eq, Debug)]
 pub enum Sense {
     FromUnit,
     FromShore,
+}
+
+impl Sense {
+    // The label of the expansion.
+    fn label(self) -> [u8; 16]
+        ensures { result ≡ label_of self }
+    {
+        match self {
+            Sense::FromUnit => Mac::CLIENT_EXPANSION,
+            Sense::FromShore => Mac::SERVER_EXPANSION,
+        }
+    }
 }
 
 impl Keys {
@@ -29,25 +41,14 @@ impl Keys {
     pub fn key(self, sense: Sense, number: u16) -> Key
         ensures { result ≡ key_of (secret_for self sense number) }
     {
-        let label = label(sense);
-        record_key(
-            &self.secret,
-            &label,
-            self.refresh,
-            number,
-            &self.server,
-            &self.client,
-        )
-    }
-}
-
-// The label of the expansion.
-fn label(sense: Sense) -> [u8; 16]
-    ensures { result ≡ label_of sense }
-{
-    match sense {
-        Sense::FromUnit => Mac::CLIENT_EXPANSION,
-        Sense::FromShore => Mac::SERVER_EXPANSION,
+        let Keys {
+            secret,
+            server,
+            client,
+            refresh,
+            ..
+        } = self;
+        record_key(&secret, &sense.label(), refresh, number, &server, &client)
     }
 }
 
@@ -83,14 +84,8 @@ pub fn record_key(
 pub fn derived(secret: &[u8], label: &[u8], first: u16, server: &[u8], client: &[u8]) -> Key
     ensures { result ≡ key_of (mac_secret secret.now label.now first server.now client.now) }
 {
+    let seed = first.to_be_bytes();
     let mut out = [0u8; Mac::SECRET_SIZE];
-    digest::prf(
-        secret,
-        label,
-        &first.to_be_bytes(),
-        server,
-        client,
-        &mut out,
-    );
+    digest::prf(secret, label, &seed, server, client, &mut out);
     Key::new(&out)
 }

@@ -20,7 +20,7 @@ pub struct Protection {
 }
 
 // Why a protected record is not opened.
-#[derive(Clone, Copy)]
+#[derive(Clone, Copy, PartialEq, Eq, Debug)]
 pub enum Unopened {
     Forged,
     TooOld,
@@ -47,7 +47,7 @@ pub struct Opening {
 }
 
 // Why a record is not written: the numbers are spent, or the room is too small.
-#[derive(Clone, Copy)]
+#[derive(Clone, Copy, PartialEq, Eq, Debug)]
 pub enum Unwritten {
     Spent,
     NoRoom,
@@ -142,9 +142,7 @@ impl Protection {
     pub fn with_window(self, window: Window) -> Protection
         ensures { result ≡ with_window self window }
     {
-        let mut p = self;
-        p.window = window;
-        p
+        Protection { window, ..self }
     }
 
     // The protection after a record was written.
@@ -152,8 +150,9 @@ impl Protection {
         requires { self.protected ≤ 65535 }
         ensures { result ≡ counted_on self }
     {
-        let mut p = self;
-        p.protected = self.protected + 1;
-        p
+        Protection {
+            protected: self.protected + 1,
+            ..self
+        }
     }
 }

@@ -18,7 +18,7 @@ pub struct Window {
 }
 
 // Why a number is not new.
-#[derive(Clone, Copy)]
+#[derive(Clone, Copy, PartialEq, Eq, Debug)]
 pub enum NotNew {
     TooOld,
     Repeated,
@@ -41,11 +41,7 @@ impl Window {
     pub fn emptied(self) -> Window
         ensures { result ≡ emptied self }
     {
-        Window {
-            width: self.width,
-            highest: 0,
-            marks: 0,
-        }
+        Window::fresh(self.width)
     }
 
     // What becomes of a number: `exact` for every window, and `meaning` for the window of the numbers h
@@ -63,10 +59,11 @@ impl Window {
         ensures exact { result ≡ arrival_of self }
         ensures meaning { (width : ℕ) (h : List ℕ) → Held width → self ≡ window_of width h → result ≡ arrived_of width h }
     {
-        u64::count_ones(cut(self.marks, held(self.width)))
+        cut(self.marks, held(self.width)).count_ones()
     }
 
     // The number in a window of this width.
+    #[tactic(auto, using(crate::proofs::Answers::masked_bit), unfolding(crate::specs::Window::accept_by))]
     fn accept_within(self, width: u64, number: u16) -> Result<(Window, u32), NotNew>
         requires { (0 < width) × (width ≤ 64) }
         ensures { result ≡ accept_within width self number }
@@ -75,8 +72,7 @@ impl Window {
         if marks == 0 {
             return arrived(width, number, 1);
         }
-        let highest = self.highest;
-        let n = highest as u64;
+        let n = self.highest as u64;
         let s = number as u64;
         if n < s {
             return arrived(width, number, moved(marks, s - n, width));
@@ -88,22 +84,17 @@ impl Window {
         if (marks >> place) & 1 == 1 {
             return Err(NotNew::Repeated);
         }
-        arrived(width, highest, marked(marks, place))
+        arrived(width, self.highest, marked(marks, place))
     }
 }
 
 // How many marks a window keeps: its width, from 32 to 64.
+#[tactic(auto, unfolding(crate::specs::Window::held_width))]
 fn held(width: u8) -> u64
     ensures value { result ≡ held_width width }
     ensures result_nonzero { (0 < result) × (result ≤ 64) }
 {
-    if width < 32 {
-        return 32;
-    }
-    if 64 < width {
-        return 64;
-    }
-    width as u64
+    u64::from(width.clamp(32, 64))
 }
 
 // The window with these marks, and how many there are.
@@ -116,7 +107,7 @@ fn arrived(width: u64, highest: u16, marks: u64) -> Result<(Window, u32), NotNew
         highest,
         marks,
     };
-    Ok((window, u64::count_ones(marks)))
+    Ok((window, marks.count_ones()))
 }
 
 // The marks of the width, and no others.
@@ -134,9 +125,10 @@ fn moved(marks: u64, by: u64, width: u64) -> u64
     ensures { result ≡ marks * 2 ^ by % 2 ^ width + 1 }
 {
     if width <= by {
-        return 1;
+        1
+    } else {
+        cut(marks << by, width) | 1
     }
-    cut(marks << by, width) | 1
 }
 
 // The marks with one more, which was not there.

@@ -9,8 +9,8 @@ use Rattle.record.proofs.window.moved.Goals as goal
 pub returns-then-width-by : goal.returns-then-width-by
 returns-then-width-by c = rw (moved_out c.args.marks c.args.by c.args.width (omega arith))
 
-pub returns : goal.returns
-returns c = let a = c.args in
+pub returns-else-width-by : goal.returns-else-width-by
+returns-else-width-by c = let a = c.args in
     let pre = c.requires in
     ap (λ (x : ℕ). bit_or x 1) (c.cut.ensures ∙ shift_cut a.marks a.by a.width pre.1.1)
     ∙ lowest_set a.marks a.by a.width pre.0 pre.1.0
