@@ -5,7 +5,7 @@ use mathlib.Core.List.{List, [], ◌∷◌, ◌++◌, map}
 use Prim.Native.Nat.{ℕ, zero, suc, ◌+◌, ◌-◌, ◌<◌, ◌≤◌}
 use native.Mathlib.Omega.{arith}
 use native.Mathlib.Numerals.{add-one}
-use lib.ListN.{length, take, drop, get_or, set, replicate, length-append, length-take, length-drop, length-map}
+use lib.ListN.{length, take, drop, get_or, set, replicate, length-append, length-drop, length-map}
 use Rattle.digest.specs.Bytes.{laid_over}
 use lib.Dec.{eqb}
 use borrow.Author.Tests.{ne_eqb}
@@ -13,9 +13,8 @@ use Rattle.digest.specs.Pick.{pick}
 use Rattle.record.proofs.Covering.{covers, Lies, lies_at, next_start, walkable}
 use Rattle.record.specs.Reader.{read_of}
 use lib.Seq.{take-suc, set_at, take_at, take_all, append_snoc, drop-cons, get_or-drop, get_or-take, length-take-le}
-use Rattle.record.specs.Datagram.{Framing, framed, faulty, framing_of, walk_of, answered, found_all, refused_at, blank, placed_at, CoversFrom}
-use Rattle.record.specs.declared.reader.Fault.{Fault}
-use Rattle.record.specs.declared.datagram.Outcome.TheVariants as O
+use Rattle.record.specs.Datagram.{Framing, framed, faulty, framing_of, walk_of, answered, found_all, misframed_at, blank, placed_at, CoversFrom}
+use Rattle.record.specs.declared.datagram.Misframed.{Misframed}
 use Rattle.record.specs.declared.datagram.Walk.{Walk}
 use Rattle.record.specs.declared.reader.Record.{Record}
 use Rattle.connection.specs.Answer.{reply_size}
@@ -36,7 +35,7 @@ use Rattle.connection.specs.declared.answer.Slot.{Slot}
 use Rattle.connection.specs.declared.receive.Received.{Received}
 use Rattle.connection.specs.declared.connection.Connection.{Connection}
 use Rattle.connection.specs.declared.told.Told.{Told}
-use Rattle.std.specs.Prelude.{Ok}
+use Rattle.std.specs.Prelude.{Ok, Err}
 
 pub end_snoc : (c : Connection) (random d : List ℕ) (rs : List Record) (r : Record)
     → end_of c random d (rs ++ (r ∷ [])) ≡ (told_record (end_of c random d rs) random d r).connection
@@ -164,47 +163,30 @@ found_front : (rs : List Record) → take (found_all rs).count (found_all rs).re
 unfolding found_all
 found_front rs = take_at rs (replicate (8 - length rs) blank) (length rs) refl
 
-sound_outcome : (rs : List Record) → (found_all rs).outcome ≡ O.Sound
-unfolding found_all
-sound_outcome rs = refl
-
-refused_outcome : (fault : Fault) (at : ℕ) → (refused_at fault at).outcome ≡ O.Refused fault at
-unfolding refused_at
-refused_outcome fault at = refl
-
-refused_count : (fault : Fault) (at : ℕ) → (refused_at fault at).count ≡ 0
-unfolding refused_at
-refused_count fault at = refl
-
 -- what the walk found, as a framing
-pub walk_sound : (d : List ℕ) (w : Walk) → w ≡ walk_of d → w.outcome ≡ O.Sound → framing_of d ≡ framed (take w.count w.records)
-walk_sound d w e o = go (framing_of d) refl
+pub walk_sound : (d : List ℕ) (w : Walk) → walk_of d ≡ Ok w → framing_of d ≡ framed (take w.count w.records)
+walk_sound d w e = go (framing_of d) refl
   where
     go : (f : Framing) → framing_of d ≡ f → framing_of d ≡ framed (take w.count w.records)
     go (framed rs) q =
-        let w-is : w ≡ found_all rs = e ∙ ap answered q in
+        let z : Ok w ≡ Ok (found_all rs) = sym e ∙ ap answered q in
+        let w-is : w ≡ found_all rs = cc in
         q ∙ ap framed (sym (ap (λ x. take x.count x.records) w-is ∙ found_front rs))
     go (faulty fault at) q =
-        let z : O.Refused fault at ≡ O.Sound = sym (refused_outcome fault at) ∙ sym (ap (λ x. x.outcome) (e ∙ ap answered q)) ∙ o in
+        let z : Ok w ≡ misframed_at fault at = sym e ∙ ap answered q in
         let n : ◌≡◌ {A = ℕ} 0 1 = cc in absurd (omega arith)
 
-pub walk_refused : (d : List ℕ) (w : Walk) (fault : Fault) (at : ℕ) → w ≡ walk_of d → w.outcome ≡ O.Refused fault at → framing_of d ≡ faulty fault at
-walk_refused d w fault at e o = go (framing_of d) refl
+pub walk_refused : (d : List ℕ) (m : Misframed) → walk_of d ≡ Err m → framing_of d ≡ faulty m.fault m.at
+walk_refused d m e = go (framing_of d) refl
   where
-    go : (f : Framing) → framing_of d ≡ f → framing_of d ≡ faulty fault at
+    go : (f : Framing) → framing_of d ≡ f → framing_of d ≡ faulty m.fault m.at
     go (framed rs) q =
-        let z : O.Sound ≡ O.Refused fault at = sym (sound_outcome rs) ∙ sym (ap (λ x. x.outcome) (e ∙ ap answered q)) ∙ o in
+        let z : Err m ≡ Ok (found_all rs) = sym e ∙ ap answered q in
         let n : ◌≡◌ {A = ℕ} 0 1 = cc in absurd (omega arith)
     go (faulty other there) q =
-        let z : O.Refused other there ≡ O.Refused fault at = sym (refused_outcome other there) ∙ sym (ap (λ x. x.outcome) (e ∙ ap answered q)) ∙ o in
-        let one : other ≡ fault = cc in
-        let two : there ≡ at = cc in
-        q ∙ ap₂ faulty one two
-
-pub walk_some : (d : List ℕ) (w : Walk) → w ≡ walk_of d → w.outcome ≡ O.Sound → 0 < w.count
-walk_some d w e o =
-    let c = covers d (take w.count w.records) (walk_sound d w e o) in
-    omega (arith, c.3, length-take w.count w.records)
+        let z : Err m ≡ misframed_at other there = sym e ∙ ap answered q in
+        let m-is : m ≡ record { fault = other; at = there } = cc in
+        q ∙ sym (ap (λ (x : Misframed). faulty x.fault x.at) m-is)
 
 -- nothing sent leaves the output as it was
 pub laid_nothing : (out : List ℕ) → out ≡ laid_over out 0 []
@@ -212,13 +194,6 @@ unfolding laid_over
 laid_nothing out = refl
 
 -- ---- records read again at their places
-
-pub walk_framed : (d : List ℕ) (w : Walk) → w ≡ walk_of d → 0 < w.count → framing_of d ≡ framed (take w.count w.records)
-walk_framed d w e some = go (framing_of d) refl
-  where
-    go : (f : Framing) → framing_of d ≡ f → framing_of d ≡ framed (take w.count w.records)
-    go (framed rs) q = walk_sound d w e (ap (λ x. x.outcome) (e ∙ ap answered q) ∙ sound_outcome rs)
-    go (faulty fault at) q = absurd (omega (arith, ap (λ x. x.count) (e ∙ ap answered q) ∙ refused_count fault at))
 
 pub record_there : (d : List ℕ) (r : Record) (at : ℕ) → Lies d r → r.start ≡ at → record_at d at ≡ r
 record_there d r at l e =
@@ -410,7 +385,7 @@ module _ {d : List ℕ} {count : ℕ} {answers₀ : List Slot} {left₀ : Connec
       omega (arith, l.inside, now_going.at_is inside)
 
 -- a run of what the walk found, begun; and at its end
-module _ (d ours : List ℕ) (c : Connection) (w : Walk) (b : Begun) (r : Record) (ew : w ≡ walk_of d) (some : 0 < w.count) (er : r ≡ record_at d 0)
+module _ (d ours : List ℕ) (c : Connection) (w : Walk) (b : Begun) (r : Record) (ew : walk_of d ≡ Ok w) (er : r ≡ record_at d 0)
     (eb : b ≡ begun_of c ours d r) where
   abbrev first : List Slot
   first = set (replicate 8 (slot Nothing)) 0 (slot b.answer)
@@ -419,7 +394,7 @@ module _ (d ours : List ℕ) (c : Connection) (w : Walk) (b : Begun) (r : Record
   rs = take w.count w.records
 
   walked : CoversFrom d 0 rs × (1 ≤ length d) × (length d ≤ 1400) × (1 ≤ length rs) × (length rs ≤ 8)
-  walked = covers d rs (walk_framed d w ew some)
+  walked = covers d rs (walk_sound d w ew)
 
   counted : length rs ≡ w.count
   counted = length-take-le w.count w.records (omega (arith, (walkable d w ew).few, (walkable d w ew).eight))
@@ -457,12 +432,12 @@ module _ (d ours : List ℕ) (c : Connection) (w : Walk) (b : Begun) (r : Record
   sent_first = replied
 
 -- its first record lies in the datagram, which is no longer than a datagram may be
-pub first_fits : (d : List ℕ) (w : Walk) (r : Record) → w ≡ walk_of d → 0 < w.count → r ≡ record_at d 0 → (0 < r.size) × (r.start + r.head + r.size ≤ length d)
-first_fits d w r ew some er =
+pub first_fits : (d : List ℕ) (w : Walk) (r : Record) → walk_of d ≡ Ok w → r ≡ record_at d 0 → (0 < r.size) × (r.start + r.head + r.size ≤ length d)
+first_fits d w r ew er =
     let rs = take w.count w.records in
-    let v = covers d rs (walk_framed d w ew some) in
+    let v = covers d rs (walk_sound d w ew) in
     let l = lies_at rs 0 d 0 (omega arith) v.0 (omega (arith, v.3)) in
     fits d r (subst (Lies d) (sym (er ∙ record_there d (get_or rs 0 blank) 0 l (first_start d rs (omega (arith, v.3)) v.0))) l)
 
-pub short_enough : (d : List ℕ) (w : Walk) → w ≡ walk_of d → 0 < w.count → length d ≤ 1400
-short_enough d w ew some = (covers d (take w.count w.records) (walk_framed d w ew some)).2
+pub short_enough : (d : List ℕ) (w : Walk) → walk_of d ≡ Ok w → length d ≤ 1400
+short_enough d w ew = (covers d (take w.count w.records) (walk_sound d w ew)).2

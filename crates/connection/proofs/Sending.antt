@@ -23,7 +23,6 @@ use Rattle.digest.specs.Pick.{pick}
 use Rattle.record.specs.Protection.{next_record, counted_on, wrote_size, writing, wrote_by, output_by}
 use Rattle.record.specs.declared.keys.Sense.TheVariants.{FromShore}
 use Rattle.record.specs.declared.protection.Writing.{Writing}
-use Rattle.record.specs.declared.protection.Unwritten.TheVariants as W
 use Rattle.record.proofs.Protecting.{record_under_length, wrote_when, output_when}
 use Rattle.connection.specs.Send.{and_then, may_data, numbered_by, data_refused, alert_refused, unsent, sent_to, output_to, next_protected, next_clear, alert_sent_as, alert_output_as, after_protected, after_clear, after_send, sender_of, clear_back, done, done_with}
 use Rattle.connection.specs.Sent.{sum_of, with_record}

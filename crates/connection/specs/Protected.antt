@@ -8,7 +8,7 @@ use Rattle.digest.specs.Pick.{pick}
 use Rattle.record.specs.Protection.{opened_by}
 use Rattle.record.specs.declared.keys.Sense.TheVariants.{FromUnit}
 use Rattle.record.specs.declared.protection.Protection.{Protection}
-use Rattle.record.specs.declared.protection.Unopened.TheVariants as O
+use Rattle.connection.specs.Refusal.{unopened_as}
 use Rattle.message.specs.Alert.{alert_of}
 use Rattle.message.specs.Finished.{judged_of}
 use Rattle.message.specs.declared.alert.Level.{Level}
@@ -21,7 +21,7 @@ use Rattle.connection.specs.declared.state.State.{State}
 use Rattle.connection.specs.declared.state.State.TheVariants as S
 use Rattle.connection.specs.declared.state.Kind.{Kind}
 use Rattle.connection.specs.declared.state.Kind.TheVariants.{ClearHello, ClearChange, ClearAlert, OtherClear, ProtectedChange, ProtectedAlert, ProtectedHandshake, ProtectedData}
-use Rattle.connection.specs.declared.refusal.Refusal.TheVariants.{Ended, NotAllowed, Forged, TooOld, Repeated, Malformed, WrongFinished}
+use Rattle.connection.specs.declared.refusal.Refusal.TheVariants.{Ended, NotAllowed, Malformed, WrongFinished}
 use Rattle.connection.specs.declared.answer.Answer.TheVariants as W
 use Rattle.connection.specs.declared.answer.Judged.{Judged}
 use Rattle.connection.specs.declared.handshake.Handshake.{Handshake}
@@ -77,9 +77,7 @@ content_by h OtherClear number at content = refusing NotAllowed h
 
 -- "A genuine new record marks its number even if its content is then refused." The content is the front of the fragment.
 abbrev pub opened_as : Handshake → Kind → ℕ → ℕ → List ℕ → Protection → Result ℕ Unopened → Judged
-opened_as h kind number at fragment p (Err O.Forged) = refusing Forged h
-opened_as h kind number at fragment p (Err O.TooOld) = refusing TooOld h
-opened_as h kind number at fragment p (Err O.Repeated) = refusing Repeated h
+opened_as h kind number at fragment p (Err why) = refusing (unopened_as why) h
 opened_as h kind number at fragment p (Ok size) = content_by (with_protection h p) kind number at (take size fragment)
 
 -- the unit's records

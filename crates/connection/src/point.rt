@@ -1,5 +1,5 @@
 // One record of a datagram, as receive comes to it (02, "Why was this report dropped?"). Asking changes nothing.
-ghost use Rattle.std.specs.Prelude.{ℕ, ◌+◌, ◌<◌, ◌≤◌, ◌≡◌, length, take};
+ghost use Rattle.std.specs.Prelude.{ℕ, ◌+◌, ◌<◌, ◌≤◌, ◌≡◌, length, take, Ok};
 ghost use Rattle.record.specs.Datagram.{walk_of};
 ghost use Rattle.connection.specs.Asked.{asked_of};
 ghost use Rattle.connection.specs.Receive.{end_of};
@@ -12,7 +12,7 @@ use crate::handshake::Handshake;
 use crate::receive::Untaken;
 use crate::refusal::Refusal;
 use crate::told::tell;
-use record::datagram::{Outcome, Walk, walked};
+use record::datagram::{Misframed, Walk, walked};
 use record::header::Content;
 use record::reader::Record;
 
@@ -38,11 +38,12 @@ pub fn point_at(c: Connection, datagram: &[u8], random: &[u8], index: usize) -> 
     }
     let mut ours = [0u8; 16];
     digest::put(&mut ours, 0, random);
-    let walk = walked(datagram);
-    let outcome = walk.outcome;
-    match outcome {
-        Outcome::Refused(fault, at) => nowhere(c, Err(Untaken::Misframed(Refusal::Framing(fault), at))),
-        Outcome::Sound => among(c, datagram, ours, walk, index),
+    match walked(datagram) {
+        Err(Misframed { fault, at }) => nowhere(
+            c,
+            Err(Untaken::Misframed(Refusal::Framing(fault), at)),
+        ),
+        Ok(walk) => among(c, datagram, ours, walk, index),
     }
 }
 
@@ -56,7 +57,7 @@ pub fn asked_at(p: Point) -> Handshake
 
 // The record at an index of those of a sound datagram.
 fn among(c: Connection, d: &[u8], ours: [u8; 16], walk: Walk, index: usize) -> Point
-    requires { (length ours ≡ 16) × ((walk ≡ walk_of d.now) × (0 < walk.count)) }
+    requires { (length ours ≡ 16) × (walk_of d.now ≡ Ok walk) }
     ensures value { result ≡ point_among c ours d.now (take walk.count walk.records) index }
     ensures size_in_bounds { result.found.start + result.found.head + result.found.size ≤ length d.now }
 {
@@ -81,7 +82,7 @@ fn among(c: Connection, d: &[u8], ours: [u8; 16], walk: Walk, index: usize) -> P
 
 // The connection that the records before an index leave.
 fn before(c: Connection, d: &[u8], ours: [u8; 16], walk: Walk, index: usize) -> Connection
-    requires { (length ours ≡ 16) × ((walk ≡ walk_of d.now) × (index < walk.count)) }
+    requires { (length ours ≡ 16) × ((walk_of d.now ≡ Ok walk) × (index < walk.count)) }
     ensures { result ≡ end_of c ours d.now (take index walk.records) }
 {
     let records = walk.records;

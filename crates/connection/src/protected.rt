@@ -13,7 +13,6 @@ use message::alert::Level;
 use message::finished::Unverified;
 use message::{alert, finished};
 use record::keys::Sense;
-use record::protection::Unopened;
 use record::window::Window;
 
 // A protected record of an allowed kind: its type byte, its number, and its fragment, which stands at `at`.
@@ -29,11 +28,8 @@ pub(crate) fn open_record(
 {
     let protection = h.protection;
     let opening = protection.open(Sense::FromUnit, number, byte, fragment);
-    let opened = opening.opened;
-    match opened {
-        Err(Unopened::Forged) => refuse(protection.window, Refusal::Forged),
-        Err(Unopened::TooOld) => refuse(protection.window, Refusal::TooOld),
-        Err(Unopened::Repeated) => refuse(protection.window, Refusal::Repeated),
+    match opening.opened {
+        Err(why) => refuse(protection.window, Refusal::from(why)),
         Ok(size) => {
             let marked = opening.protection;
             content(h, marked.window, kind, number, at, &fragment[..size])
@@ -95,7 +91,11 @@ fn verified(h: Handshake, window: Window, content: &[u8]) -> Step
     let expected = h.expected;
     match finished::judge(content, &expected) {
         Err(Unverified::Malformed) => refuse(window, Refusal::Malformed),
-        Err(Unverified::Wrong) => lead(Answer::Refused(Refusal::WrongFinished), window, Move::Close),
+        Err(Unverified::Wrong) => lead(
+            Answer::Refused(Refusal::WrongFinished),
+            window,
+            Move::Close,
+        ),
         Ok(()) => opened(h, window),
     }
 }

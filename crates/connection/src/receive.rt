@@ -1,5 +1,5 @@
 // Receive a datagram (01): its framing is judged as a whole, then there is one answer for each record.
-ghost use Rattle.std.specs.Prelude.{ℕ, ◌+◌, ◌≤◌, ◌<◌, ◌≡◌, length, take};
+ghost use Rattle.std.specs.Prelude.{ℕ, ◌+◌, ◌≤◌, ◌<◌, ◌≡◌, length, take, Ok};
 ghost use Rattle.connection.specs.Receive.{received_of, output_of, taken_number, taken_at, whole_of, run_of, first_reply, sent_of_kept};
 ghost use Rattle.digest.specs.Bytes.{laid_over};
 ghost use Rattle.connection.specs.Tally.{counted_of};
@@ -18,7 +18,7 @@ use crate::state::{Kind, kind_of};
 use crate::step::{led, stays};
 use crate::tally::Tally;
 use crate::told::{moved, open_window, started_window, tell};
-use record::datagram::{Outcome, Walk, walked};
+use record::datagram::{Misframed, Walk, walked};
 use record::header::Content;
 use record::reader::{Record, read};
 
@@ -53,11 +53,12 @@ pub fn receive(c: Connection, datagram: &[u8], random: &[u8], out: &mut [u8]) ->
     }
     let mut ours = [0u8; 16];
     digest::put(&mut ours, 0, random);
-    let walk = walked(datagram);
-    let outcome = walk.outcome;
-    match outcome {
-        Outcome::Refused(fault, at) => whole(c, Err(Untaken::Misframed(Refusal::Framing(fault), at))),
-        Outcome::Sound => each(c, datagram, ours, walk, out),
+    match walked(datagram) {
+        Err(Misframed { fault, at }) => whole(
+            c,
+            Err(Untaken::Misframed(Refusal::Framing(fault), at)),
+        ),
+        Ok(walk) => each(c, datagram, ours, walk, out),
     }
 }
 
@@ -224,7 +225,7 @@ fn no_record() -> Record
 // The records one after the other, each in the state that those before it left. Where the state stays, the window is stored in its
 // place.
 fn each(c: Connection, d: &[u8], ours: [u8; 16], walk: Walk, out: &mut [u8]) -> Received
-    requires { (length ours ≡ 16) × ((walk ≡ walk_of d.now) × ((0 < walk.count) × (128 ≤ length out.old))) }
+    requires { (length ours ≡ 16) × ((walk_of d.now ≡ Ok walk) × (128 ≤ length out.old)) }
     ensures value { result ≡ run_of c ours d.now (take walk.count walk.records) }
     ensures out_after { out.new ≡ laid_over out.old 0 (first_reply c ours d.now (take walk.count walk.records)) }
 {

@@ -1,8 +1,9 @@
 // The refusals of 01, each under a name of its own. 18 is not given any more (02, "A unit that rebooted"); the number stays
 // reserved.
 ghost use Rattle.std.specs.Prelude.{◌≡◌};
-ghost use Rattle.connection.specs.Refusal.{refusal_number};
+ghost use Rattle.connection.specs.Refusal.{refusal_number, unopened_as, unwritten_as};
 
+use record::protection::{Unopened, Unwritten};
 use record::reader::Fault;
 
 #[derive(Clone, Copy)]
@@ -53,5 +54,30 @@ pub fn number(refusal: Refusal) -> u8
         Refusal::Spent => 15,
         Refusal::Argument => 16,
         Refusal::WrongFinished => 17,
+    }
+}
+
+// 9, 10 and 11: a protected record that is not opened.
+impl From<Unopened> for Refusal {
+    ghost from_gives = { λ why refusal. refusal ≡ unopened_as why };
+
+    fn from(why: Unopened) -> Refusal {
+        match why {
+            Unopened::Forged => Refusal::Forged,
+            Unopened::TooOld => Refusal::TooOld,
+            Unopened::Repeated => Refusal::Repeated,
+        }
+    }
+}
+
+// 15 and 6: a protected record that is not written.
+impl From<Unwritten> for Refusal {
+    ghost from_gives = { λ why refusal. refusal ≡ unwritten_as why };
+
+    fn from(why: Unwritten) -> Refusal {
+        match why {
+            Unwritten::Spent => Refusal::Spent,
+            Unwritten::NoRoom => Refusal::Room,
+        }
     }
 }

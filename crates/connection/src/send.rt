@@ -102,7 +102,13 @@ pub fn send_alert(
 }
 
 // 16: data not 1 to 1,300; 7 and 8 by the state; 15; 6.
-fn data_refusal(state: State, size: usize, number: u32, code: usize, room: usize) -> Result<(), Refusal>
+fn data_refusal(
+    state: State,
+    size: usize,
+    number: u32,
+    code: usize,
+    room: usize,
+) -> Result<(), Refusal>
     requires { code ≤ 20 }
     ensures { result ≡ data_refused state size number code room }
 {
@@ -119,7 +125,13 @@ fn data_refusal(state: State, size: usize, number: u32, code: usize, room: usize
 }
 
 // 16: the record lent over 1,400 (level and description are known by now); 7 and 8 as given; 15; 6.
-fn alert_refusal(may: Result<(), Refusal>, lent: usize, number: u32, code: usize, room: usize) -> Result<(), Refusal>
+fn alert_refusal(
+    may: Result<(), Refusal>,
+    lent: usize,
+    number: u32,
+    code: usize,
+    room: usize,
+) -> Result<(), Refusal>
     requires { code ≤ 20 }
     ensures { result ≡ alert_refused may lent number code room }
 {

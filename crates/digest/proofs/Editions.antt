@@ -1,5 +1,5 @@
 -- The laws of the two editions of the list of MAC kinds (02, P11).
-use Rattle.std.proofs.Common.{◌≡◌, ℕ, ◌<◌, ◌≤◌, Bool, true, false, eqb, ◌⊎◌, sym, refl, ap, ◌∙◌, subst, inl, inr, arith}
+use Rattle.std.proofs.Common.{◌≡◌, ℕ, ◌<◌, ◌≤◌, Bool, true, false, eqb, ◌⊎◌, None, sym, refl, ap, ◌∙◌, subst, inl, inr, arith}
 use mathlib.Core.Logic.{by_cases}
 use native.Mathlib.Decide.{dec_le}
 use Rattle.digest.proofs.Picks.{picks}
@@ -12,7 +12,6 @@ use Rattle.digest.specs.declared.edition.Named.{Named}
 use Rattle.digest.specs.Mac.{number_of, size_of, secret_size, listed_as}
 use Rattle.digest.specs.declared.mac.Mac.{Mac}
 use Rattle.digest.specs.declared.mac.Mac.TheVariants.{Sha80, Sha}
-use Rattle.digest.specs.declared.mac.Listed.TheVariants.{Other}
 
 -- The entry of a number that is known.
 pub row_at : (k n : ℕ) (r : Entry) → n ≡ k → r ≡ entry_of k → r ≡ entry_of n
@@ -105,7 +104,7 @@ kind_sizes edition Sha (inl e) = ap (λ x. (named_in x 3).sizes) e
 kind_sizes edition Sha (inr e) = ap (λ x. (named_in x 3).sizes) e
 
 -- and "Neither edition lets that kind be chosen for a connection": only 2 and 3 are chosen, whatever the edition.
-pub only_2_and_3 : (n : ℕ) → (n ≡ 2 → ⊥) → (n ≡ 3 → ⊥) → Other ≡ listed_as n
+pub only_2_and_3 : (n : ℕ) → (n ≡ 2 → ⊥) → (n ≡ 3 → ⊥) → None ≡ listed_as n
 unfolding listed_as
 only_2_and_3 n not2 not3 = search picks
 

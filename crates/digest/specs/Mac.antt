@@ -1,10 +1,8 @@
 -- The MAC kinds of the profile (002 appendix A, table 6), and the comparison of codes.
-use Rattle.std.specs.Prelude.{ℕ, Bool, true, false, ◌&&◌, List, [], ◌∷◌, ◌==◌}
+use Rattle.std.specs.Prelude.{ℕ, Bool, true, false, ◌&&◌, List, [], ◌∷◌, ◌==◌, Option, Some, None}
 use Rattle.digest.specs.Pick.{pick}
 use Rattle.digest.specs.declared.mac.Mac.{Mac}
 use Rattle.digest.specs.declared.mac.Mac.TheVariants.{Sha80, Sha}
-use Rattle.digest.specs.declared.mac.Listed.{Listed}
-use Rattle.digest.specs.declared.mac.Listed.TheVariants.{Is, Other}
 
 -- the assigned number
 abbrev pub number_of : Mac → ℕ
@@ -30,9 +28,9 @@ abbrev pub server_expansion : List ℕ
 server_expansion =
     115 ∷ 101 ∷ 114 ∷ 118 ∷ 101 ∷ 114 ∷ 32 ∷ 101 ∷ 120 ∷ 112 ∷ 97 ∷ 110 ∷ 115 ∷ 105 ∷ 111 ∷ 110 ∷ []
 
--- the kind of a number
-unfoldable pub listed_as : ℕ → Listed
-listed_as n = pick (n == 2) (Is Sha80) (pick (n == 3) (Is Sha) Other)
+-- the kind of a number, where the profile has it
+unfoldable pub listed_as : ℕ → Option Mac
+listed_as n = pick (n == 2) (Some Sha80) (pick (n == 3) (Some Sha) None)
 
 -- two codes are the same if all their bytes are
 unfoldable pub same_bytes : List ℕ → List ℕ → Bool

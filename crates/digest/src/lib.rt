@@ -13,5 +13,5 @@ pub use block::State;
 pub use bytes::put;
 pub use edition::{Listing, Named, Sizes, mac_named};
 pub use key::{Key, prf};
-pub use mac::{Listed, Mac, same_code};
+pub use mac::{Mac, same_code};
 pub use pieces::{Hasher, sha1};

@@ -4,17 +4,10 @@ ghost use Rattle.digest.specs.Mac.{number_of, size_of, listed_as, same_bytes};
 ghost use Rattle.digest.specs.Mac.{secret_size, client_expansion, server_expansion};
 
 // SHA_80: the first ten bytes of the code. SHA: all twenty.
-#[derive(Clone, Copy)]
+#[derive(Clone, Copy, PartialEq, Eq, Debug)]
 pub enum Mac {
     Sha80,
     Sha,
-}
-
-// The kind that a number of table 6 names, where the profile has it.
-#[derive(Clone, Copy)]
-pub enum Listed {
-    Is(Mac),
-    Other,
 }
 
 impl Mac {
@@ -80,17 +73,15 @@ impl Mac {
         if n <= code.len() { &code[..n] } else { code }
     }
 
-    // The kind of an assigned number.
-    pub fn listed(n: u8) -> Listed
+    // The kind of an assigned number, where the profile has it.
+    pub fn listed(n: u8) -> Option<Mac>
         ensures exact { result ≡ listed_as n }
     {
-        if n == 2 {
-            return Listed::Is(Mac::Sha80);
+        match n {
+            2 => Some(Mac::Sha80),
+            3 => Some(Mac::Sha),
+            _ => None,
         }
-        if n == 3 {
-            return Listed::Is(Mac::Sha);
-        }
-        Listed::Other
     }
 }
 

@@ -16,7 +16,7 @@ use Rattle.digest.proofs.Codes.{length_hmac}
 use Rattle.digest.proofs.Same.{same_self}
 use Rattle.digest.specs.declared.mac.Mac.{Mac}
 use Rattle.digest.specs.declared.mac.Mac.TheVariants as M
-use Rattle.digest.specs.declared.mac.Listed.TheVariants as L
+use Rattle.std.specs.Prelude.{Some}
 use Rattle.message.specs.Acceptance.{planned, heard_of}
 use Rattle.message.specs.Agreement.{chosen_of, agreed_of, agreed_with, agreed_as, agreement_of}
 use Rattle.message.specs.Entry.{list_bytes, list_allowed}
@@ -68,7 +68,7 @@ first_pair K.Sha = record { place = 0; there = omega arith; cipher = refl; kind 
 first_pair K.Sha80First = record { place = 0; there = omega arith; cipher = refl; kind = refl; none_before = λ k l f. omega arith }
 first_pair K.ShaFirst = record { place = 0; there = omega arith; cipher = refl; kind = refl; none_before = λ k l f. omega arith }
 
-chosen_listed : (kinds : Offered) → chosen_of 0 (number_of (chosen kinds)) kinds ≡ L.Is (chosen kinds)
+chosen_listed : (kinds : Offered) → chosen_of 0 (number_of (chosen kinds)) kinds ≡ Some (chosen kinds)
 unfolding chosen_of listed_as
 chosen_listed K.Sha80 = refl
 chosen_listed K.Sha = refl

@@ -23,8 +23,7 @@ pub(crate) fn leave_called(called: Called, state: &mut [u8]) -> u64
     ensures state_after { state.new ≡ left_in state.old called.connection called.outcome }
     ensures state_after_2 { loaded state.new ≡ left_loaded state.old called.connection called.outcome }
 {
-    let outcome = called.outcome;
-    match outcome {
+    match called.outcome {
         Err(refusal) => result_of(number(refusal), 0, 0),
         Ok(()) => {
             put_connection(state, called.connection);
@@ -39,8 +38,7 @@ pub(crate) fn leave_sent(sent: Sent, state: &mut [u8]) -> u64
     ensures state_after { state.new ≡ sent_state state.old sent }
     ensures state_after_2 { loaded state.new ≡ sent_loads state.old sent }
 {
-    let outcome = sent.outcome;
-    match outcome {
+    match sent.outcome {
         Err(refusal) => result_of(number(refusal), sent.written, 0),
         Ok(()) => {
             put_connection(state, sent.connection);
@@ -66,10 +64,11 @@ pub(crate) fn leave_received(
     ensures state_after_2 { loaded state.new ≡ where_taken received.taken (Is received.connection)
         (loaded state.old) }
 {
-    let taken = received.taken;
-    match taken {
-        Err(Untaken::Refused(refusal)) => result_of(number(refusal), 0, 0),
-        Err(Untaken::Misframed(refusal, at)) => result_of(number(refusal), 0, at),
+    match received.taken {
+        Err(untaken) => match untaken {
+            Untaken::Refused(refusal) => result_of(number(refusal), 0, 0),
+            Untaken::Misframed(refusal, at) => result_of(number(refusal), 0, at),
+        },
         Ok(count) => {
             put_connection(state, received.connection);
             let before = tally_in(tally);

@@ -30,8 +30,7 @@ pub(crate) fn leave_called(called: Called, state: &mut [u8]) -> u64
     ensures state_after { state.new ≡ left_in state.old called.unit called.outcome }
     ensures state_after_2 { loaded state.new ≡ left_loaded state.old called.unit called.outcome }
 {
-    let outcome = called.outcome;
-    match outcome {
+    match called.outcome {
         Err(refusal) => result_of(number(refusal), 0, 0),
         Ok(()) => {
             put_unit(state, called.unit);
@@ -46,8 +45,7 @@ pub(crate) fn leave_sent(sent: Sent, state: &mut [u8]) -> u64
     ensures state_after { state.new ≡ sent_state state.old sent }
     ensures state_after_2 { loaded state.new ≡ sent_loads state.old sent }
 {
-    let outcome = sent.outcome;
-    match outcome {
+    match sent.outcome {
         Err(refusal) => result_of(number(refusal), sent.written, 0),
         Ok(()) => {
             put_unit(state, sent.unit);
@@ -60,8 +58,7 @@ pub(crate) fn leave_sent(sent: Sent, state: &mut [u8]) -> u64
 pub(crate) fn said(sent: Sent) -> u64
     ensures { result ≡ sent_result sent }
 {
-    let outcome = sent.outcome;
-    match outcome {
+    match sent.outcome {
         Err(refusal) => result_of(number(refusal), sent.written, 0),
         Ok(()) => result_of(0, sent.written, 0),
     }
@@ -83,10 +80,11 @@ pub(crate) fn leave_received(
     ensures state_after_2 { loaded state.new ≡ where_taken received.taken (Is received.unit)
         (loaded state.old) }
 {
-    let taken = received.taken;
-    match taken {
-        Err(Untaken::Refused(refusal)) => result_of(number(refusal), 0, 0),
-        Err(Untaken::Misframed(refusal, at)) => result_of(number(refusal), 0, at),
+    match received.taken {
+        Err(untaken) => match untaken {
+            Untaken::Refused(refusal) => result_of(number(refusal), 0, 0),
+            Untaken::Misframed(refusal, at) => result_of(number(refusal), 0, at),
+        },
         Ok(count) => {
             put_unit(state, received.unit);
             let before = tally_within(tally);

@@ -2,10 +2,10 @@
 // refusal.
 #![tactic(auto)]
 
-ghost use Rattle.std.specs.Prelude.{◌≡◌, ◌+◌, ◌^◌, ◌<◌};
+ghost use Rattle.std.specs.Prelude.{◌≡◌, ◌+◌, ◌^◌, ◌<◌, Ok};
 ghost use Rattle.record.specs.Datagram.{walk_of};
 
-use record::datagram::{Outcome, Walk, walked};
+use record::datagram::{Misframed, Walk, walked};
 use record::header::number_of;
 use record::reader::{Fault, Record, fault_number};
 
@@ -38,17 +38,15 @@ fn taken() -> bool {
 
 // The listing of a datagram.
 fn list(d: &[u8]) {
-    let walk = walked(d);
-    let outcome = walk.outcome;
-    match outcome {
-        Outcome::Refused(fault, at) => refused(fault, at),
-        Outcome::Sound => lines(d, walk),
+    match walked(d) {
+        Err(Misframed { fault, at }) => refused(fault, at),
+        Ok(walk) => lines(d, walk),
     }
 }
 
 // `records N`, and a line for each record.
 fn lines(d: &[u8], walk: Walk)
-    requires { walk ≡ walk_of d.now }
+    requires { walk_of d.now ≡ Ok walk }
 {
     let count = walk.count;
     let records = walk.records;

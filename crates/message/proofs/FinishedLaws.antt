@@ -16,7 +16,8 @@ use Rattle.message.specs.declared.finished.Unverified.TheVariants.{Wrong}
 use Rattle.digest.specs.Pick.{pick}
 use Rattle.digest.proofs.Same.{same_self, same_equal, differ_same}
 use Rattle.message.proofs.Written.{fills_of}
-use Rattle.std.specs.Prelude.{Err, Ok}
+use Rattle.std.specs.Prelude.{Err, Ok, Result, ⊤}
+use Rattle.message.specs.declared.finished.Unverified.{Unverified}
 
 module _ (v : List ℕ) (e : length v ≡ 12) where
   pub finished_size : length (finished_of v) ≡ 15
@@ -39,7 +40,7 @@ finished_right v e = finished_judged v e v ∙ rw (same_self v) refl
 pub finished_alone : (v w : List ℕ) → length v ≡ 12 → judged_of (finished_of v) w ≡ Ok tt → v ≡ w
 finished_alone v w e h = go (same_bytes v w) refl (sym (finished_judged v e w) ∙ h)
   where
-    go : (b : Bool) → same_bytes v w ≡ b → pick b (Ok tt) (Err Wrong) ≡ Ok tt → v ≡ w
+    go : (b : Bool) → same_bytes v w ≡ b → ◌≡◌ {A = Result ⊤ Unverified} (pick b (Ok tt) (Err Wrong)) (Ok tt) → v ≡ w
     go true k z = same_equal v w k
     go false k z = let y : ◌≡◌ {A = ℕ} 0 1 = cc in absurd (omega arith)
 

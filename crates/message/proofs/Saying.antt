@@ -14,8 +14,7 @@ use Rattle.digest.specs.Mac.{number_of, listed_as, same_bytes}
 use Rattle.digest.proofs.Same.{same_equal, equal_same, differ_same}
 use Rattle.digest.specs.declared.mac.Mac.{Mac}
 use Rattle.digest.specs.declared.mac.Mac.TheVariants.{Sha80, Sha}
-use Rattle.digest.specs.declared.mac.Listed.{Listed}
-use Rattle.digest.specs.declared.mac.Listed.TheVariants as L
+use Rattle.std.specs.Prelude.{Option, Some}
 use Rattle.message.specs.Values.{Values, hello_of, allowed}
 use Rattle.message.specs.Acceptance.{fits_pair, first_fit, has_null, paired, accepted_of, acceptance_of, judged, heard_as, heard_of}
 use Rattle.message.specs.Said.{FitsAt, FirstPair, NoPair, NullIn, Known, Says, HeardAsSaid}
@@ -139,7 +138,7 @@ found_one : (s : List ℕ) (n : ℕ) → Found s n → (mac : Mac) → FirstPair
 found_one s n (none z w) mac u = absurd (w u.place u.there (fits_at s mac u))
 found_one s n (one m z w) mac u = z ∙ ap number_of (pair_one s m mac w u)
 
-listed_one : (mac : Mac) → listed_as (number_of mac) ≡ L.Is mac
+listed_one : (mac : Mac) → listed_as (number_of mac) ≡ Some mac
 unfolding listed_as
 listed_one Sha80 = refl
 listed_one Sha = refl
@@ -174,9 +173,9 @@ null_out s n = by_test (has_null s ≡ false) (has_null s) (λ e. absurd (n (nul
 module _ (v : Values) (planted : List ℕ) where
   -- the MAC kind found, then compression and numbering
   pair_said : Known v planted → (mac : Mac) → FirstPair v.suites mac
-      → Says v planted (judged (paired (L.Is mac) v.methods v.numbering v.refresh))
+      → Says v planted (judged (paired (Some mac) v.methods v.numbering v.refresh))
   pair_said k mac w =
-      let S = Says v planted (judged (paired (L.Is mac) v.methods v.numbering v.refresh)) in
+      let S = Says v planted (judged (paired (Some mac) v.methods v.numbering v.refresh)) in
       by_test S (has_null v.methods)
       (λ c. by_test S (eqb v.numbering 2)
       (λ e. rw (c, e) (record {
@@ -216,10 +215,10 @@ module _ (v : Values) (planted : List ℕ) where
   known_so k = rw (eq-eqb v.version 1 k.version, equal_same v.session planted k.session) refl
 
   pair_so : Known v planted → (mac : Mac) → FirstPair v.suites mac
-      → acceptance_of v planted ≡ paired (L.Is mac) v.methods v.numbering v.refresh
+      → acceptance_of v planted ≡ paired (Some mac) v.methods v.numbering v.refresh
   pair_so k mac w =
       known_so k
-      ∙ ap (λ (l : Listed). paired l v.methods v.numbering v.refresh)
+      ∙ ap (λ (l : Option Mac). paired l v.methods v.numbering v.refresh)
       (ap listed_as (found_one v.suites (first_fit v.suites) (found v.suites) mac w) ∙ listed_one mac)
 
   accept_only : (h : Result Plan Unheard) → Says v planted h → judged (acceptance_of v planted) ≡ h

@@ -1,7 +1,7 @@
 -- Whether a ClientHello is acceptable (01, Handshake): "it is acceptable if it has version 1, the planted session
 -- identifier, a pair of null cipher with SHA_80 or SHA (the first such pair is chosen), null compression and explicit
 -- numbering".
-use Rattle.std.specs.Prelude.{List, [], ◌∷◌, Bool, true, false, ℕ, eqb, Err, Ok, Result}
+use Rattle.std.specs.Prelude.{List, [], ◌∷◌, Bool, true, false, ℕ, eqb, Err, Ok, Result, Option, Some, None}
 use Rattle.message.specs.declared.acceptance.Condition.{Condition}
 use Rattle.message.specs.declared.acceptance.Unheard.{Unheard}
 use Rattle.message.specs.declared.hello.Field.{Field}
@@ -9,8 +9,6 @@ use Rattle.message.specs.declared.hello.Hello.{Hello}
 use Rattle.digest.specs.Pick.{pick}
 use Rattle.digest.specs.Mac.{listed_as, same_bytes}
 use Rattle.digest.specs.declared.mac.Mac.{Mac}
-use Rattle.digest.specs.declared.mac.Listed.{Listed}
-use Rattle.digest.specs.declared.mac.Listed.TheVariants.{Is, Other}
 use Rattle.message.specs.Hello.{read_of}
 use Rattle.message.specs.Values.{Values, values_at}
 use Rattle.message.specs.declared.acceptance.Plan.{Plan}
@@ -36,12 +34,12 @@ has_null (method ∷ rest) = pick (eqb method 0) true (has_null rest)
 abbrev pub planned : Mac → ℕ → Plan
 planned mac refresh = record { mac = mac; refresh = refresh; key = 0 }
 
-abbrev pub paired : Listed → List ℕ → ℕ → ℕ → Result Plan Condition
-paired (Is mac) methods numbering refresh =
+abbrev pub paired : Option Mac → List ℕ → ℕ → ℕ → Result Plan Condition
+paired (Some mac) methods numbering refresh =
     pick (has_null methods)
     (pick (eqb numbering 2) (Ok (planned mac refresh)) (Err Numbering))
     (Err Compression)
-paired Other methods numbering refresh = Err CipherSuite
+paired None methods numbering refresh = Err CipherSuite
 
 -- the conditions in their order
 unfoldable pub accepted_of : ℕ → List ℕ → List ℕ → List ℕ → ℕ → ℕ → List ℕ → Result Plan Condition

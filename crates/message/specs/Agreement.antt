@@ -6,8 +6,7 @@ use Rattle.message.specs.declared.acceptance.Plan.{Plan}
 use Rattle.message.specs.declared.agreement.Disagreed.{Disagreed}
 use Rattle.digest.specs.Pick.{pick}
 use Rattle.digest.specs.Mac.{listed_as, same_bytes}
-use Rattle.digest.specs.declared.mac.Listed.{Listed}
-use Rattle.digest.specs.declared.mac.Listed.TheVariants.{Is, Other}
+use Rattle.digest.specs.declared.mac.Mac.{Mac}
 use Rattle.message.specs.Acceptance.{planned}
 use Rattle.message.specs.Offer.{offers}
 use Rattle.message.specs.ServerHello.{server_read, ServerValues, server_values_at}
@@ -17,22 +16,22 @@ use Rattle.message.specs.declared.agreement.Term.TheVariants.{Version, SessionId
 use Rattle.message.specs.declared.agreement.Disagreed.TheVariants.{Unacceptable, Malformed}
 
 -- "null cipher and an offered kind"
-abbrev pub offered_as : Kinds → Listed → Listed
-offered_as kinds (Is mac) = pick (offers kinds mac) (Is mac) Other
-offered_as kinds Other = Other
+abbrev pub offered_as : Kinds → Option Mac → Option Mac
+offered_as kinds (Some mac) = pick (offers kinds mac) (Some mac) None
+offered_as kinds None = None
 
-unfoldable pub chosen_of : ℕ → ℕ → Kinds → Listed
-chosen_of cipher mac kinds = pick (eqb cipher 0) (offered_as kinds (listed_as mac)) Other
+unfoldable pub chosen_of : ℕ → ℕ → Kinds → Option Mac
+chosen_of cipher mac kinds = pick (eqb cipher 0) (offered_as kinds (listed_as mac)) None
 
 -- null compression, explicit(2), then the refresh
-abbrev pub settled_by : Listed → ℕ → ℕ → ℕ → ℕ → Result Plan Disagreed
-settled_by (Is mac) compression numbering refresh most =
+abbrev pub settled_by : Option Mac → ℕ → ℕ → ℕ → ℕ → Result Plan Disagreed
+settled_by (Some mac) compression numbering refresh most =
     pick (eqb compression 0)
     (pick (eqb numbering 2)
     (pick (ltb most refresh) (Err (Unacceptable Refresh)) (Ok (planned mac refresh)))
     (Err (Unacceptable Numbering)))
     (Err (Unacceptable Compression))
-settled_by Other compression numbering refresh most = Err (Unacceptable CipherSuite)
+settled_by None compression numbering refresh most = Err (Unacceptable CipherSuite)
 
 -- the terms in their order
 unfoldable pub agreed_of : ℕ → List ℕ → ℕ → ℕ → ℕ → ℕ → ℕ → ℕ → List ℕ → Offer → Result Plan Disagreed

@@ -5,7 +5,7 @@ ghost use Rattle.message.specs.Acceptance.{fits_pair, first_fit, has_null, accep
 
 use crate::hello::{Field, Hello};
 use crate::{field, hello};
-use digest::{Listed, Mac};
+use digest::Mac;
 
 // What the handshake that follows an accepted hello goes by.
 #[derive(Clone, Copy)]
@@ -95,7 +95,7 @@ pub fn accept(
     if !digest::same_code(session, planted) {
         return Err(Condition::SessionId);
     }
-    let Listed::Is(mac) = Mac::listed(first_fit(suites)) else {
+    let Some(mac) = Mac::listed(first_fit(suites)) else {
         return Err(Condition::CipherSuite);
     };
     if !has_null(methods) {

@@ -5,7 +5,7 @@ ghost use Rattle.message.specs.Agreement.{agreement_of, agreed_at, agreed_of, ch
 use crate::acceptance::{Plan, byte_at};
 use crate::offer::{Kinds, Offer, is_offered};
 use crate::{field, server_hello};
-use digest::{Listed, Mac};
+use digest::Mac;
 
 // The first term of a ServerHello that does not answer the offer, in the order of its layout.
 #[derive(Clone, Copy)]
@@ -80,7 +80,7 @@ pub fn judged(
         return Err(Disagreed::Unacceptable(Term::ClientKey));
     }
     let kinds = offer.kinds;
-    let Listed::Is(chosen) = chosen(cipher, mac, kinds) else {
+    let Some(chosen) = chosen(cipher, mac, kinds) else {
         return Err(Disagreed::Unacceptable(Term::CipherSuite));
     };
     if compression != 0 {
@@ -100,26 +100,18 @@ pub fn judged(
 }
 
 // The kind of a pair of null cipher and a kind that was offered.
-fn chosen(cipher: u8, mac: u8, kinds: Kinds) -> Listed
+fn chosen(cipher: u8, mac: u8, kinds: Kinds) -> Option<Mac>
     ensures { result ≡ chosen_of cipher mac kinds }
 {
     if cipher != 0 {
-        return Listed::Other;
+        return None;
     }
     offered(kinds, Mac::listed(mac))
 }
 
 // The kind, where it was offered.
-fn offered(kinds: Kinds, kind: Listed) -> Listed
+fn offered(kinds: Kinds, kind: Option<Mac>) -> Option<Mac>
     ensures { result ≡ offered_as kinds kind }
 {
-    match kind {
-        Listed::Other => Listed::Other,
-        Listed::Is(mac) => {
-            if is_offered(kinds, mac) {
-                return Listed::Is(mac);
-            }
-            Listed::Other
-        }
-    }
+    kind.filter(|mac| is_offered(kinds, *mac))
 }

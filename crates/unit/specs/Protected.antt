@@ -11,7 +11,7 @@ use Rattle.record.specs.Protection.{opened_by}
 use Rattle.record.specs.declared.keys.Sense.TheVariants.{FromShore}
 use Rattle.record.specs.declared.window.Window.{Window}
 use Rattle.record.specs.declared.protection.Protection.{Protection}
-use Rattle.record.specs.declared.protection.Unopened.TheVariants as O
+use Rattle.connection.specs.Refusal.{unopened_as}
 use Rattle.message.specs.Alert.{alert_of, description_number}
 use Rattle.message.specs.Finished.{judged_of}
 use Rattle.message.specs.Request.{is_request}
@@ -95,9 +95,7 @@ content_by window mac expected state OtherClear number at content = refusing win
 
 -- "A genuine new record marks its number even if its content is then refused." The content is the front of the fragment.
 abbrev pub unprotected_to : Protection → List ℕ → State → Kind → ℕ → ℕ → List ℕ → Protection → Result ℕ Unopened → Step
-unprotected_to p expected state kind number at fragment left (Err O.Forged) = refusing p.window Forged
-unprotected_to p expected state kind number at fragment left (Err O.TooOld) = refusing p.window TooOld
-unprotected_to p expected state kind number at fragment left (Err O.Repeated) = refusing p.window Repeated
+unprotected_to p expected state kind number at fragment left (Err why) = refusing p.window (unopened_as why)
 unprotected_to p expected state kind number at fragment left (Ok size) =
     content_by left.window p.keys.mac expected state kind number at (take size fragment)
 

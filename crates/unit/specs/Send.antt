@@ -8,7 +8,7 @@ use Rattle.record.specs.Written.{record_of, written_of}
 use Rattle.record.specs.Protection.{next_record, wrote_by, output_by}
 use Rattle.record.specs.declared.keys.Sense.TheVariants.{FromUnit}
 use Rattle.record.specs.declared.protection.Protection.{Protection}
-use Rattle.record.specs.declared.protection.Unwritten.TheVariants as W
+use Rattle.connection.specs.Refusal.{unwritten_as}
 use Rattle.record.specs.declared.header.Content.{Content}
 use Rattle.record.specs.declared.header.Content.TheVariants as C
 use Rattle.message.specs.Alert.{level_of, sorted_of}
@@ -62,8 +62,7 @@ output_if out (Err refusal) success = out
 
 -- the next protected record of ours: 15, "sending never passes 65,535", then 6; else it is added to those that we sent
 abbrev pub wrote_to : Unit → List ℕ → Protection → Result ℕ Unwritten → Sent
-wrote_to u bytes p (Err W.Spent) = unsent u Spent
-wrote_to u bytes p (Err W.NoRoom) = unsent u Room
+wrote_to u bytes p (Err why) = unsent u (unwritten_as why)
 wrote_to u bytes p (Ok size) = done_with size (with_sent u p (sum_of bytes))
 
 unfoldable pub protected_sent : Unit → Content → List ℕ → ℕ → Sent

@@ -13,7 +13,7 @@ use message::finished::Unverified;
 use message::request::is_request;
 use message::{alert, finished};
 use record::keys::Sense;
-use record::protection::{Protection, Unopened};
+use record::protection::Protection;
 use record::window::Window;
 
 // A protected record of an allowed kind: its type byte, its number, and its fragment, which stands at `at`.
@@ -33,11 +33,8 @@ pub(crate) fn unprotect(
     let mac = keys.mac;
     let window = protection.window;
     let opening = protection.open(Sense::FromShore, number, byte, fragment);
-    let opened = opening.opened;
-    match opened {
-        Err(Unopened::Forged) => refuse(window, Refusal::Forged),
-        Err(Unopened::TooOld) => refuse(window, Refusal::TooOld),
-        Err(Unopened::Repeated) => refuse(window, Refusal::Repeated),
+    match opening.opened {
+        Err(why) => refuse(window, Refusal::from(why)),
         Ok(size) => {
             let left = opening.protection;
             content(

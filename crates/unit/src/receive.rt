@@ -1,5 +1,5 @@
 // Receive a datagram (02, P7): its framing is judged as a whole, then there is one answer for each record.
-ghost use Rattle.std.specs.Prelude.{ℕ, ◌+◌, ◌≤◌, ◌<◌, ◌≡◌, length, take};
+ghost use Rattle.std.specs.Prelude.{ℕ, ◌+◌, ◌≤◌, ◌<◌, ◌≡◌, length, take, Ok};
 ghost use Rattle.digest.specs.Bytes.{laid_over};
 ghost use Rattle.record.specs.Datagram.{walk_of};
 ghost use Rattle.unit.specs.Receive.{received_of, output_of, whole_of, run_of, flight_in};
@@ -9,7 +9,7 @@ use crate::judge::judge;
 use crate::unit::Unit;
 use connection::receive::Untaken;
 use connection::refusal::Refusal;
-use record::datagram::{Outcome, Walk, walked};
+use record::datagram::{Misframed, Walk, walked};
 
 #[derive(Clone, Copy)]
 pub struct Received {
@@ -29,11 +29,9 @@ pub fn receive(u: Unit, datagram: &[u8], out: &mut [u8]) -> Received
     if out.len() < 128 {
         return whole(u, Err(Untaken::Refused(Refusal::Room)));
     }
-    let walk = walked(datagram);
-    let outcome = walk.outcome;
-    match outcome {
-        Outcome::Refused(fault, at) => whole(u, Err(Untaken::Misframed(Refusal::Framing(fault), at))),
-        Outcome::Sound => each(u, datagram, walk, out),
+    match walked(datagram) {
+        Err(Misframed { fault, at }) => whole(u, Err(Untaken::Misframed(Refusal::Framing(fault), at))),
+        Ok(walk) => each(u, datagram, walk, out),
     }
 }
 
@@ -54,7 +52,7 @@ fn whole(u: Unit, taken: Result<usize, Untaken>) -> Received
 
 // The records one after the other, each in the state that those before it left; then the flight, where one of them opened.
 fn each(u: Unit, d: &[u8], walk: Walk, out: &mut [u8]) -> Received
-    requires { (walk ≡ walk_of d.now) × (128 ≤ length out.old) }
+    requires { (walk_of d.now ≡ Ok walk) × (128 ≤ length out.old) }
     ensures value { result ≡ run_of u d.now (take walk.count walk.records) }
     ensures out_after { out.new ≡ laid_over out.old 0 (flight_in u d.now (take walk.count walk.records)) }
 {

@@ -11,7 +11,6 @@ use message::alert;
 use record::checksum::checksum;
 use record::header::Content;
 use record::keys::Sense;
-use record::protection::Unwritten;
 use record::written::write_clear;
 
 // The outcome of a call that writes, how many bytes stand at the front of the output, and the unit that it leaves.
@@ -123,10 +122,8 @@ fn protected(u: Unit, content: Content, body: &[u8], out: &mut [u8]) -> Sent
 {
     let protection = u.protection;
     let writing = protection.write(Sense::FromUnit, content, body, out);
-    let wrote = writing.wrote;
-    match wrote {
-        Err(Unwritten::Spent) => refused(u, Refusal::Spent),
-        Err(Unwritten::NoRoom) => refused(u, Refusal::Room),
+    match writing.wrote {
+        Err(why) => refused(u, Refusal::from(why)),
         Ok(size) => {
             let last = checksum(&out[..size]);
             done(u.with_sent(writing.protection, last), size)

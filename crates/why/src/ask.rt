@@ -32,11 +32,12 @@ pub fn why(edition: u32, c: Connection, datagram: &[u8], random: &[u8], index: u
         return whole(c, Reason::Argument);
     }
     let p = point_at(c, datagram, random, index);
-    let taken = p.taken;
-    match taken {
+    match p.taken {
         Ok(_) => of_record(p, datagram, index),
-        Err(Untaken::Refused(refusal)) => whole(p.connection, reason_at(p, datagram, 0, refusal)),
-        Err(Untaken::Misframed(refusal, at)) => whole(p.connection, reason_at(p, datagram, at, refusal)),
+        Err(untaken) => match untaken {
+            Untaken::Refused(refusal) => whole(p.connection, reason_at(p, datagram, 0, refusal)),
+            Untaken::Misframed(refusal, at) => whole(p.connection, reason_at(p, datagram, at, refusal)),
+        },
     }
 }
 

@@ -4,7 +4,7 @@ ghost use Rattle.why.specs.Hello.{field_of, condition_in, place_in, field_for, u
 
 use crate::framing::less;
 use crate::reason::Reason;
-use message::acceptance::{Condition, Unheard, hear};
+use message::acceptance::{Condition, Plan, Unheard, hear};
 use message::hello;
 use message::hello::{Field, Hello, Place};
 

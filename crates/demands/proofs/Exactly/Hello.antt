@@ -13,8 +13,8 @@ use borrow.Author.Tests.{eq-eqb, ne_eqb, eqb-true, eqb-false}
 use Rattle.digest.specs.Pick.{pick}
 use Rattle.digest.specs.Mac.{listed_as, same_bytes}
 use Rattle.digest.proofs.Same.{same_equal, equal_same}
-use Rattle.digest.specs.declared.mac.Listed.{Listed}
-use Rattle.digest.specs.declared.mac.Listed.TheVariants as L
+use Rattle.std.specs.Prelude.{Option, Some, None}
+use Rattle.digest.specs.declared.mac.Mac.{Mac}
 use Rattle.message.specs.Acceptance.{fits_pair, first_fit, has_null, paired, accepted_of, acceptance_of, judged, heard_as, heard_of}
 use Rattle.message.specs.Hello.{read_of}
 use Rattle.message.specs.Values.{Values, values_at}
@@ -81,9 +81,9 @@ fit-holds (cipher ∷ mac ∷ rest) =
         either (inl (c, m)) = clash (sym (fits_is cipher mac c m) ∙ e)
         either (inr o) = n o
 
-abbrev ListedHolds : List ℕ → Listed → Type 0
-ListedHolds s (L.Is mac) = OffersPair s
-ListedHolds s L.Other = OffersPair s → ⊥
+abbrev ListedHolds : List ℕ → Option Mac → Type 0
+ListedHolds s (Some mac) = OffersPair s
+ListedHolds s None = OffersPair s → ⊥
 
 listed-holds : (s : List ℕ) → ListedHolds s (listed_as (first_fit s))
 unfolding listed_as
@@ -106,9 +106,9 @@ AcceptHolds v id (Ok plan) = Acceptable v id
 AcceptHolds v id (Err condition) = FirstUnmet v id condition
 
 module _ (v : Values) (id : List ℕ) where
-  paired-holds : v.version ≡ 1 → v.session ≡ id → (l : Listed) → ListedHolds v.suites l
+  paired-holds : v.version ≡ 1 → v.session ≡ id → (l : Option Mac) → ListedHolds v.suites l
       → AcceptHolds v id (paired l v.methods v.numbering v.refresh)
-  paired-holds a b (L.Is mac) o =
+  paired-holds a b (Some mac) o =
       decide (has_null v.methods)
       (λ c. decide (eqb v.numbering 2)
       (λ e. rw (c, e) (record {
@@ -121,7 +121,7 @@ module _ (v : Values) (id : List ℕ) where
       }))
       (λ e. rw (c, e) (a, b, o, sym (null_is v.methods) ∙ c, eqb-false v.numbering 2 e)))
       (λ c. rw c (a, b, o, sym (null_is v.methods) ∙ c))
-  paired-holds a b L.Other o = (a, b, o)
+  paired-holds a b None o = (a, b, o)
 
   accept-holds : AcceptHolds v id (acceptance_of v id)
   unfolding accepted_of

@@ -71,8 +71,7 @@ module _ (u : Ship) where
 
   wrote-alike : (bytes : List ℕ) (p : Protection) (w : Result ℕ Unwritten) → p.keys ≡ u.protection.keys → p.window ≡ u.protection.window
       → Alike u (wrote_to u bytes p w).unit
-  wrote-alike bytes p (Err W.Spent) ek ew = alike
-  wrote-alike bytes p (Err W.NoRoom) ek ew = alike
+  wrote-alike bytes p (Err why) ek ew = alike
   wrote-alike bytes p (Ok size) ek ew = sent-alike p (sum_of bytes) ek ew
 
   protected-alike : (content : Content) (body : List ℕ) (room : ℕ) → Alike u (protected_sent u content body room).unit

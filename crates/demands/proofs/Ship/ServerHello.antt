@@ -11,9 +11,9 @@ use lib.Dec.{eqb, ltb}
 use borrow.Author.Tests.{eqb-true, eqb-false, ltb-true, ltb-false}
 use Rattle.digest.specs.Mac.{listed_as, same_bytes}
 use Rattle.digest.proofs.Same.{same_equal, equal_same}
+use Rattle.digest.specs.declared.mac.Mac.{Mac}
 use Rattle.digest.specs.declared.mac.Mac.TheVariants as M
-use Rattle.digest.specs.declared.mac.Listed.{Listed}
-use Rattle.digest.specs.declared.mac.Listed.TheVariants as L
+use Rattle.std.specs.Prelude.{Option, Some, None}
 use Rattle.message.specs.Offer.{offers}
 use Rattle.message.specs.Agreement.{offered_as, chosen_of, settled_by, agreed_of, agreed_with, agreed_as, agreement_of}
 use Rattle.message.specs.ServerHello.{server_read, ServerValues, server_values_at}
@@ -31,9 +31,9 @@ use Rattle.message.specs.declared.agreement.Disagreed.{Disagreed}
 
 -- ---- the kind
 
-abbrev ChosenHolds : ℕ → ℕ → Kinds → Listed → Type 0
-ChosenHolds cipher mac kinds (L.Is m) = (cipher ≡ 0) × Offered kinds mac
-ChosenHolds cipher mac kinds L.Other = cipher ≡ 0 → Offered kinds mac → ⊥
+abbrev ChosenHolds : ℕ → ℕ → Kinds → Option Mac → Type 0
+ChosenHolds cipher mac kinds (Some m) = (cipher ≡ 0) × Offered kinds mac
+ChosenHolds cipher mac kinds None = cipher ≡ 0 → Offered kinds mac → ⊥
 
 offered-holds : (mac : ℕ) (kinds : Kinds) → ChosenHolds 0 mac kinds (offered_as kinds (listed_as mac))
 unfolding listed_as
@@ -60,9 +60,9 @@ offered-holds mac kinds =
     neither a c (inl (e, o)) = eqb-false mac 2 a e
     neither a c (inr (e, o)) = eqb-false mac 3 c e
 
-chosen_at : (cipher mac : ℕ) (kinds : Kinds) → cipher ≡ 0 → (l : Listed) → ChosenHolds 0 mac kinds l → ChosenHolds cipher mac kinds l
-chosen_at cipher mac kinds e (L.Is m) h = (e, h.1)
-chosen_at cipher mac kinds e L.Other h = λ z o. h refl o
+chosen_at : (cipher mac : ℕ) (kinds : Kinds) → cipher ≡ 0 → (l : Option Mac) → ChosenHolds 0 mac kinds l → ChosenHolds cipher mac kinds l
+chosen_at cipher mac kinds e (Some m) h = (e, h.1)
+chosen_at cipher mac kinds e None h = λ z o. h refl o
 
 chosen-holds : (cipher mac : ℕ) (kinds : Kinds) → ChosenHolds cipher mac kinds (chosen_of cipher mac kinds)
 unfolding chosen_of
@@ -79,9 +79,9 @@ TermsHold v id offer (Err (G.Unacceptable term)) = Acceptable v id offer → ⊥
 TermsHold v id offer (Err G.Malformed) = ⊥
 
 module _ (v : ServerValues) (id : List ℕ) (offer : Offer) where
-  settled-holds : v.version ≡ 1 → v.session ≡ id → v.key ≡ 0 → (l : Listed) → ChosenHolds v.cipher v.mac offer.kinds l
+  settled-holds : v.version ≡ 1 → v.session ≡ id → v.key ≡ 0 → (l : Option Mac) → ChosenHolds v.cipher v.mac offer.kinds l
       → TermsHold v id offer (settled_by l v.compression v.numbering v.refresh offer.refresh)
-  settled-holds a b c (L.Is m) h =
+  settled-holds a b c (Some m) h =
       decide (eqb v.compression 0)
       (λ d. decide (eqb v.numbering 2)
       (λ e. decide (ltb offer.refresh v.refresh)
@@ -98,7 +98,7 @@ module _ (v : ServerValues) (id : List ℕ) (offer : Offer) where
       })))
       (λ e. rw (d, e) (λ x. eqb-false v.numbering 2 e x.numbering)))
       (λ d. rw d (λ x. eqb-false v.compression 0 d x.compression))
-  settled-holds a b c L.Other h = λ x. h x.cipher x.kind
+  settled-holds a b c None h = λ x. h x.cipher x.kind
 
   terms-hold : TermsHold v id offer (agreed_with v id offer)
   unfolding agreed_of

@@ -1,5 +1,6 @@
 -- `greet::greet`: by what the hello is.
-use mathlib.Core.Path.{sym, ◌∙◌}
+use Rattle.std.specs.Prelude.{Err}
+use mathlib.Core.Path.{sym, ◌∙◌, ap}
 use Rattle.message.proofs.Hearing.{accepted_size}
 use Rattle.connection.specs.Reply.{answered_with}
 use Rattle.connection.specs.Clear.{greeted_by}
@@ -7,16 +8,16 @@ use Rattle.connection.specs.declared.answer.Answer.TheVariants.{Reply}
 use Rattle.connection.proofs.clear.greet.Goals as goal
 
 pub answered-left-requires : goal.answered-left-requires
-answered-left-requires c = (c.requires, accepted_size c.args.m.now c.args.h.id c.in-Accepted.plan (sym c.hear.ensures ∙ c.in-Accepted.is))
+answered-left-requires c = (c.requires, accepted_size c.args.m.now c.args.h.id c.in-Ok.plan (sym c.hear.ensures ∙ c.in-Ok.is))
 
-pub returns-in-Malformed : goal.returns-in-Malformed
+pub returns-in-Err-Malformed : goal.returns-in-Err-Malformed
 unfolding greeted_by
-returns-in-Malformed c = rw (sym c.hear.ensures ∙ c.in-Malformed.is) c.refuse.ensures
+returns-in-Err-Malformed c = rw (sym c.hear.ensures ∙ (c.in-Err-Malformed.is ∙ ap Err c.in-Err-Malformed.field-0-is)) c.refuse.ensures
 
-pub returns-in-Unacceptable : goal.returns-in-Unacceptable
+pub returns-in-Err-Unacceptable : goal.returns-in-Err-Unacceptable
 unfolding greeted_by
-returns-in-Unacceptable c = rw (sym c.hear.ensures ∙ c.in-Unacceptable.is) c.refuse-in-Unacceptable.ensures
+returns-in-Err-Unacceptable c = rw (sym c.hear.ensures ∙ (c.in-Err-Unacceptable.is ∙ ap Err c.in-Err-Unacceptable.field-0-is)) c.refuse-in-Err-Unacceptable.ensures
 
-pub returns-in-Accepted : goal.returns-in-Accepted
+pub returns-in-Ok : goal.returns-in-Ok
 unfolding greeted_by answered_with
-returns-in-Accepted c = rw (sym c.hear.ensures ∙ c.in-Accepted.is) (λ i. record { answer = Reply (c.answered-left.ensures i).kept.size; handshake = c.answered-left.ensures i })
+returns-in-Ok c = rw (sym c.hear.ensures ∙ c.in-Ok.is) (λ i. record { answer = Reply (c.answered-left.ensures i).kept.size; handshake = c.answered-left.ensures i })

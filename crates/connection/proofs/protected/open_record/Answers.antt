@@ -13,25 +13,17 @@ use Rattle.connection.proofs.protected.open_record.Goals as goal
 
 pub slice_bounds-content-end : goal.slice_bounds-content-end
 slice_bounds-content-end c = let a = c.args in
-    let within = new_within a.h.protection FromUnit a.number a.byte a.fragment.now _ (sym (ap (λ (o : Opening). o.opened) c.open-opening.ensures) ∙ c.in-New.is) in
+    let within = new_within a.h.protection FromUnit a.number a.byte a.fragment.now _ (sym (ap (λ (o : Opening). o.opened) c.open-opening.ensures) ∙ c.in-Ok.is) in
     sym (length-take-le _ a.fragment.now within)
 
-pub returns-in-Forged : goal.returns-in-Forged
+pub returns-in-Err : goal.returns-in-Err
 unfolding opened_record
-returns-in-Forged c = rw (sym (ap (λ (o : Opening). o.opened) c.open-opening.ensures) ∙ c.in-Forged.is) (ap (stepped_by c.args.h) c.refuse.ensures)
+returns-in-Err c = rw (sym (ap (λ (o : Opening). o.opened) c.open-opening.ensures) ∙ c.in-Err.is, ← c.from.ensures) (ap (stepped_by c.args.h) c.refuse.ensures)
 
-pub returns-in-TooOld : goal.returns-in-TooOld
+pub returns-in-Ok : goal.returns-in-Ok
 unfolding opened_record
-returns-in-TooOld c = rw (sym (ap (λ (o : Opening). o.opened) c.open-opening.ensures) ∙ c.in-TooOld.is) (ap (stepped_by c.args.h) c.refuse-in-TooOld.ensures)
-
-pub returns-in-Repeated : goal.returns-in-Repeated
-unfolding opened_record
-returns-in-Repeated c = rw (sym (ap (λ (o : Opening). o.opened) c.open-opening.ensures) ∙ c.in-Repeated.is) (ap (stepped_by c.args.h) c.refuse-in-Repeated.ensures)
-
-pub returns-in-New : goal.returns-in-New
-unfolding opened_record
-returns-in-New c = let a = c.args in
+returns-in-Ok c = let a = c.args in
     let left = ap (λ (o : Opening). with_window a.h o.protection.window) c.open-opening.ensures
     ∙ ap (with_protection a.h) (opened_window a.h.protection a.number a.byte a.fragment.now) in
-    rw (sym (ap (λ (o : Opening). o.opened) c.open-opening.ensures) ∙ c.in-New.is)
-    (c.content.ensures ∙ (λ i. content_by (left i) a.kind a.number a.at (take c.in-New.size a.fragment.now)))
+    rw (sym (ap (λ (o : Opening). o.opened) c.open-opening.ensures) ∙ c.in-Ok.is)
+    (c.content.ensures ∙ (λ i. content_by (left i) a.kind a.number a.at (take c.in-Ok.size a.fragment.now)))

@@ -1,17 +1,18 @@
 -- `protected::verified`: by what the message is.
+use Rattle.std.specs.Prelude.{Err}
 use mathlib.Core.Path.{sym, ◌∙◌, ap}
 use Rattle.connection.specs.Protected.{verified_by}
 use Rattle.connection.specs.Step.{stepped_by}
 use Rattle.connection.proofs.protected.verified.Goals as goal
 
-pub returns-in-Malformed : goal.returns-in-Malformed
+pub returns-in-Err-Malformed : goal.returns-in-Err-Malformed
 unfolding verified_by
-returns-in-Malformed c = rw (sym c.judge.ensures ∙ c.in-Malformed.is) (ap (stepped_by c.args.h) c.refuse.ensures)
+returns-in-Err-Malformed c = rw (sym c.judge.ensures ∙ (c.in-Err-Malformed.is ∙ ap Err c.in-Err-Malformed.field-0-is)) (ap (stepped_by c.args.h) c.refuse.ensures)
 
-pub returns-in-Wrong : goal.returns-in-Wrong
+pub returns-in-Err-Wrong : goal.returns-in-Err-Wrong
 unfolding verified_by
-returns-in-Wrong c = rw (sym c.judge.ensures ∙ c.in-Wrong.is) (ap (stepped_by c.args.h) c.lead.ensures)
+returns-in-Err-Wrong c = rw (sym c.judge.ensures ∙ (c.in-Err-Wrong.is ∙ ap Err c.in-Err-Wrong.field-0-is)) (ap (stepped_by c.args.h) c.lead.ensures)
 
-pub returns-in-Right : goal.returns-in-Right
+pub returns-in-Ok : goal.returns-in-Ok
 unfolding verified_by
-returns-in-Right c = rw (sym c.judge.ensures ∙ c.in-Right.is) c.opened.ensures
+returns-in-Ok c = rw (sym c.judge.ensures ∙ c.in-Ok.is) c.opened.ensures

@@ -15,10 +15,10 @@ pub record_at-requires : goal.record_at-requires
 record_at-requires c = omega arith
 
 pub begin-begun-requires : goal.begin-begun-requires
-begin-begun-requires c = let p = c.requires in let f = first_fits _ c.args.walk c.record_at.result p.1.0 p.1.1.0 c.record_at.ensures in (p.0, (f.0, (f.1, p.1.1.1)))
+begin-begun-requires c = let p = c.requires in let f = first_fits _ c.args.walk c.record_at.result p.1.0 c.record_at.ensures in (p.0, (f.0, (f.1, p.1.1)))
 
 pub loop-i-init : goal.loop-i-init
-loop-i-init c = let a = c.args in let p = c.requires in (short_enough _ a.walk p.1.0 p.1.1.0, goes_begun _ a.ours a.c a.walk c.begin-begun.result c.record_at.result p.1.0 p.1.1.0 c.record_at.ensures c.begin-begun.ensures.value)
+loop-i-init c = let a = c.args in let p = c.requires in (short_enough _ a.walk p.1.0, goes_begun _ a.ours a.c a.walk c.begin-begun.result c.record_at.result p.1.0 c.record_at.ensures c.begin-begun.ensures.value)
 
 pub record_at-r-requires : goal.record_at-r-requires
 record_at-r-requires c = next_within c.loop-i.invariant.1 c.loop-i-test.true
@@ -67,4 +67,4 @@ pub returns : goal.returns
 returns c = let a = c.args in
     let p = c.requires in
     let b = c.begin-begun.result in
-    let r = c.record_at.result in record { value = goes_end _ a.ours a.c a.walk b r p.1.0 p.1.1.0 c.record_at.ensures c.begin-begun.ensures.value c.loop-i.answers c.loop-i.left c.loop-i.i c.loop-i.at (omega (arith, c.loop-i-test.false)) c.loop-i.invariant.1; out_after = c.begin-begun.ensures.out_after ∙ ap (laid_over a.out.now 0) (sent_first _ a.ours a.c a.walk b r p.1.0 p.1.1.0 c.record_at.ensures c.begin-begun.ensures.value) }
+    let r = c.record_at.result in record { value = goes_end _ a.ours a.c a.walk b r p.1.0 c.record_at.ensures c.begin-begun.ensures.value c.loop-i.answers c.loop-i.left c.loop-i.i c.loop-i.at (omega (arith, c.loop-i-test.false)) c.loop-i.invariant.1; out_after = c.begin-begun.ensures.out_after ∙ ap (laid_over a.out.now 0) (sent_first _ a.ours a.c a.walk b r p.1.0 c.record_at.ensures c.begin-begun.ensures.value) }

@@ -7,10 +7,10 @@ pub returns-then-lent-gt1400 : goal.returns-then-lent-gt1400
 unfolding alert_refused
 returns-then-lent-gt1400 c = search picks depth 2
 
-pub returns-in-Refused : goal.returns-in-Refused
+pub returns-in-Err : goal.returns-in-Err
 unfolding alert_refused
-returns-in-Refused c = rw c.in-Refused.is (search picks depth 2)
+returns-in-Err c = rw c.in-Err.is (search picks depth 2)
 
-pub returns-in-Done : goal.returns-in-Done
+pub returns-in-Ok : goal.returns-in-Ok
 unfolding alert_refused
-returns-in-Done c = rw c.in-Done.is (search picks depth 2)
+returns-in-Ok c = rw c.in-Ok.is (search picks depth 2)

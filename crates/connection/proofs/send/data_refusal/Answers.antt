@@ -14,14 +14,14 @@ unfolding data_refused
 returns-then-size-gt1300 c = let size = c.args.size in
     if_ne _ size 0 (λ z. omega arith) (if_lt _ 1300 size (omega arith) refl)
 
-pub returns-in-Refused : goal.returns-in-Refused
+pub returns-in-Err : goal.returns-in-Err
 unfolding data_refused
-returns-in-Refused c = let size = c.args.size in
-    rw (sym c.may_data.ensures ∙ c.in-Refused.is)
+returns-in-Err c = let size = c.args.size in
+    rw (sym c.may_data.ensures ∙ c.in-Err.is)
     (if_ne _ size 0 (λ z. omega arith) (if_ge _ 1300 size (omega arith) refl))
 
-pub returns-in-Done : goal.returns-in-Done
+pub returns-in-Ok : goal.returns-in-Ok
 unfolding data_refused
-returns-in-Done c = let size = c.args.size in
-    rw (sym c.may_data.ensures ∙ c.in-Done.is)
+returns-in-Ok c = let size = c.args.size in
+    rw (sym c.may_data.ensures ∙ c.in-Ok.is)
     (if_ne _ size 0 (λ z. omega arith) (if_ge _ 1300 size (omega arith) c.numbered.ensures))

@@ -10,11 +10,11 @@ named : {A B C D E : Type 0} → A × (B × (C × (D × E))) → record { value 
 named x = record { value = x.0; state_after = x.1.0; tally_after = x.1.1.0; answers_after = x.1.1.1.0; state_after_2 = x.1.1.1.1 }
 
 pub returns-in-Refused : goal.returns-in-Refused
-returns-in-Refused c = named (rw c.in-Refused.is (c.result_of.ensures.exact ∙ ap (λ x. result_of x 0 0) c.number.ensures, (refl, (refl, (refl, refl)))))
+returns-in-Refused c = named (rw (c.in-Err.is, c.in-Refused.is) (c.result_of.ensures.exact ∙ ap (λ x. result_of x 0 0) c.number.ensures, (refl, (refl, (refl, refl)))))
 
 pub returns-in-Misframed : goal.returns-in-Misframed
-returns-in-Misframed c = named (rw c.in-Misframed.is (c.result_of-in-Misframed.ensures.exact ∙ ap (λ x. result_of x 0 c.in-Misframed.at) c.number-in-Misframed.ensures, (refl, (refl, (refl, refl)))))
+returns-in-Misframed c = named (rw (c.in-Err.is, c.in-Misframed.is) (c.result_of-in-Misframed.ensures.exact ∙ ap (λ x. result_of x 0 c.in-Misframed.at) c.number-in-Misframed.ensures, (refl, (refl, (refl, refl)))))
 
-pub returns-in-Records : goal.returns-in-Records
-returns-in-Records c = named (let counted = c.put_tally.ensures ∙ ap tally_bytes (c.with_answers.ensures ∙ ap (λ t. counted_of t c.args.received.answers) c.tally_in-before.ensures) in
-    rw c.in-Records.is (c.result_of-in-Records.ensures.exact, (c.put_connection.ensures.d_after, (counted, (c.put_answers.ensures, c.put_connection.ensures.d_after_2)))))
+pub returns-in-Ok : goal.returns-in-Ok
+returns-in-Ok c = named (let counted = c.put_tally.ensures ∙ ap tally_bytes (c.with_answers.ensures ∙ ap (λ t. counted_of t c.args.received.answers) c.tally_in-before.ensures) in
+    rw c.in-Ok.is (c.result_of-in-Ok.ensures.exact, (c.put_connection.ensures.d_after, (counted, (c.put_answers.ensures, c.put_connection.ensures.d_after_2)))))

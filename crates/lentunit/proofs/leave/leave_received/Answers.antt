@@ -11,15 +11,15 @@ named : {A B C D E : Type 0} → A × (B × (C × (D × E))) → record { value 
 named x = record { value = x.0; state_after = x.1.0; tally_after = x.1.1.0; answers_after = x.1.1.1.0; state_after_2 = x.1.1.1.1 }
 
 pub returns-in-Refused : goal.returns-in-Refused
-returns-in-Refused c = named (rw c.in-Refused.is (c.result_of.ensures.exact ∙ ap (λ x. result_of x 0 0) c.number.ensures, (refl, (refl, (refl, refl)))))
+returns-in-Refused c = named (rw (c.in-Err.is, c.in-Refused.is) (c.result_of.ensures.exact ∙ ap (λ x. result_of x 0 0) c.number.ensures, (refl, (refl, (refl, refl)))))
 
 pub returns-in-Misframed : goal.returns-in-Misframed
-returns-in-Misframed c = named (rw c.in-Misframed.is (c.result_of-in-Misframed.ensures.exact ∙ ap (λ x. result_of x 0 c.in-Misframed.at) c.number-in-Misframed.ensures, (refl, (refl, (refl, refl)))))
+returns-in-Misframed c = named (rw (c.in-Err.is, c.in-Misframed.is) (c.result_of-in-Misframed.ensures.exact ∙ ap (λ x. result_of x 0 c.in-Misframed.at) c.number-in-Misframed.ensures, (refl, (refl, (refl, refl)))))
 
-pub returns-in-Records : goal.returns-in-Records
-returns-in-Records c = named (let t = c.args.tally.now in
+pub returns-in-Ok : goal.returns-in-Ok
+returns-in-Ok c = named (let t = c.args.tally.now in
     let answers = c.args.received.answers in
     let before = c.tally_within-before.ensures.exact ∙ tally_stands t c.requires.1.0 in
     let after = c.counted.ensures ∙ ap (λ x. counted_of x answers) before in
     let tallied = c.lay_tally.ensures.exact ∙ tally_lies t c.counted.result c.requires.1.0 ∙ ap tally_bytes after in
-    rw c.in-Records.is (c.result_of-in-Records.ensures.exact, (c.put_unit.ensures.d_after, (tallied, (c.put_answers.ensures, c.put_unit.ensures.d_after_2)))))
+    rw c.in-Ok.is (c.result_of-in-Ok.ensures.exact, (c.put_unit.ensures.d_after, (tallied, (c.put_answers.ensures, c.put_unit.ensures.d_after_2)))))

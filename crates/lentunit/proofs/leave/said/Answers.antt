@@ -3,8 +3,8 @@ use mathlib.Core.Path.{◌∙◌, ap}
 use Rattle.lent.specs.Calls.{result_of}
 use Rattle.lentunit.proofs.leave.said.Goals as goal
 
-pub returns-in-Refused : goal.returns-in-Refused
-returns-in-Refused c = rw c.in-Refused.is (c.result_of.ensures.exact ∙ ap (λ x. result_of x c.args.sent.written 0) c.number.ensures)
+pub returns-in-Err : goal.returns-in-Err
+returns-in-Err c = rw c.in-Err.is (c.result_of.ensures.exact ∙ ap (λ x. result_of x c.args.sent.written 0) c.number.ensures)
 
-pub returns-in-Done : goal.returns-in-Done
-returns-in-Done c = rw c.in-Done.is c.result_of-in-Done.ensures.exact
+pub returns-in-Ok : goal.returns-in-Ok
+returns-in-Ok c = rw c.in-Ok.is c.result_of-in-Ok.ensures.exact

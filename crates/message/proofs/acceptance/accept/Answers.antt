@@ -25,7 +25,7 @@ returns-then-not-has_null c = rw (
   c.if-not-same_code.false,
   sym c.first_fit.ensures,
   sym c.listed.ensures.exact,
-  c.in-Is.is,
+  c.in-Some.is,
   sym c.has_null.ensures,
   c.if-not-has_null.true,
 )
@@ -38,7 +38,7 @@ returns-then-numbering-ne2 c = rw (
   c.if-not-same_code.false,
   sym c.first_fit.ensures,
   sym c.listed.ensures.exact,
-  c.in-Is.is,
+  c.in-Some.is,
   sym c.has_null.ensures,
   c.if-not-has_null.false,
 )
@@ -51,7 +51,7 @@ returns c = rw (
   c.if-not-same_code.false,
   sym c.first_fit.ensures,
   sym c.listed.ensures.exact,
-  c.in-Is.is,
+  c.in-Some.is,
   sym c.has_null.ensures,
   c.if-not-has_null.false,
 )

@@ -3,14 +3,14 @@ use mathlib.Core.Path.{refl, sym}
 use Rattle.message.specs.Acceptance.{heard_of}
 use Rattle.message.proofs.acceptance.hear.Goals as goal
 
-pub returns-in-Malformed : goal.returns-in-Malformed
+pub returns-in-Err : goal.returns-in-Err
 unfolding heard_of
-returns-in-Malformed c = rw (sym c.read.ensures, c.in-Malformed.is) refl
+returns-in-Err c = rw (sym c.read.ensures, c.in-Err.is) refl
 
-pub returns-in-Accepted : goal.returns-in-Accepted
+pub returns-in-Ok-judge : goal.returns-in-Ok-judge
 unfolding heard_of
-returns-in-Accepted c = rw (sym c.read.ensures, c.in-WellFormed.is, sym c.judge.ensures, c.in-Accepted.is) refl
+returns-in-Ok-judge c = rw (sym c.read.ensures, c.in-Ok.is, sym c.judge.ensures, c.in-Ok-judge.is) refl
 
-pub returns-in-Unacceptable : goal.returns-in-Unacceptable
+pub returns-in-Err-judge : goal.returns-in-Err-judge
 unfolding heard_of
-returns-in-Unacceptable c = rw (sym c.read.ensures, c.in-WellFormed.is, sym c.judge.ensures, c.in-Unacceptable.is) refl
+returns-in-Err-judge c = rw (sym c.read.ensures, c.in-Ok.is, sym c.judge.ensures, c.in-Err-judge.is) refl

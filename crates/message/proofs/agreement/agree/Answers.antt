@@ -5,12 +5,12 @@ use Rattle.message.proofs.ServerHellos.{end_most}
 use Rattle.message.proofs.agreement.agree.Goals as goal
 
 pub judge-requires : goal.judge-requires
-judge-requires c = end_most c.args.m.now _ (sym c.read.ensures ∙ c.in-WellFormed.is)
+judge-requires c = end_most c.args.m.now _ (sym c.read.ensures ∙ c.in-Some.is)
 
-pub returns-in-Malformed : goal.returns-in-Malformed
+pub returns-in-None : goal.returns-in-None
 unfolding agreement_of
-returns-in-Malformed c = rw (sym c.read.ensures, c.in-Malformed.is) refl
+returns-in-None c = rw (sym c.read.ensures, c.in-None.is) refl
 
-pub returns-in-WellFormed : goal.returns-in-WellFormed
+pub returns-in-Some : goal.returns-in-Some
 unfolding agreement_of
-returns-in-WellFormed c = rw (sym c.read.ensures, c.in-WellFormed.is) c.judge.ensures
+returns-in-Some c = rw (sym c.read.ensures, c.in-Some.is) c.judge.ensures

@@ -23,16 +23,16 @@ returns-in_default c = rw (sym c.same_code.ensures.exact, c.if-not-same_code.fal
 
 pub returns-then-compression-ne0 : goal.returns-then-compression-ne0
 unfolding agreed_of
-returns-then-compression-ne0 c = rw (sym c.same_code.ensures.exact, c.if-not-same_code.false, sym c.chosen.ensures, c.in-Is.is) (if_eq _ c.args.version 1 (omega arith) (if_eq _ c.args.key 0 (omega arith) (if_ne _ c.args.compression 0 (λ z. omega arith) refl)))
+returns-then-compression-ne0 c = rw (sym c.same_code.ensures.exact, c.if-not-same_code.false, sym c.chosen.ensures, c.in-Some.is) (if_eq _ c.args.version 1 (omega arith) (if_eq _ c.args.key 0 (omega arith) (if_ne _ c.args.compression 0 (λ z. omega arith) refl)))
 
 pub returns-then-numbering-ne2 : goal.returns-then-numbering-ne2
 unfolding agreed_of
-returns-then-numbering-ne2 c = rw (sym c.same_code.ensures.exact, c.if-not-same_code.false, sym c.chosen.ensures, c.in-Is.is) (if_eq _ c.args.version 1 (omega arith) (if_eq _ c.args.key 0 (omega arith) (if_eq _ c.args.compression 0 (omega arith) (if_ne _ c.args.numbering 2 (λ z. omega arith) refl))))
+returns-then-numbering-ne2 c = rw (sym c.same_code.ensures.exact, c.if-not-same_code.false, sym c.chosen.ensures, c.in-Some.is) (if_eq _ c.args.version 1 (omega arith) (if_eq _ c.args.key 0 (omega arith) (if_eq _ c.args.compression 0 (omega arith) (if_ne _ c.args.numbering 2 (λ z. omega arith) refl))))
 
 pub returns-then-offer-refresh : goal.returns-then-offer-refresh
 unfolding agreed_of
-returns-then-offer-refresh c = rw (sym c.same_code.ensures.exact, c.if-not-same_code.false, sym c.chosen.ensures, c.in-Is.is) (if_eq _ c.args.version 1 (omega arith) (if_eq _ c.args.key 0 (omega arith) (if_eq _ c.args.compression 0 (omega arith) (if_eq _ c.args.numbering 2 (omega arith) (if_lt _ c.args.offer.refresh c.args.refresh (omega arith) refl)))))
+returns-then-offer-refresh c = rw (sym c.same_code.ensures.exact, c.if-not-same_code.false, sym c.chosen.ensures, c.in-Some.is) (if_eq _ c.args.version 1 (omega arith) (if_eq _ c.args.key 0 (omega arith) (if_eq _ c.args.compression 0 (omega arith) (if_eq _ c.args.numbering 2 (omega arith) (if_lt _ c.args.offer.refresh c.args.refresh (omega arith) refl)))))
 
 pub returns : goal.returns
 unfolding agreed_of
-returns c = rw (sym c.same_code.ensures.exact, c.if-not-same_code.false, sym c.chosen.ensures, c.in-Is.is) (if_eq _ c.args.version 1 (omega arith) (if_eq _ c.args.key 0 (omega arith) (if_eq _ c.args.compression 0 (omega arith) (if_eq _ c.args.numbering 2 (omega arith) (if_ge _ c.args.offer.refresh c.args.refresh (omega arith) refl)))))
+returns c = rw (sym c.same_code.ensures.exact, c.if-not-same_code.false, sym c.chosen.ensures, c.in-Some.is) (if_eq _ c.args.version 1 (omega arith) (if_eq _ c.args.key 0 (omega arith) (if_eq _ c.args.compression 0 (omega arith) (if_eq _ c.args.numbering 2 (omega arith) (if_ge _ c.args.offer.refresh c.args.refresh (omega arith) refl)))))

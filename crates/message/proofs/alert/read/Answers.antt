@@ -17,8 +17,8 @@ returns-in_default c = rw (sym c.grade.ensures, c.in_default.is) (if_eq _ (lengt
 
 pub returns-in_default-sort : goal.returns-in_default-sort
 unfolding alert_of word_at
-returns-in_default-sort c = rw (sym c.grade.ensures, c.in-Is.is, sym c.sort.ensures, c.in_default-sort.is) (if_eq _ (length c.args.s.now) 6 (omega arith) refl)
+returns-in_default-sort c = rw (sym c.grade.ensures, c.in-Some.is, sym c.sort.ensures, c.in_default-sort.is) (if_eq _ (length c.args.s.now) 6 (omega arith) refl)
 
 pub returns : goal.returns
 unfolding alert_of word_at
-returns c = rw (sym c.grade.ensures, c.in-Is.is, sym c.sort.ensures, c.in-Assigned.is, sym c.word-checksum.ensures) (if_eq _ (length c.args.s.now) 6 (omega arith) refl)
+returns c = rw (sym c.grade.ensures, c.in-Some.is, sym c.sort.ensures, c.in-Some-sort.is, sym c.word-checksum.ensures) (if_eq _ (length c.args.s.now) 6 (omega arith) refl)

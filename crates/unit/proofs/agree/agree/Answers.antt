@@ -1,4 +1,5 @@
 -- `agree::agree`: by what the message is.
+use Rattle.std.specs.Prelude.{Err}
 use mathlib.Core.Path.{sym, ◌∙◌, ap}
 use Rattle.unit.specs.Agree.{agreed_by, judged}
 use Rattle.unit.specs.declared.answer.Answer.TheVariants as W
@@ -6,16 +7,16 @@ use Rattle.unit.proofs.Parts.{agreed_long}
 use Rattle.unit.proofs.agree.agree.Goals as goal
 
 pub agreed-requires : goal.agreed-requires
-agreed-requires c = agreed_long _ _ _ _ (sym c.agree.ensures ∙ c.in-Agreed.is)
+agreed-requires c = agreed_long _ _ _ _ (sym c.agree.ensures ∙ c.in-Ok.is)
 
-pub returns-in-Malformed : goal.returns-in-Malformed
+pub returns-in-Err-Malformed : goal.returns-in-Err-Malformed
 unfolding agreed_by
-returns-in-Malformed c = rw (sym c.agree.ensures, c.in-Malformed.is) c.judge_as.ensures
+returns-in-Err-Malformed c = rw (sym c.agree.ensures, (c.in-Err-Malformed.is ∙ ap Err c.in-Err-Malformed.field-0-is)) c.judge_as.ensures
 
-pub returns-in-Unacceptable : goal.returns-in-Unacceptable
+pub returns-in-Err-Unacceptable : goal.returns-in-Err-Unacceptable
 unfolding agreed_by
-returns-in-Unacceptable c = rw (sym c.agree.ensures, c.in-Unacceptable.is) c.judge_as-in-Unacceptable.ensures
+returns-in-Err-Unacceptable c = rw (sym c.agree.ensures, (c.in-Err-Unacceptable.is ∙ ap Err c.in-Err-Unacceptable.field-0-is)) c.judge_as-in-Err-Unacceptable.ensures
 
-pub returns-in-Agreed : goal.returns-in-Agreed
+pub returns-in-Ok : goal.returns-in-Ok
 unfolding agreed_by
-returns-in-Agreed c = rw (sym c.agree.ensures, c.in-Agreed.is) (c.judge_as-in-Agreed.ensures ∙ ap (judged W.Hello) c.agreed.ensures)
+returns-in-Ok c = rw (sym c.agree.ensures, c.in-Ok.is) (c.judge_as-in-Ok.ensures ∙ ap (judged W.Hello) c.agreed.ensures)

@@ -24,16 +24,16 @@ pub returns-in_default : goal.returns-in_default
 unfolding hello_sent hello_output
 returns-in_default c = named (rw (sym c.kinds_of.ensures, c.in_default.is) (if_eq _ (length c.args.random.now) 16 (omega arith) (if_ge _ 255 c.args.refresh (omega arith) c.refused-in_default.ensures), if_eq _ (length c.args.random.now) 16 (omega arith) (if_ge _ 255 c.args.refresh (omega arith) refl)))
 
-pub returns-in-Refused : goal.returns-in-Refused
+pub returns-in-Err : goal.returns-in-Err
 unfolding hello_sent hello_output
-returns-in-Refused c = named (rw (sym c.kinds_of.ensures, c.in-Are.is, sym c.may_hello.ensures, c.in-Refused.is) (if_eq _ (length c.args.random.now) 16 (omega arith) (if_ge _ 255 c.args.refresh (omega arith) c.refused-in-Refused.ensures), if_eq _ (length c.args.random.now) 16 (omega arith) (if_ge _ 255 c.args.refresh (omega arith) refl)))
+returns-in-Err c = named (rw (sym c.kinds_of.ensures, c.in-Some.is, sym c.may_hello.ensures, c.in-Err.is) (if_eq _ (length c.args.random.now) 16 (omega arith) (if_ge _ 255 c.args.refresh (omega arith) c.refused-in-Err.ensures), if_eq _ (length c.args.random.now) 16 (omega arith) (if_ge _ 255 c.args.refresh (omega arith) refl)))
 
-pub returns-in-Done : goal.returns-in-Done
+pub returns-in-Ok : goal.returns-in-Ok
 unfolding hello_sent hello_output
-returns-in-Done c = named (let a = c.args in
-    let offer = offer_of c.in-Are.kinds a.refresh in
+returns-in-Ok c = named (let a = c.args in
+    let offer = offer_of c.in-Some.kinds a.refresh in
     let ours = filled_whole 16 a.random.now c.put.new.d (omega arith) c.put.ensures.exact in
-    rw (sym c.kinds_of.ensures, c.in-Are.is, sym c.may_hello.ensures, c.in-Done.is) (
+    rw (sym c.kinds_of.ensures, c.in-Some.is, sym c.may_hello.ensures, c.in-Ok.is) (
       if_eq _ (length c.args.random.now) 16 (omega arith) (if_ge _ 255 c.args.refresh (omega arith) (c.greet.ensures.value ∙ ap (λ x. greeted_with a.u x offer (length a.out.now)) ours)),
       if_eq _ (length c.args.random.now) 16 (omega arith) (if_ge _ 255 c.args.refresh (omega arith) (c.greet.ensures.out_after ∙ ap (λ x. written_of a.out.now (hello_datagram a.u.id x offer)) ours)),
     ))

@@ -1,5 +1,5 @@
 -- `receive::receive`: 6, the framing, then the records.
-use mathlib.Core.Path.{refl}
+use mathlib.Core.Path.{sym, refl, ◌∙◌}
 use lib.ListN.{length}
 use Rattle.digest.proofs.Picks.{if_lt, if_ge}
 use Rattle.connection.proofs.Running.{walk_sound, walk_refused, laid_nothing}
@@ -17,20 +17,20 @@ returns-then-out-lt128 c = let out = c.args.out.now in
     record { exact = if_lt _ (length out) 128 (omega arith) c.whole.ensures; bytes = if_lt _ (length out) 128 (omega arith) refl }
 
 pub each-requires : goal.each-requires
-each-requires c = (c.walked-walk.ensures, omega (arith, c.if-out-lt128.false))
+each-requires c = (sym c.walked.ensures ∙ c.in-Ok.is, omega (arith, c.if-out-lt128.false))
 
-pub returns-in-Refused : goal.returns-in-Refused
+pub returns-in-Err : goal.returns-in-Err
 unfolding received_of output_of
-returns-in-Refused c = named (let out = c.args.out.now in
-    rw (walk_refused c.args.datagram.now c.walked-walk.result _ _ c.walked-walk.ensures c.in-Refused.is) (
-      if_ge _ (length out) 128 (omega arith) c.whole-in-Refused.ensures,
+returns-in-Err c = named (let out = c.args.out.now in
+    rw (walk_refused c.args.datagram.now _ (sym c.walked.ensures ∙ c.in-Err.is)) (
+      if_ge _ (length out) 128 (omega arith) c.whole-in-Err.ensures,
       if_ge _ (length out) 128 (omega arith) (laid_nothing out),
     ))
 
-pub returns-in-Sound : goal.returns-in-Sound
+pub returns-in-Ok : goal.returns-in-Ok
 unfolding received_of output_of
-returns-in-Sound c = named (let out = c.args.out.now in
-    rw (walk_sound c.args.datagram.now c.walked-walk.result c.walked-walk.ensures c.in-Sound.is) (
+returns-in-Ok c = named (let out = c.args.out.now in
+    rw (walk_sound c.args.datagram.now c.in-Ok.walk (sym c.walked.ensures ∙ c.in-Ok.is)) (
       if_ge _ (length out) 128 (omega arith) c.each.ensures.value,
       if_ge _ (length out) 128 (omega arith) c.each.ensures.out_after,
     ))

@@ -17,25 +17,21 @@ named : {A B : Type 0} → A × B → record { value : A; out_after : B }
 named x = record { value = x.0; out_after = x.1 }
 
 pub slice_bounds-checksum-end : goal.slice_bounds-checksum-end
-slice_bounds-checksum-end c = let w = protected_done c.args.u.protection FromUnit c.args.content c.args.body.now c.args.out.now _ _ _ c.write-writing.ensures.exact c.in-Done.is c.write-writing.ensures.bytes in
-    let fits = done_fits c.args.u.protection FromUnit c.args.content c.args.body.now c.args.out.now _ _ c.write-writing.ensures.exact c.in-Done.is in
+slice_bounds-checksum-end c = let w = protected_done c.args.u.protection FromUnit c.args.content c.args.body.now c.args.out.now _ _ _ c.write-writing.ensures.exact c.in-Ok.is c.write-writing.ensures.bytes in
+    let fits = done_fits c.args.u.protection FromUnit c.args.content c.args.body.now c.args.out.now _ _ c.write-writing.ensures.exact c.in-Ok.is in
     omega (arith, w.count, ap length w.bytes_are ∙ length_laid c.args.out.now 0 (next_record c.args.u.protection FromUnit c.args.content c.args.body.now) (omega (arith, fits)), fits)
 
-pub slice_bounds-checksum-end-in-Done : goal.slice_bounds-checksum-end-in-Done
-slice_bounds-checksum-end-in-Done c = let w = protected_done c.args.u.protection FromUnit c.args.content c.args.body.now c.args.out.now _ _ _ c.write-writing.ensures.exact c.in-Done.is c.write-writing.ensures.bytes in
+pub slice_bounds-checksum-end-in-Ok : goal.slice_bounds-checksum-end-in-Ok
+slice_bounds-checksum-end-in-Ok c = let w = protected_done c.args.u.protection FromUnit c.args.content c.args.body.now c.args.out.now _ _ _ c.write-writing.ensures.exact c.in-Ok.is c.write-writing.ensures.bytes in
     w.count ∙ sym (ap length w.front)
 
-pub returns-in-Spent : goal.returns-in-Spent
+pub returns-in-Err : goal.returns-in-Err
 unfolding protected_sent
-returns-in-Spent c = named (rw (sym (ap (λ (x : Writing). x.wrote) c.write-writing.ensures.exact) ∙ c.in-Spent.is) (c.refused.ensures, c.write-writing.ensures.bytes))
+returns-in-Err c = named (rw (sym (ap (λ (x : Writing). x.wrote) c.write-writing.ensures.exact) ∙ c.in-Err.is, ← c.from.ensures) (c.refused.ensures, c.write-writing.ensures.bytes))
 
-pub returns-in-NoRoom : goal.returns-in-NoRoom
+pub returns-in-Ok : goal.returns-in-Ok
 unfolding protected_sent
-returns-in-NoRoom c = named (rw (sym (ap (λ (x : Writing). x.wrote) c.write-writing.ensures.exact) ∙ c.in-NoRoom.is) (c.refused-in-NoRoom.ensures, c.write-writing.ensures.bytes))
-
-pub returns-in-Done : goal.returns-in-Done
-unfolding protected_sent
-returns-in-Done c = named (let w = protected_done c.args.u.protection FromUnit c.args.content c.args.body.now c.args.out.now _ _ _ c.write-writing.ensures.exact c.in-Done.is c.write-writing.ensures.bytes in
+returns-in-Ok c = named (let w = protected_done c.args.u.protection FromUnit c.args.content c.args.body.now c.args.out.now _ _ _ c.write-writing.ensures.exact c.in-Ok.is c.write-writing.ensures.bytes in
     let sum = c.checksum-last.ensures ∙ ap sum_of w.front in
     let left = c.with_sent.ensures ∙ ap₂ (with_sent c.args.u) (ap (λ (x : Writing). x.protection) c.write-writing.ensures.exact) sum in
-    rw (sym (ap (λ (x : Writing). x.wrote) c.write-writing.ensures.exact) ∙ c.in-Done.is) (c.done.ensures ∙ ap (done_with c.in-Done.size) left, c.write-writing.ensures.bytes))
+    rw (sym (ap (λ (x : Writing). x.wrote) c.write-writing.ensures.exact) ∙ c.in-Ok.is) (c.done.ensures ∙ ap (done_with c.in-Ok.size) left, c.write-writing.ensures.bytes))

@@ -20,17 +20,17 @@ returns-in_default c = named (let a = c.args in
 
 pub returns-in_default-sort : goal.returns-in_default-sort
 unfolding alert_sent alert_output
-returns-in_default-sort c = named (rw (sym c.grade.ensures, c.in-Is.is, sym c.sort.ensures, c.in_default-sort.is) (c.refused-in_default-sort.ensures, refl))
+returns-in_default-sort c = named (rw (sym c.grade.ensures, c.in-Some.is, sym c.sort.ensures, c.in_default-sort.is) (c.refused-in_default-sort.ensures, refl))
 
 pub returns-then-answered-gt1400 : goal.returns-then-answered-gt1400
 unfolding alert_sent alert_output
-returns-then-answered-gt1400 c = named (rw (sym c.grade.ensures, c.in-Is.is, sym c.sort.ensures, c.in-Assigned.is) (if_lt _ 1400 (length c.args.answered.now) (omega arith) c.refused-then-answered-gt1400.ensures, if_lt _ 1400 (length c.args.answered.now) (omega arith) refl))
+returns-then-answered-gt1400 c = named (rw (sym c.grade.ensures, c.in-Some.is, sym c.sort.ensures, c.in-Some-sort.is) (if_lt _ 1400 (length c.args.answered.now) (omega arith) c.refused-then-answered-gt1400.ensures, if_lt _ 1400 (length c.args.answered.now) (omega arith) refl))
 
 pub returns : goal.returns
 unfolding alert_sent alert_output
 returns c = named (let a = c.args in
-    let bytes = c.write-bytes.ensures ∙ ap (alert_bytes c.in-Is.graded c.in-Assigned.sorted) c.checksum.ensures in
-    rw (sym c.grade.ensures, c.in-Is.is, sym c.sort.ensures, c.in-Assigned.is) (
+    let bytes = c.write-bytes.ensures ∙ ap (alert_bytes c.in-Some.graded c.in-Some-sort.sorted) c.checksum.ensures in
+    rw (sym c.grade.ensures, c.in-Some.is, sym c.sort.ensures, c.in-Some-sort.is) (
       if_ge _ 1400 (length c.args.answered.now) (omega arith) (c.send_body.ensures.exact ∙ ap (λ x. alert_sent_by a.u a.protected x (length a.out.now)) bytes),
       if_ge _ 1400 (length c.args.answered.now) (omega arith) (c.send_body.ensures.bytes ∙ ap (λ x. alert_output_by a.u a.protected x a.out.now) bytes),
     ))

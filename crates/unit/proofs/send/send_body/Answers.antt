@@ -7,18 +7,18 @@ use Rattle.unit.proofs.send.send_body.Goals as goal
 named : {A B : Type 0} → A × B → record { exact : A; bytes : B }
 named x = record { exact = x.0; bytes = x.1 }
 
-pub returns-in-Refused : goal.returns-in-Refused
+pub returns-in-Err : goal.returns-in-Err
 unfolding alert_sent_by alert_output_by
-returns-in-Refused c = named (rw (c.if-shut.true, sym c.may_protect.ensures, c.in-Refused.is) (c.refused.ensures, refl))
+returns-in-Err c = named (rw (c.if-shut.true, sym c.may_protect.ensures, c.in-Err.is) (c.refused.ensures, refl))
 
-pub returns-in-Done : goal.returns-in-Done
+pub returns-in-Ok : goal.returns-in-Ok
 unfolding alert_sent_by alert_output_by
-returns-in-Done c = named (rw (c.if-shut.true, sym c.may_protect.ensures, c.in-Done.is) (c.protected.ensures.value, c.protected.ensures.out_after))
+returns-in-Ok c = named (rw (c.if-shut.true, sym c.may_protect.ensures, c.in-Ok.is) (c.protected.ensures.value, c.protected.ensures.out_after))
 
-pub returns-in-Refused-may_clear : goal.returns-in-Refused-may_clear
+pub returns-in-Err-may_clear : goal.returns-in-Err-may_clear
 unfolding alert_sent_by alert_output_by
-returns-in-Refused-may_clear c = named (rw (c.if-shut.false, sym c.may_clear.ensures, c.in-Refused-may_clear.is) (c.refused-in-Refused-may_clear.ensures, refl))
+returns-in-Err-may_clear c = named (rw (c.if-shut.false, sym c.may_clear.ensures, c.in-Err-may_clear.is) (c.refused-in-Err-may_clear.ensures, refl))
 
-pub returns-in-Done-may_clear : goal.returns-in-Done-may_clear
+pub returns-in-Ok-may_clear : goal.returns-in-Ok-may_clear
 unfolding alert_sent_by alert_output_by
-returns-in-Done-may_clear c = named (rw (c.if-shut.false, sym c.may_clear.ensures, c.in-Done-may_clear.is) (c.clear.ensures.value, c.clear.ensures.out_after))
+returns-in-Ok-may_clear c = named (rw (c.if-shut.false, sym c.may_clear.ensures, c.in-Ok-may_clear.is) (c.clear.ensures.value, c.clear.ensures.out_after))

@@ -18,10 +18,10 @@ pub returns-then-data-gt1300 : goal.returns-then-data-gt1300
 unfolding data_sent data_output
 returns-then-data-gt1300 c = record { exact = if_ne _ (length c.args.«data».now) 0 (λ z. omega arith) (if_lt _ 1300 (length c.args.«data».now) (omega arith) c.refused-then-data-gt1300.ensures); bytes = if_ne _ (length c.args.«data».now) 0 (λ z. omega arith) (if_lt _ 1300 (length c.args.«data».now) (omega arith) refl) }
 
-pub returns-in-Refused : goal.returns-in-Refused
+pub returns-in-Err : goal.returns-in-Err
 unfolding data_sent data_output
-returns-in-Refused c = named (rw (sym c.may_protect.ensures, c.in-Refused.is) (if_ne _ (length c.args.«data».now) 0 (λ z. omega arith) (if_ge _ 1300 (length c.args.«data».now) (omega arith) c.refused-in-Refused.ensures), if_ne _ (length c.args.«data».now) 0 (λ z. omega arith) (if_ge _ 1300 (length c.args.«data».now) (omega arith) refl)))
+returns-in-Err c = named (rw (sym c.may_protect.ensures, c.in-Err.is) (if_ne _ (length c.args.«data».now) 0 (λ z. omega arith) (if_ge _ 1300 (length c.args.«data».now) (omega arith) c.refused-in-Err.ensures), if_ne _ (length c.args.«data».now) 0 (λ z. omega arith) (if_ge _ 1300 (length c.args.«data».now) (omega arith) refl)))
 
-pub returns-in-Done : goal.returns-in-Done
+pub returns-in-Ok : goal.returns-in-Ok
 unfolding data_sent data_output
-returns-in-Done c = named (rw (sym c.may_protect.ensures, c.in-Done.is) (if_ne _ (length c.args.«data».now) 0 (λ z. omega arith) (if_ge _ 1300 (length c.args.«data».now) (omega arith) c.protected.ensures.value), if_ne _ (length c.args.«data».now) 0 (λ z. omega arith) (if_ge _ 1300 (length c.args.«data».now) (omega arith) c.protected.ensures.out_after)))
+returns-in-Ok c = named (rw (sym c.may_protect.ensures, c.in-Ok.is) (if_ne _ (length c.args.«data».now) 0 (λ z. omega arith) (if_ge _ 1300 (length c.args.«data».now) (omega arith) c.protected.ensures.value), if_ne _ (length c.args.«data».now) 0 (λ z. omega arith) (if_ge _ 1300 (length c.args.«data».now) (omega arith) c.protected.ensures.out_after)))

@@ -10,12 +10,12 @@ pub returns-then-m-gt256 : goal.returns-then-m-gt256
 unfolding field_of
 returns-then-m-gt256 c = if_lt _ 256 (length c.args.m.now) (omega arith) refl
 
-pub returns-in-WellFormed : goal.returns-in-WellFormed
+pub returns-in-Ok : goal.returns-in-Ok
 unfolding field_of
-returns-in-WellFormed c = let m = c.args.m.now in
-    if_ge _ 256 (length m) (omega arith) (rw (sym c.read.ensures ∙ c.in-WellFormed.is) refl)
+returns-in-Ok c = let m = c.args.m.now in
+    if_ge _ 256 (length m) (omega arith) (rw (sym c.read.ensures ∙ c.in-Ok.is) refl)
 
-pub returns-in-Malformed : goal.returns-in-Malformed
+pub returns-in-Err : goal.returns-in-Err
 unfolding field_of
-returns-in-Malformed c = let m = c.args.m.now in
-    if_ge _ 256 (length m) (omega arith) (rw (sym c.read.ensures ∙ c.in-Malformed.is) refl)
+returns-in-Err c = let m = c.args.m.now in
+    if_ge _ 256 (length m) (omega arith) (rw (sym c.read.ensures ∙ c.in-Err.is) refl)

@@ -2,8 +2,8 @@
 use mathlib.Core.Path.{refl}
 use Rattle.why.proofs.hello.place_in.Goals as goal
 
-pub returns-in-WellFormed : goal.returns-in-WellFormed
-returns-in-WellFormed c = rw c.in-WellFormed.is c.field_for.ensures
+pub returns-in-Ok : goal.returns-in-Ok
+returns-in-Ok c = rw c.in-Ok.is c.field_for.ensures
 
-pub returns-in-Malformed : goal.returns-in-Malformed
-returns-in-Malformed c = rw c.in-Malformed.is refl
+pub returns-in-Err : goal.returns-in-Err
+returns-in-Err c = rw c.in-Err.is refl
