@@ -1,18 +1,18 @@
 -- Bytes laid one behind the other from the front of a buffer are those bytes in a row.
 use mathlib.Core.Path.{◌≡◌, refl, sym, ap, ap₂, ◌∙◌}
 use mathlib.Core.Bool.{Bool, true, false}
-use mathlib.Core.List.{List, ◌∷◌, ◌++◌, append_assoc}
-use Prim.Native.Nat.{ℕ, ◌+◌, ◌/◌, ◌%◌, ◌≤◌, ◌<◌}
+use mathlib.Core.List.{List, ◌++◌, append_assoc}
+use Prim.Native.Nat.{ℕ, ◌+◌, ◌≤◌, ◌<◌}
 use native.Mathlib.Omega.{arith}
-use lib.ListN.{length, drop, set, length-append}
+use lib.ListN.{length, drop, length-append}
 use lib.Seq.{sets, sets-eq, take-append_seam, drop-append-add, drop-drop}
 use lib.Dec.{leb, lit≤}
 use borrow.Author.Tests.{le-leb, lt-leb}
-use Rattle.digest.specs.Bytes.{laid_over, bytes2}
+use Rattle.digest.specs.Bytes.{laid_over}
 use Rattle.record.specs.Written.{header_of, header_size, record_of, written_of, size_within, count_of}
 use Rattle.record.specs.declared.header.Content.{Content}
 use Rattle.digest.specs.Pick.{pick}
-use Rattle.std.specs.Prelude.{None, Option, Some, unwrap_or}
+use Rattle.std.specs.Prelude.{None, Some, unwrap_or}
 
 -- b behind a
 pub laid_next : (d a b : List ℕ) → laid_over (laid_over d 0 a) (length a) b ≡ laid_over d 0 (a ++ b)

@@ -2,8 +2,7 @@
 use mathlib.Core.Path.{◌≡◌, refl, sym, ap, ap₂, ◌∙◌}
 use mathlib.Core.List.{List, [], ◌∷◌, ◌++◌, append-nil}
 use Prim.Native.Nat.{ℕ, zero, suc, ◌+◌, ◌*◌, ◌/◌, ◌%◌, ◌≤◌, ◌<◌}
-use native.Mathlib.Nat.{zero-add, div-add-mod', mod-lt, mod-eq-sub-mod, add-mod_right}
-use native.Mathlib.Numerals.{add-one}
+use native.Mathlib.Nat.{zero-add, div-add-mod', mod-lt, mod-eq-sub-mod}
 use native.Mathlib.Omega.{arith}
 use lib.Bits.{bit_xor, xor_self, xor_zero_r}
 use lib.Dec.{lit<}

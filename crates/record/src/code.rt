@@ -11,7 +11,6 @@ use digest::{Key, Mac};
 
 // The whole code of a content: over the number, the type byte as on the wire, the content's length
 // and the content.
-#[tactic(auto, unfolding(crate::specs::Code::coded_of))]
 pub fn code(key: Key, number: u16, byte: u8, content: &[u8]) -> [u8; 20]
     ensures exact { result ≡ code_under key (coded_of number byte content.now) }
     ensures meaning { (k : List ℕ) → key ≡ key_of k → result ≡ hmac k (coded_of number byte content.now) }

@@ -6,6 +6,9 @@ ghost use Rattle.record.specs.Datagram.{walk_of};
 
 use crate::reader::{Fault, Record, read};
 
+// How many bytes a datagram may have.
+const LONGEST: usize = 1400;
+
 // Why a datagram is refused as a whole: the fault, and the offset of the record at fault.
 #[derive(Clone, Copy)]
 pub struct Misframed {
@@ -24,7 +27,7 @@ pub struct Walk {
 pub fn walked(d: &[u8]) -> Result<Walk, Misframed>
     ensures { result ≡ walk_of d.now }
 {
-    if d.is_empty() || 1400 < d.len() {
+    if d.is_empty() || LONGEST < d.len() {
         return Err(Misframed {
             fault: Fault::Size,
             at: 0,

@@ -10,6 +10,9 @@ use crate::keys::{Keys, Sense};
 use crate::window::{NotNew, Window};
 use crate::written::Head;
 
+// The last number that a record may have.
+const LAST: u32 = 65535;
+
 // The next protected and clear numbers are 65,536 once spent.
 #[derive(Clone, Copy)]
 pub struct Protection {
@@ -103,8 +106,9 @@ impl Protection {
         if !genuine(key, mac, number, byte, fragment) {
             return Err(Unopened::Forged);
         }
+        let size = fragment.len() - mac.size();
         let (marked, _) = self.window.accept(number)?;
-        Ok((fragment.len() - mac.size(), marked))
+        Ok((size, marked))
     }
 
     // Writes the next record, without a length. Where it is not written, no byte of the output is touched.
@@ -112,7 +116,7 @@ impl Protection {
         ensures exact { result ≡ wrote_by self sense content body.now (length out.old) }
         ensures bytes { out.new ≡ output_by self sense content body.now out.old }
     {
-        if 65535 < self.protected {
+        if LAST < self.protected {
             return Writing {
                 wrote: Err(Unwritten::Spent),
                 protection: self,

@@ -67,7 +67,7 @@ pub fn read(part: &[u8]) -> Result<Record, Fault>
 }
 
 // The record whose type byte says `kind`.
-#[tactic(auto, unfolding(crate::specs::Reader::read_as, crate::specs::Reader::framed_of))]
+#[tactic(auto, unfolding(crate::specs::Reader::read_as))]
 fn read_as(part: &[u8], byte: u8, kind: Kind) -> Result<Record, Fault>
     ensures { result ≡ read_as part.now byte kind }
 {

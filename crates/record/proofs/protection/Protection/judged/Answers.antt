@@ -20,8 +20,8 @@ returns-in_err-marked c = let a = c.args in
     ap (opening_by a.self) p.1
     ∙ not_new_as a.self a.sense a.number a.byte a.fragment.now _ right (search (picks, not-false)) _ _ p.2 (sym c.in_err-marked.was ∙ c.accept.ensures.exact)
 
-pub overflow_sub-result : goal.overflow_sub-result
-overflow_sub-result c = let a = c.args in
+pub overflow_sub-size : goal.overflow_sub-size
+overflow_sub-size c = let a = c.args in
     let right = c.genuine.ensures.meaning _ c.key-key.ensures in
     omega (arith, c.size.ensures.exact, code_fits a.self a.sense a.number a.byte a.fragment.now _ right (search (picks, not-false)))
 

@@ -6,8 +6,8 @@ use Rattle.record.proofs.Protecting.{spent_as, no_room_as, wrote_as, written_as}
 use Rattle.record.proofs.protection.Protection.write.Goals as goal
 use Rattle.std.specs.Prelude.{Ok}
 
-pub returns-then-self-gt65535 : goal.returns-then-self-gt65535
-returns-then-self-gt65535 c = let a = c.args in
+pub returns-then-self-gt-LAST : goal.returns-then-self-gt-LAST
+returns-then-self-gt-LAST c = let a = c.args in
     let both = spent_as a.self a.sense a.content a.body.now a.out.now (omega arith) in
     record { exact = both.0; bytes = both.1 }
 
