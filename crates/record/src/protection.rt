@@ -84,9 +84,9 @@ impl Protection {
                 opened: Err(why),
                 protection: self,
             },
-            Ok((size, marked)) => Opening {
+            Ok((size, window)) => Opening {
                 opened: Ok(size),
-                protection: self.with_window(marked),
+                protection: self.with_window(window),
             },
         }
     }
