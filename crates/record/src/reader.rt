@@ -3,7 +3,7 @@
 ghost use Rattle.std.specs.Prelude.{◌≡◌, ◌+◌, ◌*◌, ◌^◌, ◌≤◌, ◌<◌, length};
 ghost use Rattle.record.specs.Reader.{fault_number, read_of, read_as, head_of, size_of, framed_of};
 
-use crate::header::{Content, Kind, content_of, sound, split};
+use crate::header::{Content, Kind, sound};
 
 // What is wrong with the framing of a datagram. `fault_number` gives the number of each.
 #[derive(Clone, Copy, PartialEq, Eq, Debug)]
@@ -16,10 +16,19 @@ pub enum Fault {
 }
 
 // The refusal number of a fault.
+impl From<Fault> for u8 {
+    ghost from_gives = { λ fault number. number ≡ fault_number fault };
+
+    fn from(fault: Fault) -> u8 {
+        fault as u8
+    }
+}
+
+// The refusal number of a fault, as `u8::from` gives it.
 pub fn fault_number(fault: Fault) -> u8
     ensures { result ≡ fault_number fault }
 {
-    fault as u8
+    u8::from(fault)
 }
 
 // A record, its places counted from its type byte.
@@ -62,7 +71,7 @@ pub fn read(part: &[u8]) -> Result<Record, Fault>
 {
     match part.first() {
         None => Err(Fault::Header),
-        Some(&byte) => read_as(part, byte, split(byte)),
+        Some(&byte) => read_as(part, byte, Kind::from(byte)),
     }
 }
 
@@ -84,7 +93,7 @@ fn read_as(part: &[u8], byte: u8, kind: Kind) -> Result<Record, Fault>
     }
     Ok(Record {
         byte,
-        content: content_of(kind.content),
+        content: Content::from(kind.content),
         protected: kind.protected,
         number: u16::from_be_bytes([part[1], part[2]]),
         start: 0,

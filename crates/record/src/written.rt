@@ -4,7 +4,7 @@ ghost use Rattle.std.specs.Prelude.{false, ◌++◌, ◌≡◌, ◌+◌, ◌≤�
 ghost use Rattle.digest.specs.Bytes.{laid_over};
 ghost use Rattle.record.specs.Written.{header_of, header_size, record_of, written_of, size_within, count_of, byte_for};
 
-use crate::header::{Content, Kind, built, number_of};
+use crate::header::{Content, Kind};
 
 // What stands in a header of ours but for the fragment's length: a sequence number always does.
 #[derive(Clone, Copy)]
@@ -81,12 +81,12 @@ impl Head {
 pub fn type_byte(long: bool, protected: bool, content: Content) -> u8
     ensures { result ≡ byte_for long protected content }
 {
-    built(Kind {
+    u8::from(Kind {
         long,
         numbered: true,
         protected,
         reserved: false,
-        content: number_of(content),
+        content: u8::from(content),
     })
 }
 

@@ -14,4 +14,4 @@ returns-then-size-eq0 c = let a = c.args in
 pub returns : goal.returns
 returns c = let a = c.args in
     whole a.part.now a.byte a.kind _ _ c.if-not-sound.ensures c.head_of-head.ensures.value c.size_of-size.ensures c.if-part-head.false
-    _ _ (λ z. omega arith) (omega arith) c.content_of.ensures c.from_be_bytes.ensures
+    _ _ (λ z. omega arith) (omega arith) c.from.ensures c.from_be_bytes.ensures

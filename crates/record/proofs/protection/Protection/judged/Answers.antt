@@ -1,9 +1,12 @@
 -- `judged`: the code under the key of the record's own number, then the window.
 use mathlib.Core.Path.{sym, ap, ◌∙◌}
+use Prim.Native.Nat.{◌-◌}
 use native.Mathlib.Omega.{arith}
+use lib.ListN.{length}
 use borrow.Author.Tests.{not-true, not-false}
 use Rattle.digest.proofs.Picks.{picks}
 use Rattle.std.proofs.lemmas.Result.{err_from_is_err_and}
+use Rattle.std.specs.Prelude.{Ok}
 use Rattle.record.specs.Protection.{opening_by}
 use Rattle.record.proofs.Protecting.{forged_as, opened_as_lem, not_new_as, code_fits}
 use Rattle.record.proofs.protection.Protection.judged.Goals as goal
@@ -28,5 +31,5 @@ overflow_sub-size c = let a = c.args in
 pub returns : goal.returns
 returns c = let a = c.args in
     let right = c.genuine.ensures.meaning _ c.key-key.ensures in
-    rw c.size.ensures.exact
-    (opened_as_lem a.self a.sense a.number a.byte a.fragment.now _ right (search (picks, not-false)) _ (sym c.in_ok-marked.was ∙ c.accept.ensures.exact))
+    ap (λ n. opening_by a.self (Ok (length a.fragment.now - n, c.in_ok-marked.marked))) c.size.ensures.exact
+    ∙ opened_as_lem a.self a.sense a.number a.byte a.fragment.now _ right (search (picks, not-false)) _ (sym c.in_ok-marked.was ∙ c.accept.ensures.exact)

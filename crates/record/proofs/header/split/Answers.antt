@@ -1,6 +1,0 @@
--- `split`: a shift and a mask take each part off.
-use Rattle.record.proofs.TypeByte.{parted}
-use Rattle.record.proofs.header.split.Goals as goal
-
-pub returns : goal.returns
-returns c = parted c.args.byte
