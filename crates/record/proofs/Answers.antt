@@ -3,6 +3,7 @@ use mathlib.Core.Path.{◌≡◌}
 use mathlib.Core.Bool.{true, false}
 use Prim.Native.Nat.{ℕ, ◌+◌, ◌-◌, ◌*◌, ◌/◌, ◌%◌, ◌^◌, ◌≤◌, ◌<◌}
 use lib.Dec.{eqb, leb}
+use lib.Bits.{bit_and, and_mask}
 use borrow.Author.Tests.{eq-eqb, ne_eqb, lt-ltb, le-ltb}
 use Rattle.record.specs.Window.{accept_by, arrived_at}
 use Rattle.record.specs.declared.window.NotNew.TheVariants.{TooOld, Repeated}
@@ -28,3 +29,7 @@ module _ (w n m s : ℕ) where
   pub older_when : (m ≡ 0 → ⊥) → s ≤ n → leb (s + w) n ≡ false → eqb (m / 2 ^ (n - s) % 2) 1 ≡ false → accept_by w n m s ≡ arrived_at w n (m + 2 ^ (n - s))
   unfolding accept_by
   older_when z l e f = rw (ne_eqb m 0 z, le-ltb n s l, e, f)
+
+-- the lowest bit
+pub masked_bit : (x : ℕ) → bit_and x 1 ≡ x % 2
+masked_bit x = and_mask x 1

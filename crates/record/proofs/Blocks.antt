@@ -2,13 +2,16 @@
 -- bytes; so the sum so far is a block onto which the blocks that are left are XORed, and each turn takes one of them.
 use mathlib.Core.Path.{◌≡◌, refl, sym, ap, ◌∙◌}
 use mathlib.Core.List.{List, [], ◌∷◌, ◌++◌}
-use Prim.Native.Nat.{ℕ, suc, ◌+◌, ◌-◌, ◌*◌, ◌%◌, ◌≤◌, ◌<◌}
+use Prim.Native.Nat.{ℕ, zero, suc, ◌/◌, ◌+◌, ◌-◌, ◌*◌, ◌%◌, ◌≤◌, ◌<◌}
 use native.Mathlib.Nat.{mod-eq-sub-mod}
 use native.Mathlib.Numerals.{add-one}
 use native.Mathlib.Omega.{arith}
 use lib.Bits.{bit_xor, xor_block, xor_lt, xor_zero_r}
 use lib.ListN.{length, get_or, drop, replicate}
-use lib.Seq.{drop-cons, get_or-drop}
+use lib.Seq.{drop-cons, get_or-drop, get_or-take}
+use borrow.Rule.Slice.PartMut.{put_mid}
+use Rattle.std.specs.Simd.{first_chunks}
+use Rattle.std.specs.Int.{from_be_bytes, w32}
 use Rattle.digest.specs.Bytes.{word_at}
 use Rattle.record.specs.Checksum.{checksum_of, padded, xor_with, xor_with_blocks}
 
@@ -91,6 +94,25 @@ go_on s sum i w h small =
           (ap padded (drop_four s i (omega (arith, w.inside))) ∙ padded_four p q r t (drop (i + 4) s));
     }
 
+-- the bytes of the block k
+block_at : (n k : ℕ) (s : List ℕ) (j : ℕ) → k < n → j < 4 → get_or (get_or (first_chunks 4 n s) k []) j 0 ≡ get_or s (k * 4 + j) 0
+block_at zero k s j h l = absurd (omega arith)
+block_at (suc n) zero s j h l = get_or-take 4 s j 0 l ∙ ap (λ (i : ℕ). get_or s i 0) (omega arith)
+block_at (suc n) (suc k) s j h l =
+    block_at n k (drop 4 s) j (omega arith) l ∙ get_or-drop 4 s (k * 4 + j) 0 ∙ ap (λ (i : ℕ). get_or s i 0) (omega arith)
+
+-- a turn of the loop
+pub block_on : (s : List ℕ) (blocks : List (List ℕ)) (sum k w : ℕ) → blocks ≡ first_chunks 4 (length s / 4) s → k < length s / 4 → w ≡ from_be_bytes w32 (get_or blocks k []) → ((j : ℕ) → get_or s j 0 < 256) → Summed s sum (k * 4) → Summed s (bit_xor sum w) ((k + 1) * 4)
+block_on s blocks sum k w e h f small n =
+    let i : ℕ = k * 4 in
+    let at : (j : ℕ) → j < 4 → get_or (get_or blocks k []) j 0 ≡ get_or s (i + j) 0 =
+    λ j l. ap (λ (x : List (List ℕ)). get_or (get_or x k []) j 0) e ∙ block_at (length s / 4) k s j h l in
+    let p : get_or (get_or blocks k []) 0 0 ≡ get_or s i 0 = at 0 (omega arith) ∙ ap (λ (x : ℕ). get_or s x 0) (omega arith) in
+    let is : w ≡ spelled (get_or s i 0) (get_or s (i + 1) 0) (get_or s (i + 2) 0) (get_or s (i + 3) 0) =
+    omega (arith, f, p, at 1 (omega arith), at 2 (omega arith), at 3 (omega arith)) in
+    let next : i + 4 ≡ (k + 1) * 4 = omega arith in
+    rw (is, sym next) (go_on s sum i n (omega arith) small)
+
 -- what is left is less than a block: padded it is none or one
 one_block : (a b c d : ℕ) → a < 256 → b < 256 → c < 256 → d < 256 → (t : List ℕ) → length t < 4 → ((k : ℕ) → get_or t k 0 < 256) → word_at (xor_with_blocks (block a b c d) (padded t)) 0 ≡ bit_xor (spelled a b c d) (word_at (padded t) 0)
 unfolding word_at xor_with_blocks xor_with padded
@@ -110,28 +132,10 @@ done s sum i w h small =
     ∙ ap (λ (x : List ℕ). word_at x 0) (sym w.so_far)
 
 -- the last block, by how many bytes it has
-pub none_left : (s : List ℕ) → length s ≡ 0 → 0 ≡ word_at (padded s) 0
+pub last_block : (s t b : List ℕ) → length s < 4 → t ≡ s → b ≡ put_mid 0 (length s) (0 ∷ 0 ∷ 0 ∷ 0 ∷ []) t → from_be_bytes w32 b ≡ word_at (padded s) 0
 unfolding word_at padded
-none_left [] e = refl
-none_left (p ∷ s) e = absurd (omega arith)
-
-pub one_left : (s : List ℕ) → length s ≡ 1 → spelled (get_or s 0 0) 0 0 0 ≡ word_at (padded s) 0
-unfolding word_at padded
-one_left [] e = absurd (omega arith)
-one_left (p ∷ []) e = refl
-one_left (p ∷ q ∷ s) e = absurd (omega arith)
-
-pub two_left : (s : List ℕ) → length s ≡ 2 → spelled (get_or s 0 0) (get_or s 1 0) 0 0 ≡ word_at (padded s) 0
-unfolding word_at padded
-two_left [] e = absurd (omega arith)
-two_left (p ∷ []) e = absurd (omega arith)
-two_left (p ∷ q ∷ []) e = refl
-two_left (p ∷ q ∷ r ∷ s) e = absurd (omega arith)
-
-pub three_left : (s : List ℕ) → length s ≡ 3 → spelled (get_or s 0 0) (get_or s 1 0) (get_or s 2 0) 0 ≡ word_at (padded s) 0
-unfolding word_at padded
-three_left [] e = absurd (omega arith)
-three_left (p ∷ []) e = absurd (omega arith)
-three_left (p ∷ q ∷ []) e = absurd (omega arith)
-three_left (p ∷ q ∷ r ∷ []) e = refl
-three_left (p ∷ q ∷ r ∷ t ∷ s) e = absurd (omega arith)
+last_block [] t b h e f = rw (f, e) (omega arith)
+last_block (p ∷ []) t b h e f = rw (f, e) (omega arith)
+last_block (p ∷ q ∷ []) t b h e f = rw (f, e) (omega arith)
+last_block (p ∷ q ∷ r ∷ []) t b h e f = rw (f, e) (omega arith)
+last_block (p ∷ q ∷ r ∷ t ∷ s) u b h e f = absurd (omega arith)

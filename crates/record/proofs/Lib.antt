@@ -1,5 +1,6 @@
 -- Laws that belong to no one function, and theorems about the definitions.
 pub mod TypeByte
+pub mod Reading
 pub mod Standing
 pub mod Walking
 pub mod Marks

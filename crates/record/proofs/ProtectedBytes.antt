@@ -5,11 +5,12 @@ use mathlib.Core.Bool.{Bool, true, false}
 use mathlib.Core.List.{List, [], ◌∷◌, ◌++◌}
 use Prim.Native.Nat.{ℕ, ◌+◌, ◌-◌, ◌/◌, ◌%◌, ◌≤◌, ◌<◌}
 use native.Mathlib.Omega.{arith}
-use lib.ListN.{length, take, drop, length-append, take-append-drop}
+use lib.ListN.{length, take, drop, get_or, length-append, take-append-drop}
 use lib.Seq.{length-take-le, take_at, drop_at}
 use lib.Dec.{lit<, lit≤, ltb}
 use borrow.Author.Tests.{lt-ltb, le-ltb, ltb-true, ltb-false}
 use Rattle.digest.specs.Pick.{pick}
+use Rattle.std.specs.Int.{to_be_bytes, w16}
 use Rattle.digest.specs.Hmac.{code_under, hmac, key_of}
 use Rattle.digest.specs.Mac.{same_bytes, size_of}
 use Rattle.digest.proofs.Codes.{code_is, length_hmac}
@@ -94,9 +95,12 @@ protected_key key k e size long content number body =
 
 -- ---- as the code makes them
 
-pub coded_head : (number byte : ℕ) (content : List ℕ) → (number / 256 % 256 ∷ number % 256 ∷ byte ∷ length content / 256 % 256 ∷ length content % 256 ∷ []) ++ content ≡ coded_of number byte content
+pub coded_head : (number byte : ℕ) (content n size : List ℕ) → n ≡ to_be_bytes w16 number → size ≡ to_be_bytes w16 (length content % 65536) → (get_or n 0 0 ∷ get_or n 1 0 ∷ byte ∷ get_or size 0 0 ∷ get_or size 1 0 ∷ []) ++ content ≡ coded_of number byte content
 unfolding coded_of
-coded_head number byte content = refl
+coded_head number byte content n size e f =
+    let high : length content % 65536 / 256 % 256 ≡ length content / 256 % 256 = omega arith in
+    let low : length content % 65536 % 256 ≡ length content % 256 = omega arith in
+    rw (e, f, high, low)
 
 pub judged : (hash : List ℕ → List ℕ) (size number byte : ℕ) (f w : List ℕ) (r : Bool) → size ≤ length f → w ≡ hash (coded_of number byte (take (length f - size) f)) → r ≡ same_bytes (drop (length f - size) f) (take size w) → r ≡ genuine_by hash size number byte f
 unfolding code_by

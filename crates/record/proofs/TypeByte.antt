@@ -1,12 +1,12 @@
 -- The type byte's bits stand apart: joined by `|` they add up.
 use mathlib.Core.Path.{◌≡◌}
 use mathlib.Core.Bool.{Bool, true, false}
-use Prim.Native.Nat.{ℕ, ◌+◌, ◌*◌, ◌%◌, ◌^◌}
+use Prim.Native.Nat.{ℕ, ◌+◌, ◌*◌, ◌/◌, ◌%◌, ◌^◌}
 use native.Mathlib.Nat.{mod-lt}
 use lib.Bits.{bit_and, bit_or, and_mask, or_shifted}
-use lib.Dec.{lit<}
+use lib.Dec.{eqb, lit<}
 use mir.Val.{bool_byte}
-use Rattle.record.specs.Header.{weight}
+use Rattle.record.specs.Header.{kind_of, weight}
 
 -- four bits above and four below
 low : (k n : ℕ) → bit_or (k * 16) (bit_and n 15) ≡ k * 16 + n % 16
@@ -29,3 +29,8 @@ joined true true false false n = low 12 n
 joined true true false true n = low 13 n
 joined true true true false n = low 14 n
 joined true true true true n = low 15 n
+
+-- and each is taken off by a shift and a mask
+pub parted : (b : ℕ) → record { long = eqb (bit_and (b / 128) 1) 1; numbered = eqb (bit_and (b / 64) 1) 1; protected = eqb (bit_and (b / 32) 1) 1; reserved = eqb (bit_and (b / 16) 1) 1; content = bit_and b 15 } ≡ kind_of b
+unfolding kind_of
+parted b = simp (and_mask (b / 128) 1, and_mask (b / 64) 1, and_mask (b / 32) 1, and_mask (b / 16) 1, and_mask b 4)

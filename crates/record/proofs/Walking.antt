@@ -111,6 +111,10 @@ module _ (d : List ℕ) (rs : List Record) (n at : ℕ) (w : Walked d rs n at) w
 pub part_on : (d : List ℕ) (at : ℕ) → take (length d - at) (drop at d) ≡ drop at d
 part_on d at = take_all (length d - at) (drop at d) (le_of_eq (length-drop at d))
 
+-- what is read of the part is read of what is left
+pub read_here : (d : List ℕ) (at : ℕ) (r x : Result Record Fault) → r ≡ read_of (take (length d - at) (drop at d)) → r ≡ x → read_of (drop at d) ≡ x
+read_here d at r x e f = ap read_of (sym (part_on d at)) ∙ sym e ∙ f
+
 pub no_bytes : (d : List ℕ) → length d ≡ 0 → framing_of d ≡ faulty F.Size 0
 unfolding framing_of
 no_bytes d h = rw (eq-eqb (length d) 0 h)

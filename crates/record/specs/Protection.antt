@@ -44,6 +44,16 @@ content_under k fragment = take (content_size k fragment) fragment
 abbrev pub opening : Result ℕ Unopened → Protection → Opening
 opening opened p = record { opened = opened; protection = p }
 
+-- a size of content with the window to keep, or why there is none
+abbrev pub opening_by : Protection → Result (ℕ × Window) Unopened → Opening
+opening_by p (Err why) = opening (Err why) p
+opening_by p (Ok (size, window)) = opening (Ok size) (with_window p window)
+
+-- a number that is not new is told as it is
+abbrev pub unopened_of : NotNew → Unopened
+unopened_of A.TooOld = O.TooOld
+unopened_of A.Repeated = O.Repeated
+
 -- "A genuine new record marks its number even if its content is then refused."
 abbrev pub opened_to : Protection → ℕ → Result (Window × ℕ) NotNew → Opening
 opened_to p size (Err A.TooOld) = opening (Err O.TooOld) p

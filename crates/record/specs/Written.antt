@@ -1,5 +1,5 @@
 -- Records written (002 9.2.1; 01, "The record on the wire"), and what a lent buffer holds afterwards.
-use Rattle.std.specs.Prelude.{Bool, true, false, List, [], ◌∷◌, ◌++◌, ℕ, length, leb}
+use Rattle.std.specs.Prelude.{Bool, true, false, List, [], ◌∷◌, ◌++◌, ℕ, length, leb, None, Option, Some}
 use Rattle.digest.specs.Pick.{pick}
 use Rattle.digest.specs.Bytes.{bytes2, laid_over}
 use Rattle.record.specs.Header.{byte_of, number_of}
@@ -26,6 +26,10 @@ record_of long protected content number fragment =
 -- "the counted bytes at the front and no others"; where they do not fit, none
 unfoldable pub written_of : List ℕ → List ℕ → List ℕ
 written_of out bytes = pick (leb (length bytes) (length out)) (laid_over out 0 bytes) out
+
+-- the size of the bytes where they fit
+unfoldable pub size_within : List ℕ → List ℕ → Option ℕ
+size_within out bytes = pick (leb (length bytes) (length out)) (Some (length bytes)) None
 
 unfoldable pub count_of : List ℕ → List ℕ → ℕ
 count_of out bytes = pick (leb (length bytes) (length out)) (length bytes) 0

@@ -3,10 +3,10 @@ ghost use Rattle.std.specs.Prelude.{true, List, ◌++◌, ◌≡◌, ℕ};
 ghost use Rattle.digest.specs.Hmac.{code_under, hmac, key_of};
 ghost use Rattle.digest.specs.Mac.{size_of};
 ghost use Rattle.record.specs.Code.{coded_of, genuine_by, protected_by};
-ghost use Rattle.record.specs.Written.{count_of, written_of};
+ghost use Rattle.record.specs.Written.{count_of, size_within, written_of};
 
 use crate::header::Content;
-use crate::written::{type_byte, write};
+use crate::written::{Head, type_byte};
 use digest::{Key, Mac};
 
 // The whole code of a content: over the number, the type byte as on the wire, the content's length
@@ -15,15 +15,9 @@ pub fn code(key: Key, number: u16, byte: u8, content: &[u8]) -> [u8; 20]
     ensures exact { result ≡ code_under key (coded_of number byte content.now) }
     ensures meaning { (k : List ℕ) → key ≡ key_of k → result ≡ hmac k (coded_of number byte content.now) }
 {
-    let size = content.len();
-    let head = [
-        (number / 256 % 256) as u8,
-        (number % 256) as u8,
-        byte,
-        (size / 256 % 256) as u8,
-        (size % 256) as u8,
-    ];
-    key.code(&head, content)
+    let [high, low] = number.to_be_bytes();
+    let [long, short] = ((content.len() % 65536) as u16).to_be_bytes();
+    key.code(&[high, low, byte, long, short], content)
 }
 
 // Whether a protected fragment is a content with its code. One that is shorter than its code is
@@ -36,9 +30,9 @@ pub fn genuine(key: Key, mac: Mac, number: u16, byte: u8, fragment: &[u8]) -> bo
     if fragment.len() < size {
         return false;
     }
-    let end = fragment.len() - size;
-    let whole = code(key, number, byte, &fragment[..end]);
-    digest::same_code(&fragment[end..], mac.cut(&whole))
+    let (content, sent) = fragment.split_at(fragment.len() - size);
+    let whole = code(key, number, byte, content);
+    digest::same_code(sent, mac.cut(&whole))
 }
 
 // A protected record with this content and its code. Answers how many bytes it wrote: the whole
@@ -55,7 +49,28 @@ pub fn write_protected(
     ensures count { result ≡ count_of out.old (protected_by (code_under key) (size_of mac) long content number body.now) }
     ensures bytes { out.new ≡ written_of out.old (protected_by (code_under key) (size_of mac) long content number body.now) }
 {
-    let byte = type_byte(long, true, content);
-    let whole = code(key, number, byte, body);
-    write(long, true, content, number, body, mac.cut(&whole), out)
+    let head = Head {
+        long,
+        protected: true,
+        content,
+        number,
+    };
+    write_coded(key, mac, head, body, out).unwrap_or(0)
+}
+
+// The record of a content with its code behind it: its size, where it fits.
+pub(crate) fn write_coded(
+    key: Key,
+    mac: Mac,
+    head: Head,
+    body: &[u8],
+    out: &mut [u8],
+) -> Option<usize>
+    requires { head.protected ≡ true }
+    ensures size { result ≡ size_within out.old (protected_by (code_under key) (size_of mac) head.long head.content head.number body.now) }
+    ensures bytes { out.new ≡ written_of out.old (protected_by (code_under key) (size_of mac) head.long head.content head.number body.now) }
+{
+    let byte = type_byte(head.long, true, head.content);
+    let whole = code(key, head.number, byte, body);
+    head.write(body, mac.cut(&whole), out)
 }

@@ -18,80 +18,100 @@ pub struct Kind {
     pub content: u8,
 }
 
-// The four kinds of content, 1 to 4 on the wire.
-#[derive(Clone, Copy)]
+// The four kinds of content, with their numbers on the wire.
+#[derive(Clone, Copy, PartialEq, Eq, Debug)]
 pub enum Content {
-    ChangeCipherSpec,
-    Alert,
-    Handshake,
-    Data,
+    ChangeCipherSpec = 1,
+    Alert = 2,
+    Handshake = 3,
+    Data = 4,
 }
 
 // The parts of a type byte.
-pub fn split(byte: u8) -> Kind
-    ensures { result ≡ kind_of byte }
-{
-    Kind {
-        long: (byte >> 7) & 1 == 1,
-        numbered: (byte >> 6) & 1 == 1,
-        protected: (byte >> 5) & 1 == 1,
-        reserved: (byte >> 4) & 1 == 1,
-        content: byte & 15,
+impl From<u8> for Kind {
+    ghost from_gives = { λ byte kind. kind ≡ kind_of byte };
+
+    fn from(byte: u8) -> Self {
+        Kind {
+            long: (byte >> 7) & 1 == 1,
+            numbered: (byte >> 6) & 1 == 1,
+            protected: (byte >> 5) & 1 == 1,
+            reserved: (byte >> 4) & 1 == 1,
+            content: byte & 15,
+        }
     }
 }
 
 // The type byte of these parts; of a content above 15 the low four bits count.
+impl From<Kind> for u8 {
+    ghost from_gives = { λ kind byte. byte ≡ byte_of kind };
+
+    fn from(kind: Kind) -> u8 {
+        ((kind.long as u8) << 7)
+            | ((kind.numbered as u8) << 6)
+            | ((kind.protected as u8) << 5)
+            | ((kind.reserved as u8) << 4)
+            | (kind.content & 15)
+    }
+}
+
+// The content of a number; those outside 1 to 4, which no sound record has, count as data.
+impl From<u8> for Content {
+    ghost from_gives = { λ number content. content ≡ content_of number };
+
+    #[tactic(auto, unfolding(crate::specs::Header::content_of))]
+    fn from(number: u8) -> Self {
+        match number {
+            1 => Content::ChangeCipherSpec,
+            2 => Content::Alert,
+            3 => Content::Handshake,
+            _ => Content::Data,
+        }
+    }
+}
+
+// The number of a content on the wire.
+impl From<Content> for u8 {
+    ghost from_gives = { λ content number. number ≡ number_of content };
+
+    fn from(content: Content) -> u8 {
+        content as u8
+    }
+}
+
+// The parts of a type byte, as `Kind::from` gives them.
+pub fn split(byte: u8) -> Kind
+    ensures { result ≡ kind_of byte }
+{
+    Kind::from(byte)
+}
+
+// The type byte of these parts, as `u8::from` gives it.
 pub fn built(kind: Kind) -> u8
     ensures { result ≡ byte_of kind }
 {
-    ((kind.long as u8) << 7)
-        | ((kind.numbered as u8) << 6)
-        | ((kind.protected as u8) << 5)
-        | ((kind.reserved as u8) << 4)
-        | (kind.content & 15)
+    u8::from(kind)
 }
 
 // Whether a record may have this type byte: with a sequence number, the reserved bit clear, and a
 // content from 1 to 4.
+#[tactic(auto, unfolding(crate::specs::Header::sound_kind))]
 pub fn sound(kind: Kind) -> bool
     ensures { result ≡ sound_kind kind }
 {
-    if !kind.numbered {
-        return false;
-    }
-    if kind.reserved {
-        return false;
-    }
-    if kind.content < 1 {
-        return false;
-    }
-    kind.content <= 4
+    kind.numbered && !kind.reserved && matches!(kind.content, 1..=4)
 }
 
-// The content of a number; those outside 1 to 4, which no sound record has, count as data.
+// The content of a number, as `Content::from` gives it.
 pub fn content_of(number: u8) -> Content
     ensures { result ≡ content_of number }
 {
-    if number == 1 {
-        return Content::ChangeCipherSpec;
-    }
-    if number == 2 {
-        return Content::Alert;
-    }
-    if number == 3 {
-        return Content::Handshake;
-    }
-    Content::Data
+    Content::from(number)
 }
 
-// The number of a content on the wire.
+// The number of a content on the wire, as `u8::from` gives it.
 pub fn number_of(content: Content) -> u8
     ensures { result ≡ number_of content }
 {
-    match content {
-        Content::ChangeCipherSpec => 1,
-        Content::Alert => 2,
-        Content::Handshake => 3,
-        Content::Data => 4,
-    }
+    u8::from(content)
 }

@@ -18,10 +18,22 @@ pub struct Keys {
 }
 
 // Whose records: each end has keys of its own.
-#[derive(Clone, Copy)]
+#[derive(Clone, Copy, PartialEq, Eq, Debug)]
 pub enum Sense {
     FromUnit,
     FromShore,
+}
+
+impl Sense {
+    // The label of the expansion.
+    fn label(self) -> [u8; 16]
+        ensures { result ≡ label_of self }
+    {
+        match self {
+            Sense::FromUnit => Mac::CLIENT_EXPANSION,
+            Sense::FromShore => Mac::SERVER_EXPANSION,
+        }
+    }
 }
 
 impl Keys {
@@ -29,33 +41,27 @@ impl Keys {
     pub fn key(self, sense: Sense, number: u16) -> Key
         ensures { result ≡ key_of (secret_for self sense number) }
     {
-        let secret = self.secret;
-        let label = label(sense);
-        let server = self.server;
-        let client = self.client;
-        record_key(&secret, &label, self.refresh, number, &server, &client)
-    }
-}
-
-// The label of the expansion.
-fn label(sense: Sense) -> [u8; 16]
-    ensures { result ≡ label_of sense }
-{
-    match sense {
-        Sense::FromUnit => Mac::CLIENT_EXPANSION,
-        Sense::FromShore => Mac::SERVER_EXPANSION,
+        let Keys {
+            secret,
+            server,
+            client,
+            refresh,
+            ..
+        } = self;
+        record_key(&secret, &sense.label(), refresh, number, &server, &client)
     }
 }
 
 // The first number of the run of 2^refresh numbers that `number` is in. Above 15 there is one run.
+#[tactic(auto, using(crate::proofs::Marks::remainder_gone), unfolding(crate::specs::Keys::key_number))]
 pub fn key_number(refresh: u8, number: u16) -> u16
     ensures { result ≡ key_number refresh number }
 {
     if refresh <= 15 {
-        let places = refresh as u16;
-        return (number >> places) << places;
+        (number >> refresh) << refresh
+    } else {
+        0
     }
-    0
 }
 
 // The key of a record's own number in the direction of the label, so that a late record from before
@@ -74,10 +80,11 @@ pub fn record_key(
 }
 
 // The key of a key number: records whose key numbers are the same may share it.
+#[tactic(auto, unfolding(crate::specs::Keys::mac_secret))]
 pub fn derived(secret: &[u8], label: &[u8], first: u16, server: &[u8], client: &[u8]) -> Key
     ensures { result ≡ key_of (mac_secret secret.now label.now first server.now client.now) }
 {
-    let seed = [(first / 256 % 256) as u8, (first % 256) as u8];
+    let seed = first.to_be_bytes();
     let mut out = [0u8; Mac::SECRET_SIZE];
     digest::prf(secret, label, &seed, server, client, &mut out);
     Key::new(&out)

@@ -7,15 +7,8 @@ ghost use Rattle.record.specs.Mask.{mask_of};
 pub fn mask(iv: &mut [u8], number: u16)
     ensures { iv.new ≡ mask_of iv.old number }
 {
-    let high = (number / 256 % 256) as u8;
-    let low = (number % 256) as u8;
-    let mut i: usize = 0;
-    while 2 <= iv.len() - i {
-        iv[i] ^= high;
-        iv[i + 1] ^= low;
-        i += 2;
-    }
-    if i < iv.len() {
-        iv[i] ^= high;
+    let pair = number.to_be_bytes();
+    for (i, byte) in iv.iter_mut().enumerate() {
+        *byte ^= pair[i % 2];
     }
 }

@@ -2,12 +2,16 @@
 // the numbers that go out next (002 9.2.3.1, 9.2.3.2 and 11.2). Its two acts are to open a protected record and
 // to write one. Every value of it is safe to pass in.
 ghost use Rattle.std.specs.Prelude.{◌≡◌, ◌≤◌, length};
-ghost use Rattle.record.specs.Protection.{opened_by, wrote_by, output_by, wrote_size, with_window, counted_on};
+ghost use Rattle.record.specs.Protection.{unopened_of, opening_by, opened_by, wrote_by, output_by, wrote_size, with_window, counted_on};
 
-use crate::code::{genuine, write_protected};
+use crate::code::{genuine, write_coded};
 use crate::header::Content;
 use crate::keys::{Keys, Sense};
 use crate::window::{NotNew, Window};
+use crate::written::Head;
+
+// The last number that a record may have.
+const LAST: u32 = 65535;
 
 // The next protected and clear numbers are 65,536 once spent.
 #[derive(Clone, Copy)]
@@ -19,11 +23,22 @@ pub struct Protection {
 }
 
 // Why a protected record is not opened.
-#[derive(Clone, Copy)]
+#[derive(Clone, Copy, PartialEq, Eq, Debug)]
 pub enum Unopened {
     Forged,
     TooOld,
     Repeated,
+}
+
+impl From<NotNew> for Unopened {
+    ghost from_gives = { λ why told. told ≡ unopened_of why };
+
+    fn from(why: NotNew) -> Self {
+        match why {
+            NotNew::TooOld => Unopened::TooOld,
+            NotNew::Repeated => Unopened::Repeated,
+        }
+    }
 }
 
 // What becomes of a protected record, and the protection that it leaves. Of a new one so many bytes of the fragment are
@@ -35,7 +50,7 @@ pub struct Opening {
 }
 
 // Why a record is not written: the numbers are spent, or the room is too small.
-#[derive(Clone, Copy)]
+#[derive(Clone, Copy, PartialEq, Eq, Debug)]
 pub enum Unwritten {
     Spent,
     NoRoom,
@@ -54,11 +69,7 @@ impl Writing {
     pub fn size(self) -> usize
         ensures { result ≡ wrote_size self.wrote }
     {
-        match self.wrote {
-            Err(Unwritten::Spent) => 0,
-            Err(Unwritten::NoRoom) => 0,
-            Ok(size) => size,
-        }
+        self.wrote.unwrap_or(0)
     }
 }
 
@@ -68,31 +79,36 @@ impl Protection {
     pub fn open(self, sense: Sense, number: u16, byte: u8, fragment: &[u8]) -> Opening
         ensures { result ≡ opened_by self sense number byte fragment.now }
     {
-        let keys = self.keys;
-        let mac = keys.mac;
-        let key = keys.key(sense, number);
-        if !genuine(key, mac, number, byte, fragment) {
-            return Opening {
-                opened: Err(Unopened::Forged),
+        match self.judged(sense, number, byte, fragment) {
+            Err(why) => Opening {
+                opened: Err(why),
                 protection: self,
-            };
+            },
+            Ok((size, window)) => Opening {
+                opened: Ok(size),
+                protection: self.with_window(window),
+            },
+        }
+    }
+
+    // The size of the content of a record that is opened, and the window with the mark of its number.
+    fn judged(
+        self,
+        sense: Sense,
+        number: u16,
+        byte: u8,
+        fragment: &[u8],
+    ) -> Result<(usize, Window), Unopened>
+        ensures { opening_by self result ≡ opened_by self sense number byte fragment.now }
+    {
+        let mac = self.keys.mac;
+        let key = self.keys.key(sense, number);
+        if !genuine(key, mac, number, byte, fragment) {
+            return Err(Unopened::Forged);
         }
         let size = fragment.len() - mac.size();
-        let window = self.window;
-        match window.accept(number) {
-            Err(NotNew::TooOld) => Opening {
-                opened: Err(Unopened::TooOld),
-                protection: self,
-            },
-            Err(NotNew::Repeated) => Opening {
-                opened: Err(Unopened::Repeated),
-                protection: self,
-            },
-            Ok((marked, _)) => Opening {
-                opened: Ok(size),
-                protection: self.with_window(marked),
-            },
-        }
+        let (marked, _) = self.window.accept(number)?;
+        Ok((size, marked))
     }
 
     // Writes the next record, without a length. Where it is not written, no byte of the output is touched.
@@ -100,26 +116,29 @@ impl Protection {
         ensures exact { result ≡ wrote_by self sense content body.now (length out.old) }
         ensures bytes { out.new ≡ output_by self sense content body.now out.old }
     {
-        if 65535 < self.protected {
+        if LAST < self.protected {
             return Writing {
                 wrote: Err(Unwritten::Spent),
                 protection: self,
             };
         }
         let number = self.protected as u16;
-        let keys = self.keys;
-        let mac = keys.mac;
-        let key = keys.key(sense, number);
-        let size = write_protected(key, mac, false, content, number, body, out);
-        if size == 0 {
-            return Writing {
+        let key = self.keys.key(sense, number);
+        let head = Head {
+            long: false,
+            protected: true,
+            content,
+            number,
+        };
+        match write_coded(key, self.keys.mac, head, body, out) {
+            None => Writing {
                 wrote: Err(Unwritten::NoRoom),
                 protection: self,
-            };
-        }
-        Writing {
-            wrote: Ok(size),
-            protection: self.counted_on(),
+            },
+            Some(size) => Writing {
+                wrote: Ok(size),
+                protection: self.counted_on(),
+            },
         }
     }
 
@@ -127,9 +146,7 @@ impl Protection {
     pub fn with_window(self, window: Window) -> Protection
         ensures { result ≡ with_window self window }
     {
-        let mut p = self;
-        p.window = window;
-        p
+        Protection { window, ..self }
     }
 
     // The protection after a record was written.
@@ -137,8 +154,9 @@ impl Protection {
         requires { self.protected ≤ 65535 }
         ensures { result ≡ counted_on self }
     {
-        let mut p = self;
-        p.protected = self.protected + 1;
-        p
+        Protection {
+            protected: self.protected + 1,
+            ..self
+        }
     }
 }

@@ -3,29 +3,32 @@
 ghost use Rattle.std.specs.Prelude.{◌≡◌, ◌+◌, ◌*◌, ◌^◌, ◌≤◌, ◌<◌, length};
 ghost use Rattle.record.specs.Reader.{fault_number, read_of, read_as, head_of, size_of, framed_of};
 
-use crate::header::{Content, Kind, content_of, sound, split};
+use crate::header::{Content, Kind, sound};
 
 // What is wrong with the framing of a datagram. `fault_number` gives the number of each.
-#[derive(Clone, Copy)]
+#[derive(Clone, Copy, PartialEq, Eq, Debug)]
 pub enum Fault {
-    Size,
-    Header,
-    Kind,
-    Fragment,
-    Ninth,
+    Size = 1,
+    Header = 2,
+    Kind = 3,
+    Fragment = 4,
+    Ninth = 5,
 }
 
 // The refusal number of a fault.
+impl From<Fault> for u8 {
+    ghost from_gives = { λ fault number. number ≡ fault_number fault };
+
+    fn from(fault: Fault) -> u8 {
+        fault as u8
+    }
+}
+
+// The refusal number of a fault, as `u8::from` gives it.
 pub fn fault_number(fault: Fault) -> u8
     ensures { result ≡ fault_number fault }
 {
-    match fault {
-        Fault::Size => 1,
-        Fault::Header => 2,
-        Fault::Kind => 3,
-        Fault::Fragment => 4,
-        Fault::Ninth => 5,
-    }
+    u8::from(fault)
 }
 
 // A record, its places counted from its type byte.
@@ -46,19 +49,34 @@ pub struct Record {
     pub used: usize,
 }
 
+impl Record {
+    // What stands in a place with no record.
+    pub const BLANK: Record = Record {
+        byte: 0,
+        content: Content::ChangeCipherSpec,
+        protected: false,
+        number: 0,
+        start: 0,
+        head: 0,
+        size: 0,
+        used: 0,
+    };
+}
+
 // The record that begins at the front of `part`, or the first fault in the order 3, 2, 4. An empty
 // part has not even a type byte: its header passes the end.
+#[tactic(auto, unfolding(crate::specs::Reader::read_of))]
 pub fn read(part: &[u8]) -> Result<Record, Fault>
     ensures { result ≡ read_of part.now }
 {
-    if part.len() == 0 {
-        return Err(Fault::Header);
+    match part.first() {
+        None => Err(Fault::Header),
+        Some(&byte) => read_as(part, byte, Kind::from(byte)),
     }
-    let byte = part[0];
-    read_as(part, byte, split(byte))
 }
 
 // The record whose type byte says `kind`.
+#[tactic(auto, unfolding(crate::specs::Reader::read_as))]
 fn read_as(part: &[u8], byte: u8, kind: Kind) -> Result<Record, Fault>
     ensures { result ≡ read_as part.now byte kind }
 {
@@ -69,9 +87,20 @@ fn read_as(part: &[u8], byte: u8, kind: Kind) -> Result<Record, Fault>
     if part.len() < head {
         return Err(Fault::Header);
     }
-    let number = pair(part[1], part[2]);
     let size = size_of(part, kind);
-    framed(byte, kind, number, head, size, part.len() - head)
+    if size == 0 || part.len() - head < size {
+        return Err(Fault::Fragment);
+    }
+    Ok(Record {
+        byte,
+        content: Content::from(kind.content),
+        protected: kind.protected,
+        number: u16::from_be_bytes([part[1], part[2]]),
+        start: 0,
+        head,
+        size,
+        used: head + size,
+    })
 }
 
 // How many bytes stand before the fragment: type byte, number, and the length if present.
@@ -79,10 +108,7 @@ fn head_of(kind: Kind) -> usize
     ensures value { result ≡ head_of kind }
     ensures lower_bound { (3 ≤ result) × (result ≤ 5) }
 {
-    if kind.long {
-        return 5;
-    }
-    3
+    if kind.long { 5 } else { 3 }
 }
 
 // How many bytes the fragment has: as the length says, or the rest of the part.
@@ -91,45 +117,8 @@ fn size_of(part: &[u8], kind: Kind) -> usize
     ensures { result ≡ size_of part.now kind }
 {
     if kind.long {
-        return pair(part[3], part[4]) as usize;
+        u16::from_be_bytes([part[3], part[4]]) as usize
+    } else {
+        part.len() - 3
     }
-    part.len() - 3
-}
-
-// The record whose fragment has `size` bytes, if there are any and as many are left.
-fn framed(
-    byte: u8,
-    kind: Kind,
-    number: u16,
-    head: usize,
-    size: usize,
-    left: usize,
-) -> Result<Record, Fault>
-    requires { (head ≤ 5) × (left < 2 ^ 63) }
-    ensures { result ≡ framed_of byte kind number head size left }
-{
-    if size == 0 {
-        return Err(Fault::Fragment);
-    }
-    if left < size {
-        return Err(Fault::Fragment);
-    }
-    let content = content_of(kind.content);
-    Ok(Record {
-        byte,
-        content,
-        protected: kind.protected,
-        number,
-        start: 0,
-        head,
-        size,
-        used: head + size,
-    })
-}
-
-// The number that two bytes spell, the most significant first.
-fn pair(a: u8, b: u8) -> u16
-    ensures { result ≡ a * 256 + b }
-{
-    (a as u16) * 256 + (b as u16)
 }

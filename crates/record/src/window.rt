@@ -18,7 +18,7 @@ pub struct Window {
 }
 
 // Why a number is not new.
-#[derive(Clone, Copy)]
+#[derive(Clone, Copy, PartialEq, Eq, Debug)]
 pub enum NotNew {
     TooOld,
     Repeated,
@@ -41,11 +41,7 @@ impl Window {
     pub fn emptied(self) -> Window
         ensures { result ≡ emptied self }
     {
-        Window {
-            width: self.width,
-            highest: 0,
-            marks: 0,
-        }
+        Window::fresh(self.width)
     }
 
     // What becomes of a number: `exact` for every window, and `meaning` for the window of the numbers h
@@ -54,7 +50,7 @@ impl Window {
         ensures exact { result ≡ accept_of self number }
         ensures meaning { (width : ℕ) (h : List ℕ) → Held width → self ≡ window_of width h → result ≡ judged_of width h number }
     {
-        self.accept_within(held(self.width), number)
+        self.accept_within(HeldWidth::of(self.width), number)
     }
 
     // The arrival report: how many of the newest numbers have arrived, as many as the width says. `meaning` for the
@@ -63,80 +59,82 @@ impl Window {
         ensures exact { result ≡ arrival_of self }
         ensures meaning { (width : ℕ) (h : List ℕ) → Held width → self ≡ window_of width h → result ≡ arrived_of width h }
     {
-        u64::count_ones(cut(self.marks, held(self.width)))
+        HeldWidth::of(self.width).cut(self.marks).count_ones()
     }
 
     // The number in a window of this width.
-    fn accept_within(self, width: u64, number: u16) -> Result<(Window, u32), NotNew>
-        requires { (0 < width) × (width ≤ 64) }
-        ensures { result ≡ accept_within width self number }
+    #[tactic(auto, using(crate::proofs::Answers::masked_bit), unfolding(crate::specs::Window::accept_by))]
+    fn accept_within(self, held: HeldWidth, number: u16) -> Result<(Window, u32), NotNew>
+        ensures { result ≡ accept_within held.width self number }
     {
-        let marks = cut(self.marks, width);
+        let marks = held.cut(self.marks);
         if marks == 0 {
-            return arrived(width, number, 1);
+            return held.arrived(number, 1);
         }
-        let highest = self.highest;
-        let n = highest as u64;
+        let n = self.highest as u64;
         let s = number as u64;
         if n < s {
-            return arrived(width, number, moved(marks, s - n, width));
+            return held.arrived(number, held.moved(marks, s - n));
         }
-        if s + width <= n {
+        if s + held.width <= n {
             return Err(NotNew::TooOld);
         }
         let place = n - s;
         if (marks >> place) & 1 == 1 {
             return Err(NotNew::Repeated);
         }
-        arrived(width, highest, marked(marks, place))
+        held.arrived(self.highest, marked(marks, place))
     }
 }
 
 // How many marks a window keeps: its width, from 32 to 64.
-fn held(width: u8) -> u64
-    ensures value { result ≡ held_width width }
-    ensures result_nonzero { (0 < result) × (result ≤ 64) }
-{
-    if width < 32 {
-        return 32;
-    }
-    if 64 < width {
-        return 64;
-    }
-    width as u64
+#[derive(Clone, Copy)]
+struct HeldWidth {
+    width: u64,
+    ghost some: { 0 < width },
+    ghost few: { width ≤ 64 },
 }
 
-// The window with these marks, and how many there are.
-fn arrived(width: u64, highest: u16, marks: u64) -> Result<(Window, u32), NotNew>
-    requires { width ≤ 64 }
-    ensures { result ≡ arrived_at width highest marks }
-{
-    let window = Window {
-        width: width as u8,
-        highest,
-        marks,
-    };
-    Ok((window, u64::count_ones(marks)))
-}
-
-// The marks of the width, and no others.
-fn cut(marks: u64, width: u64) -> u64
-    requires width_bound { width ≤ 64 }
-    requires width_nonzero { 0 < width }
-    ensures { result ≡ marks % 2 ^ width }
-{
-    marks & (u64::MAX >> (64 - width))
-}
-
-// The marks below a number that is `by` above the highest, with its own mark.
-fn moved(marks: u64, by: u64, width: u64) -> u64
-    requires { (0 < by) × ((0 < width) × (width ≤ 64)) }
-    ensures { result ≡ marks * 2 ^ by % 2 ^ width + 1 }
-{
-    if width <= by {
-        return 1;
+impl HeldWidth {
+    // The nearest to a width that a window may have.
+    #[tactic(auto, unfolding(crate::specs::Window::held_width))]
+    fn of(width: u8) -> HeldWidth
+        ensures { result.width ≡ held_width width }
+    {
+        let width = u64::from(width.clamp(32, 64));
+        HeldWidth { width }
     }
-    cut(marks << by, width) | 1
+
+    // The window with these marks, and how many there are.
+    fn arrived(self, highest: u16, marks: u64) -> Result<(Window, u32), NotNew>
+        ensures { result ≡ arrived_at self.width highest marks }
+    {
+        let window = Window {
+            width: self.width as u8,
+            highest,
+            marks,
+        };
+        Ok((window, marks.count_ones()))
+    }
+
+    // The marks of the width, and no others.
+    fn cut(self, marks: u64) -> u64
+        ensures { result ≡ marks % 2 ^ self.width }
+    {
+        marks & (u64::MAX >> (64 - self.width))
+    }
+
+    // The marks below a number that is `by` above the highest, with its own mark.
+    fn moved(self, marks: u64, by: u64) -> u64
+        requires { 0 < by }
+        ensures { result ≡ marks * 2 ^ by % 2 ^ self.width + 1 }
+    {
+        if self.width <= by {
+            1
+        } else {
+            self.cut(marks << by) | 1
+        }
+    }
 }
 
 // The marks with one more, which was not there.

@@ -6,5 +6,5 @@ use Rattle.record.proofs.code.code.Goals as goal
 
 pub returns : goal.returns
 returns c = let a = c.args in
-    let head = coded_head a.number a.byte a.content.now in
+    let head = coded_head a.number a.byte a.content.now _ _ c.to_be_bytes.ensures c.to_be_bytes-2.ensures in
     record { exact = c.code.ensures.exact ∙ ap (code_under a.key) head; meaning = λ k e. c.code.ensures.meaning k e ∙ ap (hmac k) head }

@@ -10,4 +10,4 @@ pub returns : goal.returns
 returns c = let k = c.args.self in
     let number = c.args.number in
     c.record_key.ensures
-    ∙ ap (λ (l : List ℕ). key_of (mac_secret k.secret l (key_number k.refresh number) k.server k.client)) c.label-label.ensures
+    ∙ ap (λ (l : List ℕ). key_of (mac_secret k.secret l (key_number k.refresh number) k.server k.client)) c.label.ensures

@@ -6,10 +6,7 @@ use Prim.Native.Nat.{ℕ}
 use Rattle.record.proofs.Histories.{meaning}
 use Rattle.record.proofs.window.Window.accept.Goals as goal
 
-pub accept_within-requires : goal.accept_within-requires
-accept_within-requires c = c.held.ensures.result_nonzero
-
 pub returns : goal.returns
 returns c = let a = c.args in
-    let exact = c.accept_within.ensures ∙ ap (λ (v : ℕ). accept_within v a.self a.number) c.held.ensures.value in
+    let exact = c.accept_within.ensures ∙ ap (λ (v : ℕ). accept_within v a.self a.number) c.of.ensures in
     record { exact = exact; meaning = λ width h k e. exact ∙ ap (λ (w : Window). accept_of w a.number) e ∙ meaning width k h a.number }

@@ -10,5 +10,5 @@ use Rattle.record.proofs.window.Window.arrival.Goals as goal
 pub returns : goal.returns
 unfolding arrival_of
 returns c = let a = c.args in
-    let exact = ap (λ (x : ℕ). ones x) (c.cut.ensures ∙ ap (λ (v : ℕ). a.self.marks % 2 ^ v) c.held.ensures.value) in
+    let exact = ap (λ (x : ℕ). ones x) (c.cut.ensures ∙ ap (λ (v : ℕ). a.self.marks % 2 ^ v) c.of.ensures) in
     record { exact = exact; meaning = λ width h k e. exact ∙ ap (λ (w : Window). arrival_of w) e ∙ arrival_means width k h }
