@@ -6,7 +6,7 @@ mod header;
 mod refusal;
 mod slot;
 
-pub use gatherer::{Answer, Gatherer, Step, datagram};
+pub use gatherer::{Answer, Gatherer, datagram};
 pub use header::{Heading, Place, Ports, read};
 pub use refusal::{Refusal, refusal_number};
-pub use slot::{Slot, held_places};
+pub use slot::Slot;
