@@ -1,15 +1,14 @@
 // The gatherer of parts: up to eleven parts for a reference, four references at once, 1,400 bytes each. Its numbers go by
 // value; the bytes of the parts stand in a store that the caller lends to each step, and a gathered datagram is written to
 // the assembly buffer.
-ghost use Rattle.std.specs.Prelude.{◌≡◌, ◌++◌, ◌+◌, ◌-◌, ◌*◌, ◌≤◌, ◌<◌, length, IfSome};
-ghost use Rattle.digest.specs.Bytes.{laid_over};
-ghost use Rattle.gather.specs.Slot.{below};
-ghost use Rattle.gather.specs.Gatherer.{fresh_of, slot_at, held_at, vacant_at, drop_of, datagram_of};
-ghost use Rattle.gather.specs.Gatherer.{lower, upper, leaves, again_of, add_of, join_of, step_of};
+ghost use Rattle.std.specs.Prelude.{◌≡◌, ◌≤◌, ◌<◌, length, IfSome};
+ghost use Rattle.gather.specs.Gatherer.{fresh_of, held_at, vacant_at, drop_of, datagram_of};
+ghost use Rattle.gather.specs.Gatherer.{leaves, again_of, add_of, join_of, step_of};
 
 use crate::header::{Heading, Place, Ports, read};
 use crate::refusal::Refusal;
 use crate::slot::Slot;
+use crate::spot::Spot;
 
 // Four slots. Slot k has the bytes k * 1,400 up to (k + 1) * 1,400 of the store.
 #[derive(Clone, Copy, PartialEq, Eq, Debug)]
@@ -26,6 +25,14 @@ pub enum Answer {
     Received(Ports, usize),
     // how many bytes of the assembly buffer are the datagram
     Gathered(Ports, usize),
+}
+
+// A part of a message: what the header says of it, and its bytes.
+#[derive(Clone, Copy)]
+struct Part<'a> {
+    ports: Ports,
+    place: Place,
+    bytes: &'a [u8],
 }
 
 impl Gatherer {
@@ -65,7 +72,8 @@ impl Gatherer {
         match read(message)? {
             Heading::Alone(ports, start) => Ok(Answer::Received(ports, start)),
             Heading::Part(ports, start, place) => {
-                self.join(store, &message[start..], ports, place, assembly)
+                let bytes = &message[start..];
+                self.join(Part { ports, place, bytes }, store, assembly)
             }
         }
     }
@@ -73,60 +81,57 @@ impl Gatherer {
     // The part of a reference, held or new.
     fn join(
         &mut self,
+        part: Part<'_>,
         store: &mut [u8],
-        part: &[u8],
-        ports: Ports,
-        place: Place,
         assembly: &mut [u8],
     ) -> Result<Answer, Refusal>
-        requires { (5600 ≤ length store.old) × (1400 ≤ length assembly.old) × (0 < place.place) × (place.place ≤ 11) }
-        ensures { leaves self.new result store.new assembly.new ≡ join_of self.old store.old part.now ports place assembly.old }
+        requires { (5600 ≤ length store.old) × (1400 ≤ length assembly.old) × (0 < part.place.place) × (part.place.place ≤ 11) }
+        ensures { leaves self.new result store.new assembly.new ≡ join_of self.old store.old part.entry.bytes.now part.entry.ports part.entry.place assembly.old }
     {
+        let place = part.place;
         let i = usize::from(place.place) - 1;
         if let Some(k) = self.held(place.reference) {
-            let s = self.slots[k];
-            if s.total != place.total {
+            let slot = self.slots[k];
+            if slot.total != place.total {
                 return Err(Refusal::Differs);
             }
-            return self.add(k, s, i, store, part, ports, assembly);
+            return self.add(Spot { k, slot, i }, part, store, assembly);
         }
         let Some(k) = self.vacant() else {
             return Err(Refusal::Full);
         };
-        let s = Slot::begun(place.reference, place.total);
-        self.add(k, s, i, store, part, ports, assembly)
+        let slot = Slot::begun(place.reference, place.total);
+        self.add(Spot { k, slot, i }, part, store, assembly)
     }
 
-    // The part in place i of the slot s, which is slot k.
+    // The part where it belongs.
     fn add(
         &mut self,
-        k: usize,
-        s: Slot,
-        i: usize,
+        at: Spot,
+        part: Part<'_>,
         store: &mut [u8],
-        part: &[u8],
-        ports: Ports,
         assembly: &mut [u8],
     ) -> Result<Answer, Refusal>
-        requires { (5600 ≤ length store.old) × (1400 ≤ length assembly.old) × (k < 4) × (i < 11) }
-        ensures { leaves self.new result store.new assembly.new ≡ add_of self.old k s i store.old part.now ports assembly.old }
+        requires { (5600 ≤ length store.old) × (1400 ≤ length assembly.old) }
+        ensures { leaves self.new result store.new assembly.new ≡ add_of self.old at.k at.slot at.i store.old part.entry.bytes.now part.entry.ports assembly.old }
     {
-        if s.sizes[i] != 0 {
-            return again(k, s, i, store, part, ports);
+        let slot = at.slot;
+        if slot.sizes[at.i] != 0 {
+            return again(at, part, store);
         }
-        if 1400 - s.bytes_below(11) < part.len() {
-            self.slots[k] = Slot::free();
+        if 1400 - slot.bytes_below(11) < part.bytes.len() {
+            self.slots[at.k] = Slot::free();
             return Err(Refusal::Long);
         }
-        let have = s.held_places() + 1;
-        if usize::from(s.total) <= have {
-            let size = assemble(k, s, i, store, part, assembly);
-            self.slots[k] = Slot::free();
-            return Ok(Answer::Gathered(ports, size));
+        let have = slot.held_places() + 1;
+        if usize::from(slot.total) <= have {
+            let size = at.assemble(store, part.bytes, assembly);
+            self.slots[at.k] = Slot::free();
+            return Ok(Answer::Gathered(part.ports, size));
         }
-        insert(k, s, i, store, part);
-        self.slots[k] = s.with_size(i, part.len());
-        Ok(Answer::Waiting(ports, s.reference, have, s.total))
+        at.insert(store, part.bytes);
+        self.slots[at.k] = slot.with_size(at.i, part.bytes.len());
+        Ok(Answer::Waiting(part.ports, slot.reference, have, slot.total))
     }
 
     // The first slot that holds the reference.
@@ -162,40 +167,13 @@ pub fn datagram<'a>(
 }
 
 // A part whose place is held: the same bytes, or others.
-fn again(k: usize, s: Slot, i: usize, store: &[u8], part: &[u8], ports: Ports) -> Result<Answer, Refusal>
-    requires { (5600 ≤ length store.now) × (k < 4) × (i < 11) }
-    ensures { result ≡ again_of k s i store.now part.now ports }
+fn again(at: Spot, part: Part<'_>, store: &[u8]) -> Result<Answer, Refusal>
+    requires { 5600 ≤ length store.now }
+    ensures { result ≡ again_of at.k at.slot at.i store.now part.entry.bytes.now part.entry.ports }
 {
-    let from = k * 1400 + s.bytes_below(i);
-    let end = k * 1400 + s.bytes_below(i + 1);
-    if digest::same_code(&store[from..end], part) {
-        return Ok(Answer::Waiting(ports, s.reference, s.held_places(), s.total));
+    if at.has(store, part.bytes) {
+        let slot = at.slot;
+        return Ok(Answer::Waiting(part.ports, slot.reference, slot.held_places(), slot.total));
     }
     Err(Refusal::Differs)
-}
-
-// The parts of slot k and this one, by place, at the front of the assembly buffer. Answers how many bytes they are.
-fn assemble(k: usize, s: Slot, i: usize, store: &[u8], part: &[u8], assembly: &mut [u8]) -> usize
-    requires { (5600 ≤ length store.now) × (1400 ≤ length assembly.old) × (k < 4) × (i < 11) × (length part.now ≤ 1400 - below s 11) }
-    ensures value { result ≡ below s 11 + length part.now }
-    ensures assembly_after { assembly.new ≡ laid_over assembly.old 0 (lower store.now k s i ++ part.now ++ upper store.now k s i) }
-{
-    let base = k * 1400;
-    let at = s.bytes_below(i);
-    let end = s.bytes_below(11);
-    digest::put(assembly, 0, &store[base..base + at]);
-    digest::put(assembly, at, part);
-    digest::put(assembly, at + part.len(), &store[base + at..base + end]);
-    end + part.len()
-}
-
-// The part put between those of the lower places and those of the higher ones.
-fn insert(k: usize, s: Slot, i: usize, store: &mut [u8], part: &[u8])
-    requires { (5600 ≤ length store.old) × (k < 4) × (i < 11) × (length part.now ≤ 1400 - below s 11) }
-    ensures { store.new ≡ laid_over store.old (k * 1400 + below s i) (part.now ++ upper store.old k s i) }
-{
-    let from = k * 1400 + s.bytes_below(i);
-    let end = k * 1400 + s.bytes_below(11);
-    store.copy_within(from..end, from + part.len());
-    digest::put(store, from, part);
 }

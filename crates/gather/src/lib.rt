@@ -5,6 +5,7 @@ mod gatherer;
 mod header;
 mod refusal;
 mod slot;
+mod spot;
 
 pub use gatherer::{Answer, Gatherer, datagram};
 pub use header::{Heading, Place, Ports, read};

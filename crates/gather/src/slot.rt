@@ -46,11 +46,12 @@ impl Slot {
     // How many bytes the first n places have together; 1,400 at most.
     pub(crate) fn bytes_below(&self, n: usize) -> usize
         requires { n ≤ 11 }
-        ensures { result ≡ below self.now n }
+        ensures value { result ≡ below self.now n }
+        ensures at_most { result ≤ 1400 }
     {
         let sum: usize = self.sizes[..n]
             .iter()
-            .map(|size| usize::from(*size).saturating_sub(1))
+            .map(|&size| usize::from(size.saturating_sub(1)))
             .sum();
         sum.min(1400)
     }
@@ -60,7 +61,7 @@ impl Slot {
         ensures exact { result ≡ count_of self.now.sizes }
         ensures at_most { result ≤ 11 }
     {
-        self.sizes.iter().filter(|size| **size != 0).count()
+        self.sizes.iter().filter(|&&size| size != 0).count()
     }
 
     // The slot with n bytes in place i, counted from 0.
