@@ -1,6 +1,6 @@
 -- The user data header of a short message (GSM 03.40, 9.2.3.24; 02, P2: "port addressing with 16-bit ports, and
 -- concatenation (8-bit reference, total, place); other elements are skipped, of two alike the last counts").
-use Rattle.std.specs.Prelude.{true, false, List, ℕ, zero, suc, ◌+◌, ◌-◌, ◌*◌, length, get_or, take, drop, eqb, ltb, Option, Some, None, Result, Ok, Err}
+use Rattle.std.specs.Prelude.{List, ℕ, zero, suc, ◌+◌, ◌-◌, ◌*◌, length, get_or, take, drop, eqb, ltb, Option, Some, None, Result, Ok, Err}
 use Rattle.digest.specs.Pick.{pick}
 use Rattle.gather.specs.declared.refusal.Refusal.{Refusal}
 use Rattle.gather.specs.declared.refusal.Refusal.TheVariants as R

@@ -73,7 +73,15 @@ impl Gatherer {
             Heading::Alone(ports, start) => Ok(Answer::Received(ports, start)),
             Heading::Part(ports, start, place) => {
                 let bytes = &message[start..];
-                self.join(Part { ports, place, bytes }, store, assembly)
+                self.join(
+                    Part {
+                        ports,
+                        place,
+                        bytes,
+                    },
+                    store,
+                    assembly,
+                )
             }
         }
     }
