@@ -65,26 +65,26 @@ fn gathered(
     at: usize,
 ) -> Ran {
     let connection = console.connection;
-    let gatherer = console.gatherer;
+    let mut gatherer = console.gatherer;
     let mut store = console.store;
     let mut assembly = [0u8; 1400];
     let messaged = short::message(
         connection,
-        gatherer,
+        &mut gatherer,
         &mut store,
         bytes,
         &mut assembly,
         random,
         out,
     );
-    told(console, messaged, store, bytes, &assembly, out, text, at)
+    let left = console.with_gathering(gatherer, store);
+    told(left, messaged, bytes, &assembly, out, text, at)
 }
 
 // What the message gave: the gatherer's answer, what its datagram got, and the state.
 fn told<'a>(
     console: Console,
     messaged: Messaged,
-    store: [u8; 5600],
     bytes: &'a [u8],
     assembly: &'a [u8],
     out: &[u8],
@@ -92,25 +92,19 @@ fn told<'a>(
     at: usize,
 ) -> Ran {
     let answer = messaged.answer;
-    let received = messaged.received;
-    let counted = console.counted(received);
-    let left = counted.with_gathering(messaged.gatherer, store);
     let end = put_answer(answer, gather::datagram(answer, bytes, assembly), text, at);
-    if short::shows(answer) {
-        return taken(left, received, out, text, end);
+    match messaged.received {
+        Some(received) => taken(console.counted(received), received, out, text, end),
+        None => state_line(console, text, end),
     }
-    state_line(left, text, end)
 }
 
 // `drop ok`, always.
 fn run_drop(console: Console, line: &[u8], text: &mut [u8], at: usize) -> Ran {
     let reference = number(word(line, 1), 255) as u8;
-    let gatherer = console.gatherer;
+    let mut gatherer = console.gatherer;
     let store = console.store;
+    gatherer.drop(reference);
     let end = put(text, at, b"drop ok\n");
-    state_line(
-        console.with_gathering(gatherer.drop(reference), store),
-        text,
-        end,
-    )
+    state_line(console.with_gathering(gatherer, store), text, end)
 }

@@ -1,12 +1,13 @@
 -- Short messages (02, P2: "Demand 3 starts at the gathered datagram"): a run of messages is the run of its gathered datagrams.
 -- Which datagrams these are is said by the gathering alone, whatever the connection; and each is received as any other.
-use Rattle.std.specs.Prelude.{◌≡◌, List, [], ◌∷◌, ◌++◌, ℕ, length}
+use Rattle.std.specs.Prelude.{◌≡◌, List, [], ◌∷◌, ◌++◌, ℕ, length, Option, Some, None}
 use Rattle.digest.specs.Pick.{pick}
 use Rattle.gather.specs.Gatherer.{Left, drop_of, datagram_of}
 use Rattle.gather.specs.declared.gatherer.Gatherer.{Gatherer}
 use Rattle.connection.specs.declared.connection.Connection.{Connection}
 use Rattle.connection.specs.declared.state.State.TheVariants.{Open}
-use Rattle.short.specs.Message.{Leaves, is_shown, gathered_of, message_of}
+use Rattle.connection.specs.declared.receive.Received.{Received}
+use Rattle.short.specs.Message.{Leaves, is_shown, connection_after, gathered_of, message_of}
 use Rattle.demands.specs.Genuine.{keys_of}
 use Rattle.demands.specs.Runs.{Call, receive, Step, received_as, step_of, steps_of, final_of}
 use Rattle.demands.specs.LeftOut as O
@@ -61,15 +62,15 @@ abbrev pub takes : Link → List ℕ → List ℕ → List ℕ → Leaves
 takes l bytes random out =
     message_of l.connection l.gathering.gatherer l.gathering.store bytes l.gathering.assembly random out
 
-abbrev pub link_by : Leaves → Link
-link_by m =
+abbrev pub link_by : Connection → Leaves → Link
+link_by c m =
     record {
-      connection = m.back.received.connection;
-      gathering = record { gatherer = m.back.gatherer; store = m.store; assembly = m.assembly };
+      connection = connection_after c m.back.received;
+      gathering = record { gatherer = m.gatherer; store = m.store; assembly = m.assembly };
     }
 
 abbrev pub link_after : Link → Posted → Link
-link_after l (message bytes random out) = link_by (takes l bytes random out)
+link_after l (message bytes random out) = link_by l.connection (takes l bytes random out)
 link_after l (dropping reference) = record { connection = l.connection; gathering = gathering_after l.gathering (dropping reference) }
 link_after l (on_connection call) = record { connection = (step_of l.connection call).connection; gathering = l.gathering }
 
@@ -78,8 +79,12 @@ link_end l [] = l
 link_end l (p ∷ ps) = link_end (link_after l p) ps
 
 -- what a call gives: of a message, what its datagram got and what the output then holds, where it shows one
+abbrev pub step_shown : Option Received → List ℕ → List Step
+step_shown None out = []
+step_shown (Some received) out = received_as received out ∷ []
+
 abbrev pub shown_step : Leaves → List Step
-shown_step m = pick (is_shown m.back.answer) (received_as m.back.received m.out ∷ []) []
+shown_step m = step_shown m.back.received m.out
 
 abbrev pub steps_at : Link → Posted → List Step
 steps_at l (message bytes random out) = shown_step (takes l bytes random out)

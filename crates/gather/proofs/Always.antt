@@ -9,13 +9,14 @@ use native.Mathlib.Omega.{arith}
 use native.Mathlib.Decide.{dec_le, ℕ_discrete}
 use lib.ListN.{length, get_or, drop, length-take}
 use lib.Dec.{eqb, ltb, leb}
-use borrow.Author.Tests.{eq-eqb, ne_eqb, lt-ltb, le-ltb}
+use borrow.Author.Tests.{ne_eqb, lt-ltb, le-ltb}
 use Rattle.digest.specs.Pick.{pick}
 use Rattle.digest.specs.Mac.{same_bytes}
 use Rattle.gather.specs.Header.{heading_of}
 use Rattle.gather.specs.Slot.{free, begun, holds, count_of, below, sized}
-use Rattle.gather.specs.Gatherer.{slot_at, with_slot, held_at, vacant_at, within, Left, leaves, said, again_of, add_of, join_of, step_by, step_of, drop_of}
-use Rattle.gather.specs.Map.{Entry, absent, held, Map, is_held, held_below, held_in, joined, places_of, room_of, look_up, slots_of, map_of}
+use Rattle.std.specs.Prelude.{Option, Some, None, Result, Ok, Err}
+use Rattle.gather.specs.Gatherer.{slot_at, with_slot, held_at, vacant_at, within, Left, leaves, add_of, again_of, join_by, step_by, step_of, drop_of}
+use Rattle.gather.specs.Map.{Entry, absent, held, Map, is_held, held_below, held_in, joined, places_of, room_of, look_up, map_of}
 use Rattle.gather.specs.declared.slot.Slot.{Slot}
 use Rattle.gather.specs.declared.header.Ports.{Ports}
 use Rattle.gather.specs.declared.header.Place.{Place}
@@ -24,8 +25,8 @@ use Rattle.gather.specs.declared.header.Heading.TheVariants as H
 use Rattle.gather.specs.declared.refusal.Refusal.{Refusal}
 use Rattle.gather.specs.declared.refusal.Refusal.TheVariants as R
 use Rattle.gather.specs.declared.gatherer.Gatherer.{Gatherer}
-use Rattle.gather.specs.declared.gatherer.Answer.TheVariants.{Refused, Waiting, Received, Gathered}
-use Rattle.gather.specs.declared.gatherer.Step.{Step}
+use Rattle.gather.specs.declared.gatherer.Answer.{Answer}
+use Rattle.gather.specs.declared.gatherer.Answer.TheVariants.{Waiting, Received, Gathered}
 use Rattle.gather.proofs.Places.{joined_few}
 
 -- ---- four references, 1,400 bytes each
@@ -84,9 +85,9 @@ few k (s ∷ slots) store n =
       hot_once s.reference n,
     )
 
--- whatever the gatherer and the store are, at most four references are held
-pub four_references : (g : Gatherer) (store : List ℕ) → held_in (map_of g store) ≤ 4
-four_references g store = few 0 (slots_of g) store 256
+-- whatever the gatherer, which has four slots by its type, and the store are, at most four references are held
+pub four_references : (g : Gatherer) (store : List ℕ) → length g.slots ≡ 4 → held_in (map_of g store) ≤ 4
+four_references g store four = omega (arith, few 0 g.slots store 256)
 
 -- and each has at most 1,400 bytes
 pub bytes_each : (s : Slot) (store : List ℕ) (k : ℕ) → length (joined (places_of s.sizes (room_of store k))) ≤ 1400
@@ -98,81 +99,67 @@ bytes_each s store k =
 
 -- a refusal leaves both buffers, and but for 22 the gatherer
 pub record Keeps (g : Gatherer) (store assembly : List ℕ) (l : Left) : Type 0 where
-  pub buffers : (refusal : Refusal) → l.answer ≡ Refused refusal → (l.store ≡ store) × (l.assembly ≡ assembly)
-  pub gathering : (refusal : Refusal) → l.answer ≡ Refused refusal → (refusal ≡ R.Long → ⊥) → l.gatherer ≡ g
+  pub buffers : (refusal : Refusal) → l.answer ≡ Err refusal → (l.store ≡ store) × (l.assembly ≡ assembly)
+  pub gathering : (refusal : Refusal) → l.answer ≡ Err refusal → (refusal ≡ R.Long → ⊥) → l.gatherer ≡ g
 
 pub either_way : (A : Type 0) (P : A → Type 0) (b : Bool) (x y : A) → P x → P y → P (pick b x y)
 either_way A P true x y p q = p
 either_way A P false x y p q = q
 
 module _ (g : Gatherer) (store assembly : List ℕ) where
-  as_it_was : (answer : Rattle.gather.specs.declared.gatherer.Answer.Answer) → Keeps g store assembly (said g answer store assembly)
+  as_it_was : (answer : Result Answer Refusal) → Keeps g store assembly (leaves g answer store assembly)
   as_it_was answer = record { buffers = λ r e. (refl, refl); gathering = λ r e f. refl }
 
-  too_long : (h : Gatherer) → Keeps g store assembly (said h (Refused R.Long) store assembly)
+  too_long : (h : Gatherer) → Keeps g store assembly (leaves h (Err R.Long) store assembly)
   too_long h =
       record {
         buffers = λ r e. (refl, refl);
         gathering = λ r e f. absurd (f (let same : r ≡ R.Long = cc in same));
       }
 
-  finished : (h : Gatherer) (ports : Ports) (n : ℕ) (a : List ℕ) → Keeps g store assembly (said h (Gathered ports n) store a)
-  finished h ports n a =
-      record {
-        buffers = λ r e. absurd (let z : ◌≡◌ {A = ℕ} 0 1 = cc in omega arith);
-        gathering = λ r e f. absurd (let z : ◌≡◌ {A = ℕ} 0 1 = cc in omega arith);
-      }
-
-  waits : (h : Gatherer) (ports : Ports) (r n t : ℕ) (d : List ℕ) → Keeps g store assembly (said h (Waiting ports r n t) d assembly)
-  waits h ports r n t d =
-      record {
-        buffers = λ r e. absurd (let z : ◌≡◌ {A = ℕ} 0 1 = cc in omega arith);
-        gathering = λ r e f. absurd (let z : ◌≡◌ {A = ℕ} 0 1 = cc in omega arith);
-      }
+  no_refusal : (h : Gatherer) (answer : Answer) (d a : List ℕ) → Keeps g store assembly (leaves h (Ok answer) d a)
+  no_refusal h answer d a =
+      record { buffers = λ r e. absurd (let z : ⊥ = cc in z); gathering = λ r e f. absurd (let z : ⊥ = cc in z) }
 
   add_keeps : (k : ℕ) (s : Slot) (i : ℕ) (part : List ℕ) (ports : Ports) → Keeps g store assembly (add_of g k s i store part ports assembly)
-  unfolding add_of again_of
+  unfolding add_of
   add_keeps k s i part ports =
       either_way Left (Keeps g store assembly) (eqb (get_or s.sizes i 0) 0) _ _
       (either_way Left (Keeps g store assembly) (ltb (1400 - below s 11) (length part)) _ _ (too_long (with_slot g k free))
       (either_way Left (Keeps g store assembly) (leb s.total (count_of s.sizes + 1)) _ _
-      (finished (with_slot g k free) ports (below s 11 + length part) _)
-      (waits (with_slot g k (sized s i (length part))) ports s.reference (count_of s.sizes + 1) s.total _)))
-      (either_way Step (λ x. Keeps g store assembly (leaves x store assembly)) (same_bytes (within store k s i) part) _ _
-      (as_it_was (Waiting ports s.reference (count_of s.sizes) s.total))
-      (as_it_was (Refused R.Differs)))
+      (no_refusal (with_slot g k free) (Gathered ports (below s 11 + length part)) _ _)
+      (no_refusal (with_slot g k (sized s i (length part))) (Waiting ports s.reference (count_of s.sizes + 1) s.total) _ _)))
+      (as_it_was (again_of k s i store part ports))
 
-  join_keeps : (part : List ℕ) (ports : Ports) (p : Place) → Keeps g store assembly (join_of g store part ports p assembly)
-  unfolding join_of
-  join_keeps part ports p =
-      either_way Left (Keeps g store assembly) (ltb (held_at g p.reference) 4) _ _
-      (either_way Left (Keeps g store assembly) (eqb (slot_at g (held_at g p.reference)).total p.total) _ _
-      (add_keeps (held_at g p.reference) (slot_at g (held_at g p.reference)) (p.place - 1) part ports)
-      (as_it_was (Refused R.Differs)))
-      (either_way Left (Keeps g store assembly) (eqb (vacant_at g) 4) _ _ (as_it_was (Refused R.Full))
-      (add_keeps (vacant_at g) (begun p.reference p.total) (p.place - 1) part ports))
+  join_keeps : (part : List ℕ) (ports : Ports) (p : Place) (found room : Option ℕ)
+      → Keeps g store assembly (join_by g store part ports p assembly found room)
+  join_keeps part ports p (Some k) room =
+      either_way Left (Keeps g store assembly) (eqb (slot_at g k).total p.total) _ _
+      (add_keeps k (slot_at g k) (p.place - 1) part ports)
+      (as_it_was (Err R.Differs))
+  join_keeps part ports p None (Some k) = add_keeps k (begun p.reference p.total) (p.place - 1) part ports
+  join_keeps part ports p None None = as_it_was (Err R.Full)
 
-  by_keeps : (message : List ℕ) (h : Heading) → Keeps g store assembly (step_by g store message assembly h)
-  by_keeps message H.Refused = as_it_was (Refused R.Header)
-  by_keeps message (H.Alone ports start) = as_it_was (Received ports start)
-  by_keeps message (H.Part ports start p) = join_keeps (drop start message) ports p
+  by_keeps : (message : List ℕ) (h : Result Heading Refusal) → Keeps g store assembly (step_by g store message assembly h)
+  by_keeps message (Err refusal) = as_it_was (Err refusal)
+  by_keeps message (Ok (H.Alone ports start)) = as_it_was (Ok (Received ports start))
+  by_keeps message (Ok (H.Part ports start p)) = join_keeps (drop start message) ports p (held_at g p.reference) (vacant_at g)
 
   -- 16, 6, and 19 to 21 change nothing, the gathering included; 22 only drops the reference
   pub refusals_keep : (message : List ℕ) → Keeps g store assembly (step_of g store message assembly)
   unfolding step_of
   refusals_keep message =
-      either_way Left (Keeps g store assembly) (ltb (length store) 5600) _ _ (as_it_was (Refused R.Argument))
-      (either_way Left (Keeps g store assembly) (ltb (length assembly) 1400) _ _ (as_it_was (Refused R.Room))
+      either_way Left (Keeps g store assembly) (ltb (length store) 5600) _ _ (as_it_was (Err R.Argument))
+      (either_way Left (Keeps g store assembly) (ltb (length assembly) 1400) _ _ (as_it_was (Err R.Room))
       (by_keeps message (heading_of message)))
 
 -- "A part seen twice with equal bytes changes nothing": neither the gatherer nor a buffer
 pub seen_twice : (g : Gatherer) (k : ℕ) (s : Slot) (i : ℕ) (store part : List ℕ) (ports : Ports) (assembly : List ℕ)
     → (get_or s.sizes i 0 ≡ 0 → ⊥) → same_bytes (within store k s i) part ≡ true
-    → add_of g k s i store part ports assembly ≡ said g (Waiting ports s.reference (count_of s.sizes) s.total) store assembly
+    → add_of g k s i store part ports assembly ≡ leaves g (Ok (Waiting ports s.reference (count_of s.sizes) s.total)) store assembly
 unfolding add_of again_of
 seen_twice g k s i store part ports assembly h e = rw (ne_eqb (get_or s.sizes i 0) 0 h, e)
 
 -- "dropping one not held changes nothing"
-pub drop_nothing : (g : Gatherer) (r : ℕ) → held_at g r ≡ 4 → drop_of g r ≡ g
-unfolding drop_of
-drop_nothing g r e = rw (eq-eqb (held_at g r) 4 e)
+pub drop_nothing : (g : Gatherer) (r : ℕ) → held_at g r ≡ None → drop_of g r ≡ g
+drop_nothing g r e = rw e

@@ -1,6 +1,6 @@
 -- Two outcomes that meet the contract of one public call are the same: a theorem for each call, over the very predicate
--- of its `ensures` (`Determined`, in `digest`, says what is stated). `step` is one equation for what comes back and for
--- both lent buffers. `datagram` gives back a part of a lent slice: the same bytes.
+-- of its `ensures` (`Determined`, in `digest`, says what is stated). `step` is one equation for its answer, the gatherer
+-- and both lent buffers. `datagram` gives back a part of a lent slice: the same bytes.
 use mathlib.Core.Path.{◌≡◌, refl, sym, ◌∙◌, ap}
 use Rattle.digest.specs.Determined.{OneOutcome, OneOutcomeBy}
 use Rattle.gather.specs.Gatherer.{Left}
@@ -16,8 +16,8 @@ use Rattle.gather.proofs.gatherer.Gatherer.step as gatherer-gatherer-step
 use Rattle.gather.specs.contracts.gatherer.Gatherer.step as gatherer-gatherer-step-contract
 use Rattle.gather.proofs.gatherer.datagram as gatherer-datagram
 use Rattle.gather.specs.contracts.gatherer.datagram as gatherer-datagram-contract
-use Rattle.gather.proofs.slot.held_places as slot-held-places
-use Rattle.gather.specs.contracts.slot.held_places as slot-held-places-contract
+use Rattle.gather.proofs.slot.Slot.held_places as slot-slot-held_places
+use Rattle.gather.specs.contracts.slot.Slot.held_places as slot-slot-held_places-contract
 
 pub refusal_refusal_number_one : OneOutcome refusal-refusal-number-contract.ended refusal-refusal-number.Reads.Learnt
 refusal_refusal_number_one κs a x y s u e f = (e ∙ sym f, refl)
@@ -29,17 +29,17 @@ pub gatherer_gatherer_fresh_one : OneOutcome gatherer-gatherer-fresh-contract.en
 gatherer_gatherer_fresh_one κs a x y s u e f = (e ∙ sym f, refl)
 
 pub gatherer_gatherer_drop_one : OneOutcome gatherer-gatherer-drop-contract.ended gatherer-gatherer-drop.Reads.Learnt
-gatherer_gatherer_drop_one κs a x y s u e f = (e ∙ sym f, refl)
+gatherer_gatherer_drop_one κs a x y s u e f = (refl, λ i. ((e ∙ sym f) i, (tt, tt)))
 
 pub gatherer_gatherer_step_one : OneOutcome gatherer-gatherer-step-contract.ended gatherer-gatherer-step.Reads.Learnt
 gatherer_gatherer_step_one κs a x y s u e f =
     let same = e ∙ sym f in (
-      ap (λ (l : Left). record { gatherer = l.gatherer; answer = l.answer }) same,
-      ap (λ (l : Left). (tt, (l.store, (tt, (l.assembly, tt))))) same,
+      ap (λ (l : Left). l.answer) same,
+      ap (λ (l : Left). (l.gatherer, (l.store, (tt, (l.assembly, tt))))) same,
     )
 
 pub gatherer_datagram_one : OneOutcomeBy gatherer-datagram-contract.ended (λ κs x y. x.now ≡ y.now) gatherer-datagram.Reads.Learnt
 gatherer_datagram_one κs a x y s u e f = (e ∙ sym f, refl)
 
-pub slot_held_places_one : OneOutcome slot-held-places-contract.ended slot-held-places.Reads.Learnt
-slot_held_places_one κs a x y s u e f = (e ∙ sym f, refl)
+pub slot_slot_held_places_one : OneOutcome slot-slot-held_places-contract.ended slot-slot-held_places.Reads.Learnt
+slot_slot_held_places_one κs a x y s u e f = (e.0 ∙ sym f.0, refl)

@@ -11,13 +11,14 @@ use lib.Dec.{eqb}
 use borrow.Author.Tests.{eq-eqb, eqb-true}
 use Rattle.digest.specs.Pick.{pick}
 use Rattle.gather.specs.Slot.{free, holds}
+use Rattle.std.specs.Prelude.{Some, None}
 use Rattle.gather.specs.Gatherer.{slot_at, vacant_at}
-use Rattle.gather.specs.Map.{Entry, held, Map, is_held, held_below, held_in, places_of, room_of, look_up, slots_of, map_of, Sound}
+use Rattle.gather.specs.Map.{Entry, held, Map, is_held, held_below, held_in, places_of, room_of, look_up, map_of, Sound}
 use Rattle.gather.specs.declared.slot.Slot.{Slot}
 use Rattle.gather.specs.declared.gatherer.Gatherer.{Gatherer}
 use Rattle.gather.proofs.Always.{hot, hot_no, hot_yes, hot_once, holds_no, one_slot, none_held, few}
 use Rattle.gather.proofs.Headings.{not_first}
-use Rattle.gather.proofs.Mapping.{none_later, slot_of, vacant, all_full}
+use Rattle.gather.proofs.Mapping.{none_later, vacant, all_full}
 
 pub holds_own : (s : Slot) → eqb s.total 0 ≡ false → holds s s.reference ≡ true
 holds_own s h = rw (h, eq-eqb s.reference s.reference refl)
@@ -95,17 +96,14 @@ apart g sound i k r hi hk n e = go (holds (slot_at g k) r) refl
     go true q = absurd (n (sound.once i k r hi hk e q))
     go false q = q
 
-pub four_held : (g : Gatherer) (store : List ℕ) → Sound g → vacant_at g ≡ 4 → held_in (map_of g store) ≡ 4
-four_held g store sound h =
-    count_used 0 (slots_of g) store
-    (λ i l. ap (λ (s : Slot). eqb s.total 0) (slot_of g free i l) ∙ all_full g h i l)
-    (λ i l. rw (slot_of g free i l) (sound.fits i l).byte)
+pub four_held : (g : Gatherer) (store : List ℕ) → Sound g → vacant_at g ≡ None → held_in (map_of g store) ≡ 4
+four_held g store sound e =
+    count_used 0 g.slots store (all_full g e) (λ i l. (sound.fits i (omega (arith, sound.four))).byte)
     (λ i k l m.
-    ap (λ (s : Slot). holds s (get_or (slots_of g) i free).reference) (slot_of g free k m)
-    ∙ ap (λ (s : Slot). holds (slot_at g k) s.reference) (slot_of g free i (omega arith))
-    ∙ apart g sound i k (slot_at g i).reference (omega arith) m (λ e. omega arith) (holds_own (slot_at g i) (all_full g h i (omega arith))))
+    apart g sound i k (slot_at g i).reference (omega (arith, sound.four)) (omega (arith, sound.four)) (λ q. omega arith)
+    (holds_own (slot_at g i) (all_full g e i (omega arith))))
+    ∙ sound.four
 
-pub fewer_held : (g : Gatherer) (store : List ℕ) → (vacant_at g ≡ 4 → ⊥) → held_in (map_of g store) < 4
-fewer_held g store h =
-    let v = vacant g h in
-    count_free 0 (slots_of g) store (vacant_at g) v.0 (ap (λ (s : Slot). s.total) (slot_of g free (vacant_at g) v.0) ∙ v.1)
+pub fewer_held : (g : Gatherer) (store : List ℕ) (k : ℕ) → Sound g → vacant_at g ≡ Some k → held_in (map_of g store) < 4
+fewer_held g store k sound e =
+    let v = vacant g k e in omega (arith, count_free 0 g.slots store k v.0 v.1, sound.four)

@@ -8,124 +8,89 @@ use native.Mathlib.Omega.{arith}
 use native.Mathlib.Decide.{dec_le, ℕ_discrete}
 use lib.ListN.{length, get_or, take, drop, set, length-append, length-drop}
 use lib.Seq.{drop-drop, drop-append-le, take-append-le, drop-append-add, length-take-le}
-use lib.Dec.{eqb, ltb}
-use borrow.Author.Tests.{eq-eqb, ne_eqb, eqb-true, eqb-false}
+use lib.Dec.{eqb}
+use borrow.Author.Tests.{eq-eqb, ne_eqb, lt-ltb, eqb-true}
+use Rattle.std.specs.Prelude.{Some, None}
+use Rattle.std.specs.List.{position}
+use Rattle.std.proofs.lemmas.List.Quantifiers.{position-Some}
+use Rattle.std.proofs.lemmas.Grind.{common_steps}
 use Rattle.digest.specs.Pick.{pick}
 use Rattle.digest.specs.Bytes.{laid_over}
 use Rattle.gather.specs.Slot.{free, holds}
 use Rattle.gather.specs.Gatherer.{slot_at, with_slot, held_at, vacant_at}
-use Rattle.gather.specs.Map.{Entry, absent, held, with, places_of, room_of, look_up, slots_of, map_of}
+use Rattle.gather.specs.Map.{Entry, absent, held, with, places_of, room_of, look_up, map_of}
 use Rattle.gather.specs.declared.slot.Slot.{Slot}
 use Rattle.gather.specs.declared.gatherer.Gatherer.{Gatherer}
 use Rattle.gather.proofs.Finishing.{cut_of_front}
 
+-- ---- the first of a list that passes a test
+
+-- where none is found, none passes
+none_passes : {X : Type 0} (p : X → Bool) (xs : List X) (d : X) → position p xs ≡ None → (i : ℕ) → i < length xs → p (get_or xs i d) ≡ false
+none_passes p [] d e i h = absurd (omega arith)
+none_passes p (x ∷ xs) d e i h = go (p x) refl (none_passes p xs d) i h
+  where
+    go : (b : Bool) → p x ≡ b → (position p xs ≡ None → (j : ℕ) → j < length xs → p (get_or xs j d) ≡ false)
+        → (j : ℕ) → j < length (x ∷ xs) → p (get_or (x ∷ xs) j d) ≡ false
+    go true q rest j l = absurd (let z : ⊥ = cc (rw (q, lt-ltb 0 (suc (length xs)) (omega arith)) at e) in z)
+    go false q rest zero l = q
+    go false q rest (suc j) l = rest (grind (arith, common_steps)) j (omega arith)
+
 -- ---- which slot holds a reference
 
--- the first of four tests that holds
-abbrev first_of : Bool → Bool → Bool → Bool → ℕ
-first_of a b c d = pick a 0 (pick b 1 (pick c 2 (pick d 3 4)))
-
-found_by : (g : Gatherer) (r : ℕ) (a b c d : Bool) → holds g.first r ≡ a → holds g.second r ≡ b → holds g.third r ≡ c
-    → holds g.fourth r ≡ d → first_of a b c d < 4
-    → holds (slot_at g (first_of a b c d)) r ≡ true
-unfolding slot_at
-found_by g r true b c d ea eb ec ed h = ea
-found_by g r false true c d ea eb ec ed h = eb
-found_by g r false false true d ea eb ec ed h = ec
-found_by g r false false false true ea eb ec ed h = ed
-found_by g r false false false false ea eb ec ed h = absurd (let z : 4 < 4 = h in omega arith)
-
-pub found : (g : Gatherer) (r : ℕ) → held_at g r < 4 → holds (slot_at g (held_at g r)) r ≡ true
+pub found : (g : Gatherer) (r k : ℕ) → held_at g r ≡ Some k → (k < length g.slots) × (holds (slot_at g k) r ≡ true)
 unfolding held_at
-found g r h = found_by g r (holds g.first r) (holds g.second r) (holds g.third r) (holds g.fourth r) refl refl refl refl h
+found g r k e = let at = position-Some (λ s. holds s r) g.slots k free e in (at.0, at.1)
 
-pub at_four : (g : Gatherer) (P : Slot → Type 0) → P g.first → P g.second → P g.third → P g.fourth → (i : ℕ) → i < 4 → P (slot_at g i)
-unfolding slot_at
-at_four g P a b c d zero h = a
-at_four g P a b c d (suc zero) h = b
-at_four g P a b c d (suc (suc zero)) h = c
-at_four g P a b c d (suc (suc (suc zero))) h = d
-at_four g P a b c d (suc (suc (suc (suc i)))) h = absurd (let z : suc (suc (suc (suc i))) < 4 = h in omega arith)
-
-none_by : (g : Gatherer) (r : ℕ) (a b c d : Bool) → holds g.first r ≡ a → holds g.second r ≡ b → holds g.third r ≡ c
-    → holds g.fourth r ≡ d → 4 ≤ first_of a b c d → (i : ℕ) → i < 4 → holds (slot_at g i) r ≡ false
-none_by g r true b c d ea eb ec ed h = absurd (let z : 4 ≤ 0 = h in omega arith)
-none_by g r false true c d ea eb ec ed h = absurd (let z : 4 ≤ 1 = h in omega arith)
-none_by g r false false true d ea eb ec ed h = absurd (let z : 4 ≤ 2 = h in omega arith)
-none_by g r false false false true ea eb ec ed h = absurd (let z : 4 ≤ 3 = h in omega arith)
-none_by g r false false false false ea eb ec ed h = at_four g (λ s. holds s r ≡ false) ea eb ec ed
-
-pub none_holds : (g : Gatherer) (r : ℕ) → 4 ≤ held_at g r → (i : ℕ) → i < 4 → holds (slot_at g i) r ≡ false
+earlier : (g : Gatherer) (r k : ℕ) → held_at g r ≡ Some k → (i : ℕ) → i < k → holds (slot_at g i) r ≡ false
 unfolding held_at
-none_holds g r h = none_by g r (holds g.first r) (holds g.second r) (holds g.third r) (holds g.fourth r) refl refl refl refl h
+earlier g r k e = (position-Some (λ s. holds s r) g.slots k free e).2
 
-most_by : (a b c d : Bool) → first_of a b c d ≤ 4
-most_by true b c d = omega arith
-most_by false true c d = omega arith
-most_by false false true d = omega arith
-most_by false false false true = omega arith
-most_by false false false false = omega arith
-
-pub most_four : (g : Gatherer) (r : ℕ) → held_at g r ≤ 4
+pub none_holds : (g : Gatherer) (r : ℕ) → held_at g r ≡ None → (i : ℕ) → i < length g.slots → holds (slot_at g i) r ≡ false
 unfolding held_at
-most_four g r = most_by (holds g.first r) (holds g.second r) (holds g.third r) (holds g.fourth r)
+none_holds g r e = none_passes (λ s. holds s r) g.slots free e
 
--- what the map says of a reference
-entry_at : Gatherer → List ℕ → ℕ → Entry
-entry_at g store k = held (slot_at g k).total (places_of (slot_at g k).sizes (room_of store k))
+-- ---- what the map says of a reference
 
-looked_by : (g : Gatherer) (store : List ℕ) (r : ℕ) (a b c d : Bool) → holds g.first r ≡ a → holds g.second r ≡ b
-    → holds g.third r ≡ c → holds g.fourth r ≡ d
-    → look_up 0 (slots_of g) store r
-    ≡ pick (ltb (first_of a b c d) 4) (entry_at g store (first_of a b c d)) absent
-unfolding slot_at look_up entry_at
-looked_by g store r true b c d ea eb ec ed = rw ea
-looked_by g store r false true c d ea eb ec ed = rw (ea, eb)
-looked_by g store r false false true d ea eb ec ed = rw (ea, eb, ec)
-looked_by g store r false false false true ea eb ec ed = rw (ea, eb, ec, ed)
-looked_by g store r false false false false ea eb ec ed = rw (ea, eb, ec, ed)
+look_held : (j : ℕ) (slots : List Slot) (store : List ℕ) (k r : ℕ) → k < length slots → holds (get_or slots k free) r ≡ true
+    → ((i : ℕ) → i < k → holds (get_or slots i free) r ≡ false)
+    → look_up j slots store r ≡ held (get_or slots k free).total (places_of (get_or slots k free).sizes (room_of store (j + k)))
+unfolding look_up
+look_held j [] store k r h e before = absurd (omega arith)
+look_held j (s ∷ slots) store zero r h e before =
+    let here : j ≡ j + 0 = omega arith in rw e (λ i. held s.total (places_of s.sizes (room_of store (here i))))
+look_held j (s ∷ slots) store (suc k) r h e before =
+    let here : suc j + k ≡ j + suc k = omega arith in
+    let s₁ = get_or slots k free in
+    rw (before 0 (omega arith))
+    (look_held (suc j) slots store k r (omega arith) e (λ i l. before (suc i) (omega arith))
+    ∙ ap (λ (m : ℕ). held s₁.total (places_of s₁.sizes (room_of store m))) here)
 
-looked : (g : Gatherer) (store : List ℕ) (r : ℕ) → map_of g store r ≡ pick (ltb (held_at g r) 4) (entry_at g store (held_at g r)) absent
-unfolding held_at
-looked g store r = looked_by g store r (holds g.first r) (holds g.second r) (holds g.third r) (holds g.fourth r) refl refl refl refl
+pub map_held : (g : Gatherer) (store : List ℕ) (r k : ℕ) → held_at g r ≡ Some k
+    → map_of g store r ≡ held (slot_at g k).total (places_of (slot_at g k).sizes (room_of store k))
+map_held g store r k e =
+    let at = found g r k e in
+    look_held 0 g.slots store k r at.0 at.1 (earlier g r k e)
+    ∙ ap (λ (m : ℕ). held (slot_at g k).total (places_of (slot_at g k).sizes (room_of store m))) (native.Mathlib.Nat.zero-add k)
 
-pub map_held : (g : Gatherer) (store : List ℕ) (r : ℕ) → held_at g r < 4
-    → map_of g store r ≡ held (slot_at g (held_at g r)).total (places_of (slot_at g (held_at g r)).sizes (room_of store (held_at g r)))
-unfolding entry_at
-map_held g store r h = looked g store r ∙ rw (borrow.Author.Tests.lt-ltb (held_at g r) 4 h)
+pub none_later : (j : ℕ) (slots : List Slot) (store : List ℕ) (r : ℕ) → ((i : ℕ) → i < length slots → holds (get_or slots i free) r ≡ false)
+    → look_up j slots store r ≡ absent
+unfolding look_up
+none_later j [] store r h = refl
+none_later j (s ∷ slots) store r h = rw (h 0 (omega arith)) (none_later (suc j) slots store r (λ i l. h (suc i) (omega arith)))
 
-pub map_absent : (g : Gatherer) (store : List ℕ) (r : ℕ) → 4 ≤ held_at g r → map_of g store r ≡ absent
-map_absent g store r h = looked g store r ∙ rw (borrow.Author.Tests.le-ltb (held_at g r) 4 h)
+pub map_absent : (g : Gatherer) (store : List ℕ) (r : ℕ) → held_at g r ≡ None → map_of g store r ≡ absent
+map_absent g store r e = none_later 0 g.slots store r (none_holds g r e)
 
 -- ---- which slot is free
 
-vacant_by : (g : Gatherer) (a b c d : Bool) → eqb g.first.total 0 ≡ a → eqb g.second.total 0 ≡ b → eqb g.third.total 0 ≡ c
-    → eqb g.fourth.total 0 ≡ d → (first_of a b c d ≡ 4 → ⊥)
-    → (first_of a b c d < 4) × ((slot_at g (first_of a b c d)).total ≡ 0)
-unfolding slot_at
-vacant_by g true b c d ea eb ec ed h = (omega arith, eqb-true g.first.total 0 ea)
-vacant_by g false true c d ea eb ec ed h = (omega arith, eqb-true g.second.total 0 eb)
-vacant_by g false false true d ea eb ec ed h = (omega arith, eqb-true g.third.total 0 ec)
-vacant_by g false false false true ea eb ec ed h = (omega arith, eqb-true g.fourth.total 0 ed)
-vacant_by g false false false false ea eb ec ed h = absurd (h refl)
-
-pub vacant : (g : Gatherer) → (vacant_at g ≡ 4 → ⊥) → (vacant_at g < 4) × ((slot_at g (vacant_at g)).total ≡ 0)
+pub vacant : (g : Gatherer) (k : ℕ) → vacant_at g ≡ Some k → (k < length g.slots) × ((slot_at g k).total ≡ 0)
 unfolding vacant_at
-vacant g h =
-    vacant_by g (eqb g.first.total 0) (eqb g.second.total 0) (eqb g.third.total 0) (eqb g.fourth.total 0) refl refl refl refl h
+vacant g k e = let at = position-Some (λ (s : Slot). eqb s.total 0) g.slots k free e in (at.0, eqb-true (slot_at g k).total 0 at.1)
 
-full_by : (g : Gatherer) (a b c d : Bool) → eqb g.first.total 0 ≡ a → eqb g.second.total 0 ≡ b → eqb g.third.total 0 ≡ c
-    → eqb g.fourth.total 0 ≡ d → first_of a b c d ≡ 4 → (i : ℕ) → i < 4 → eqb (slot_at g i).total 0 ≡ false
-full_by g true b c d ea eb ec ed h = absurd (let z : 0 ≡ 4 = h in omega arith)
-full_by g false true c d ea eb ec ed h = absurd (let z : 1 ≡ 4 = h in omega arith)
-full_by g false false true d ea eb ec ed h = absurd (let z : 2 ≡ 4 = h in omega arith)
-full_by g false false false true ea eb ec ed h = absurd (let z : 3 ≡ 4 = h in omega arith)
-full_by g false false false false ea eb ec ed h = at_four g (λ s. eqb s.total 0 ≡ false) ea eb ec ed
-
-pub all_full : (g : Gatherer) → vacant_at g ≡ 4 → (i : ℕ) → i < 4 → eqb (slot_at g i).total 0 ≡ false
+pub all_full : (g : Gatherer) → vacant_at g ≡ None → (i : ℕ) → i < length g.slots → eqb (slot_at g i).total 0 ≡ false
 unfolding vacant_at
-all_full g h =
-    full_by g (eqb g.first.total 0) (eqb g.second.total 0) (eqb g.third.total 0) (eqb g.fourth.total 0) refl refl refl refl h
+all_full g e = none_passes (λ (s : Slot). eqb s.total 0) g.slots free e
 
 -- ---- one slot changed
 
@@ -143,7 +108,7 @@ same_slots j (s ∷ slots) store store₁ k x h rooms =
     λ i. pick (holds s x) (held s.total (places_of s.sizes (room i))) (rest i)
 
 other_reference : (j : ℕ) (slots : List Slot) (store store₁ : List ℕ) (n k x : ℕ) (s₁ : Slot) → n < length slots → k ≡ j + n
-    → Rooms k store store₁ → holds s₁ x ≡ false → holds (get_or slots n s₁) x ≡ false
+    → Rooms k store store₁ → holds s₁ x ≡ false → holds (get_or slots n free) x ≡ false
     → look_up j (set slots n s₁) store₁ x ≡ look_up j slots store x
 unfolding look_up
 other_reference j [] store store₁ n k x s₁ h e rooms h₁ h₀ = absurd (let z : suc n ≤ 0 = h in omega arith)
@@ -153,12 +118,6 @@ other_reference j (s ∷ slots) store store₁ (suc n) k x s₁ h e rooms h₁ h
     let room = rooms j (λ q. omega arith) in
     let rest = other_reference (suc j) slots store store₁ n k x s₁ (omega arith) (omega arith) rooms h₁ h₀ in
     λ i. pick (holds s x) (held s.total (places_of s.sizes (room i))) (rest i)
-
-pub none_later : (j : ℕ) (slots : List Slot) (store : List ℕ) (r : ℕ) → ((i : ℕ) → i < length slots → holds (get_or slots i free) r ≡ false)
-    → look_up j slots store r ≡ absent
-unfolding look_up
-none_later j [] store r h = refl
-none_later j (s ∷ slots) store r h = rw (h 0 (omega arith)) (none_later (suc j) slots store r (λ i l. h (suc i) (omega arith)))
 
 this_reference : (j : ℕ) (slots : List Slot) (store : List ℕ) (n r : ℕ) (s₁ : Slot) → n < length slots
     → ((i : ℕ) → i < length slots → (i ≡ n → ⊥) → holds (get_or slots i free) r ≡ false)
@@ -175,41 +134,22 @@ this_reference j (s ∷ slots) store (suc n) r s₁ h others =
     (this_reference (suc j) slots store n r s₁ (omega arith) (λ i l e. others (suc i) (omega arith) (λ q. e (omega arith)))
     ∙ ap (λ (m : ℕ). pick (holds s₁ r) (held s₁.total (places_of s₁.sizes (room_of store m))) absent) here)
 
-pub slot_of : (g : Gatherer) (d : Slot) (k : ℕ) → k < 4 → get_or (slots_of g) k d ≡ slot_at g k
-unfolding slot_at
-slot_of g d zero h = refl
-slot_of g d (suc zero) h = refl
-slot_of g d (suc (suc zero)) h = refl
-slot_of g d (suc (suc (suc zero))) h = refl
-slot_of g d (suc (suc (suc (suc k)))) h = absurd (let z : suc (suc (suc (suc k))) < 4 = h in omega arith)
-
-pub set_of : (g : Gatherer) (s : Slot) (k : ℕ) → k < 4 → slots_of (with_slot g k s) ≡ set (slots_of g) k s
-unfolding with_slot
-set_of g s zero h = refl
-set_of g s (suc zero) h = refl
-set_of g s (suc (suc zero)) h = refl
-set_of g s (suc (suc (suc zero))) h = refl
-set_of g s (suc (suc (suc (suc k)))) h = absurd (let z : suc (suc (suc (suc k))) < 4 = h in omega arith)
-
 -- the map after slot k, which held r or nothing, is s₁, which holds r or nothing
-pub updated : (g : Gatherer) (store store₁ : List ℕ) (k r : ℕ) (s₁ : Slot) (e : Entry) → k < 4 → Rooms k store store₁
+pub updated : (g : Gatherer) (store store₁ : List ℕ) (k r : ℕ) (s₁ : Slot) (e : Entry) → k < length g.slots → Rooms k store store₁
     → ((x : ℕ) → (x ≡ r → ⊥) → holds s₁ x ≡ false) → ((x : ℕ) → (x ≡ r → ⊥) → holds (slot_at g k) x ≡ false)
-    → ((i : ℕ) → i < 4 → (i ≡ k → ⊥) → holds (slot_at g i) r ≡ false)
+    → ((i : ℕ) → i < length g.slots → (i ≡ k → ⊥) → holds (slot_at g i) r ≡ false)
     → pick (holds s₁ r) (held s₁.total (places_of s₁.sizes (room_of store₁ k))) absent ≡ e
     → (x : ℕ) → map_of (with_slot g k s₁) store₁ x ≡ with (map_of g store) r e x
 updated g store store₁ k r s₁ e few rooms new old others eq x =
     by_cases (ℕ_discrete x r)
     (λ same.
-    ap (λ (l : List Slot). look_up 0 l store₁ x) (set_of g s₁ k few)
-    ∙ ap (λ (y : ℕ). look_up 0 (set (slots_of g) k s₁) store₁ y) same
-    ∙ this_reference 0 (slots_of g) store₁ k r s₁ few (λ i l n. ap (λ (s : Slot). holds s r) (slot_of g free i l) ∙ others i l n)
+    ap (λ (y : ℕ). look_up 0 (set g.slots k s₁) store₁ y) same
+    ∙ this_reference 0 g.slots store₁ k r s₁ few others
     ∙ ap (λ (m : ℕ). pick (holds s₁ r) (held s₁.total (places_of s₁.sizes (room_of store₁ m))) absent) (native.Mathlib.Nat.zero-add k)
     ∙ eq
     ∙ sym (ap (λ (b : Bool). pick b e (map_of g store x)) (eq-eqb x r same)))
     (λ n.
-    ap (λ (l : List Slot). look_up 0 l store₁ x) (set_of g s₁ k few)
-    ∙ other_reference 0 (slots_of g) store store₁ k k x s₁ few (sym (native.Mathlib.Nat.zero-add k)) rooms (new x n)
-    (ap (λ (s : Slot). holds s x) (slot_of g s₁ k few) ∙ old x n)
+    other_reference 0 g.slots store store₁ k k x s₁ few (sym (native.Mathlib.Nat.zero-add k)) rooms (new x n) (old x n)
     ∙ sym (ap (λ (b : Bool). pick b e (map_of g store x)) (ne_eqb x r n)))
 
 -- ---- bytes laid into one room leave the others

@@ -5,22 +5,24 @@ use mathlib.Core.List.{List}
 use mathlib.Core.Logic.{by_cases}
 use Prim.Native.Nat.{ℕ, zero, suc, ◌+◌, ◌-◌, ◌*◌, ◌≤◌, ◌<◌}
 use native.Mathlib.Omega.{arith}
-use native.Mathlib.Decide.{dec_le, ℕ_discrete}
+use native.Mathlib.Decide.{ℕ_discrete}
 use lib.ListN.{length, get_or, take, drop, replicate}
 use lib.Seq.{drop-drop}
 use lib.Dec.{eqb}
-use borrow.Author.Tests.{eq-eqb, ne_eqb, lt-ltb, le-ltb, le-leb, lt-leb}
+use borrow.Author.Tests.{eq-eqb, ne_eqb, le-ltb, le-leb, lt-leb}
 use Rattle.digest.specs.Pick.{pick}
 use Rattle.digest.specs.Mac.{same_bytes}
 use Rattle.gather.specs.Header.{heading_of}
 use Rattle.gather.specs.Slot.{begun, holds, sum_of, below, together}
-use Rattle.gather.specs.Gatherer.{slot_at, held_at, vacant_at, within, again_of, add_of, join_of, step_by, step_of}
+use Rattle.std.specs.Prelude.{Option, Some, None, Result, Ok, Err}
+use Rattle.gather.specs.Gatherer.{slot_at, held_at, vacant_at, within, again_of, add_of, join_by, join_of, step_by, step_of}
 use Rattle.gather.specs.Map.{Part, missing, there, Entry, absent, held, held_in, have, refused, waiting, placed, joins, message_by, message_of, places_of, room_of, map_of, Fits, Sound, Bytes}
 use Rattle.gather.specs.declared.slot.Slot.{Slot}
 use Rattle.gather.specs.declared.header.Ports.{Ports}
 use Rattle.gather.specs.declared.header.Place.{Place}
 use Rattle.gather.specs.declared.header.Heading.{Heading}
 use Rattle.gather.specs.declared.header.Heading.TheVariants as H
+use Rattle.gather.specs.declared.refusal.Refusal.{Refusal}
 use Rattle.gather.specs.declared.refusal.Refusal.TheVariants as R
 use Rattle.gather.specs.declared.gatherer.Gatherer.{Gatherer}
 use Rattle.gather.proofs.Always.{holds_no}
@@ -81,17 +83,17 @@ held_by g store message assembly k s i part ports false h e =
 -- ---- a part, whether its place is held or not
 
 module _ (g : Gatherer) (store message assembly : List ℕ) (long : 5600 ≤ length store) (roomy : 1400 ≤ length assembly) where
-  added : (k : ℕ) (s : Slot) (i : ℕ) (part : List ℕ) (ports : Ports) → k < 4 → i < 11 → Fits s → eqb s.total 0 ≡ false
+  added : (k : ℕ) (s : Slot) (i : ℕ) (part : List ℕ) (ports : Ports) → length g.slots ≡ 4 → k < 4 → i < 11 → Fits s → eqb s.total 0 ≡ false
       → ((x : ℕ) → (x ≡ s.reference → ⊥) → holds (slot_at g k) x ≡ false)
-      → ((j : ℕ) → j < 4 → (j ≡ k → ⊥) → holds (slot_at g j) s.reference ≡ false)
+      → ((j : ℕ) → j < length g.slots → (j ≡ k → ⊥) → holds (slot_at g j) s.reference ≡ false)
       → Means message (add_of g k s i store part ports assembly)
       (placed (map_of g store) s.reference s.total (places_of s.sizes (room_of store k)) i part (get_or (places_of s.sizes (room_of store k)) i missing))
-  added k s i part ports few place fits used old others =
+  added k s i part ports four few place fits used old others =
       by_cases (ℕ_discrete (get_or s.sizes i 0) 0)
       (λ gone.
       subst (λ (p : Part). Means message (add_of g k s i store part ports assembly) (placed (map_of g store) s.reference s.total (places_of s.sizes (room_of store k)) i part p))
       (sym (place_missing s.sizes (room_of store k) i gone))
-      (put_means g store message assembly k s i part ports few place fits used old others long roomy gone))
+      (put_means g store message assembly k s i part ports four few place fits used old others long roomy gone))
       (λ there-is.
       let size : get_or s.sizes i 0 ≡ suc (get_or s.sizes i 0 - 1) = omega arith in
       subst (λ (p : Part). Means message (add_of g k s i store part ports assembly) (placed (map_of g store) s.reference s.total (places_of s.sizes (room_of store k)) i part p))
@@ -111,51 +113,52 @@ module _ (g : Gatherer) (store message assembly : List ℕ) (long : 5600 ≤ len
 
   module _ (sound : Sound g) (part : List ℕ) (ports : Ports) (p : Place) (positive : 0 < p.place) (eleven : p.place ≤ 11)
       (several : p.total ≡ 0 → ⊥) (byte : p.reference < 256) where
-    abbrev h : ℕ
-    h = held_at g p.reference
-
-    held_means : h < 4 → (b : Bool) → eqb (slot_at g h).total p.total ≡ b
-        → Means message (join_of g store part ports p assembly)
-        (joins (map_of g store) p part (held (slot_at g h).total (places_of (slot_at g h).sizes (room_of store h))))
-    unfolding join_of
-    held_means few true e =
-        let is = owned (slot_at g h) p.reference (found g p.reference few) in
-        rw (lt-ltb h 4 few, e)
-        (subst (λ (r : ℕ). Means message (add_of g h (slot_at g h) (p.place - 1) store part ports assembly) (placed (map_of g store) r (slot_at g h).total (places_of (slot_at g h).sizes (room_of store h)) (p.place - 1) part (get_or (places_of (slot_at g h).sizes (room_of store h)) (p.place - 1) missing)))
+    held_means : (k : ℕ) → held_at g p.reference ≡ Some k → (b : Bool) → eqb (slot_at g k).total p.total ≡ b
+        → Means message (join_by g store part ports p assembly (Some k) (vacant_at g))
+        (joins (map_of g store) p part (held (slot_at g k).total (places_of (slot_at g k).sizes (room_of store k))))
+    held_means k at true e =
+        let there = found g p.reference k at in
+        let few : k < 4 = omega (arith, sound.four, there.0) in
+        let is = owned (slot_at g k) p.reference there.1 in
+        rw e
+        (subst (λ (r : ℕ). Means message (add_of g k (slot_at g k) (p.place - 1) store part ports assembly) (placed (map_of g store) r (slot_at g k).total (places_of (slot_at g k).sizes (room_of store k)) (p.place - 1) part (get_or (places_of (slot_at g k).sizes (room_of store k)) (p.place - 1) missing)))
         is.1
-        (added h (slot_at g h) (p.place - 1) part ports few (omega arith) (sound.fits h few) is.0 (λ x n. holds_no (slot_at g h) x (λ q. n (sym q)))
-        (λ j l n. apart g sound h j (slot_at g h).reference few l (λ q. n (sym q)) (holds_own (slot_at g h) is.0))))
-    held_means few false e = rw (lt-ltb h 4 few, e) (record { answer = refl; gathering = λ x. refl })
+        (added k (slot_at g k) (p.place - 1) part ports sound.four few (omega arith) (sound.fits k few) is.0 (λ x n. holds_no (slot_at g k) x (λ q. n (sym q)))
+        (λ j l n. apart g sound k j (slot_at g k).reference few (omega (arith, sound.four)) (λ q. n (sym q)) (holds_own (slot_at g k) is.0))))
+    held_means k at false e = rw e (record { answer = refl; gathering = λ x. refl })
 
-    new_means : 4 ≤ h → Means message (join_of g store part ports p assembly) (joins (map_of g store) p part absent)
-    unfolding join_of places_of
-    new_means none =
-        by_cases (ℕ_discrete (vacant_at g) 4)
-        (λ e.
-        rw (le-ltb h 4 none, eq-eqb (vacant_at g) 4 e, le-leb 4 (held_in (map_of g store)) (omega (arith, four_held g store sound e)))
-        (record { answer = refl; gathering = λ x. refl }))
-        (λ n.
-        let v = vacant g n in
+    new_means : held_at g p.reference ≡ None → (room : Option ℕ) → vacant_at g ≡ room
+        → Means message (join_by g store part ports p assembly None room) (joins (map_of g store) p part absent)
+    unfolding places_of
+    new_means none None e =
+        rw (le-leb 4 (held_in (map_of g store)) (omega (arith, four_held g store sound e)))
+        (record { answer = refl; gathering = λ x. refl })
+    new_means none (Some k) e =
+        let v = vacant g k e in
         let s = begun p.reference p.total in
         let fits : Fits s = record { byte = byte; eleven = refl; bytes = zeros } in
-        rw (le-ltb h 4 none, ne_eqb (vacant_at g) 4 n, lt-leb 4 (held_in (map_of g store)) (fewer_held g store n))
-        (put_means g store message assembly (vacant_at g) s (p.place - 1) part ports v.0 (omega arith) fits
-        (ne_eqb p.total 0 several) (λ x q. free_holds (slot_at g (vacant_at g)) x v.1)
-        (λ j l q. none_holds g p.reference none j l) long roomy (zero_sizes (p.place - 1))))
+        rw (lt-leb 4 (held_in (map_of g store)) (fewer_held g store k sound e))
+        (put_means g store message assembly k s (p.place - 1) part ports sound.four (omega (arith, sound.four, v.0)) (omega arith) fits
+        (ne_eqb p.total 0 several) (λ x q. free_holds (slot_at g k) x v.1) (λ j l q. none_holds g p.reference none j l) long roomy
+        (zero_sizes (p.place - 1)))
+
+    joined_means : (at : Option ℕ) → held_at g p.reference ≡ at
+        → Means message (join_by g store part ports p assembly at (vacant_at g)) (joins (map_of g store) p part (map_of g store p.reference))
+    joined_means (Some k) e =
+        subst (λ (x : Entry). Means message (join_by g store part ports p assembly (Some k) (vacant_at g)) (joins (map_of g store) p part x))
+        (sym (map_held g store p.reference k e)) (held_means k e (eqb (slot_at g k).total p.total) refl)
+    joined_means None e =
+        subst (λ (x : Entry). Means message (join_by g store part ports p assembly None (vacant_at g)) (joins (map_of g store) p part x))
+        (sym (map_absent g store p.reference e)) (new_means e (vacant_at g) refl)
 
     join_means : Means message (join_of g store part ports p assembly) (joins (map_of g store) p part (map_of g store p.reference))
-    join_means =
-        by_cases (dec_le 4 h)
-        (λ none. subst (λ (e : Entry). Means message (join_of g store part ports p assembly) (joins (map_of g store) p part e)) (sym (map_absent g store p.reference none)) (new_means none))
-        (λ l.
-        let few : h < 4 = omega arith in
-        subst (λ (e : Entry). Means message (join_of g store part ports p assembly) (joins (map_of g store) p part e)) (sym (map_held g store p.reference few)) (held_means few (eqb (slot_at g h).total p.total) refl))
+    join_means = joined_means (held_at g p.reference) refl
 
-  by_means : Sound g → Bytes message → (heading : Heading) → heading_of message ≡ heading
+  by_means : Sound g → Bytes message → (heading : Result Heading Refusal) → heading_of message ≡ heading
       → Means message (step_by g store message assembly heading) (message_by (map_of g store) message heading)
-  by_means sound bytes H.Refused e = record { answer = refl; gathering = λ x. refl }
-  by_means sound bytes (H.Alone ports start) e = record { answer = refl; gathering = λ x. refl }
-  by_means sound bytes (H.Part ports start p) e =
+  by_means sound bytes (Err refusal) e = record { answer = refl; gathering = λ x. refl }
+  by_means sound bytes (Ok (H.Alone ports start)) e = record { answer = refl; gathering = λ x. refl }
+  by_means sound bytes (Ok (H.Part ports start p)) e =
       let w = part_within message ports start p e in
       join_means sound (drop start message) ports p w.positive (omega (arith, w.up_to, w.eleven))
       (λ z. omega (arith, w.up_to, w.positive)) (reference_byte message ports start p bytes e)

@@ -1,12 +1,19 @@
 -- The sums over the sizes of a slot.
-use mathlib.Core.Path.{◌≡◌, refl, sym, ap, ◌∙◌}
+use mathlib.Core.Path.{◌≡◌, refl, ap, ◌∙◌}
 use mathlib.Core.List.{List, [], ◌∷◌}
-use Prim.Native.Nat.{ℕ, zero, suc, ◌+◌, ◌-◌, ◌*◌, ◌≤◌, ◌<◌}
+use Prim.Native.Nat.{ℕ, zero, suc, ◌+◌, ◌-◌, ◌≤◌, ◌<◌}
 use native.Mathlib.Omega.{arith}
 use native.Mathlib.Numerals.{add-one}
+use native.Mathlib.Nat.{zero-add}
 use lib.ListN.{length, get_or, take}
+use lib.Dec.{eqb}
+use mathlib.Core.Bool.{not}
+use Rattle.std.specs.Prelude.{cond, min}
+use Rattle.std.specs.List.{sum_by, count_by}
+use Rattle.std.proofs.lemmas.List.Recursion.{is_sum_by, is_count_by}
+use borrow.Author.Tests.{ne_eqb}
 use Rattle.digest.proofs.Picks.{picks}
-use Rattle.gather.specs.Slot.{together, sum_of, below}
+use Rattle.gather.specs.Slot.{held_in, together, count_of, sum_of, below}
 use Rattle.gather.specs.declared.slot.Slot.{Slot}
 
 together_suc : (f : ℕ → ℕ) (s : List ℕ) (i : ℕ) → i < length s → together f (take (suc i) s) ≡ together f (take i s) + f (get_or s i 0)
@@ -20,28 +27,6 @@ together_suc f (x ∷ s) (suc i) h =
 -- one place more
 pub together_more : (f : ℕ → ℕ) (s : List ℕ) (i : ℕ) → i < length s → together f (take (i + 1) s) ≡ together f (take i s) + f (get_or s i 0)
 together_more f s i h = ap (λ (n : ℕ). together f (take n s)) (add-one i) ∙ together_suc f s i h
-
--- what is summed so far, and its bound
-pub record Summed (f : ℕ → ℕ) (most : ℕ) (s : List ℕ) (sum i : ℕ) : Type 0 where
-  pub so_far : sum ≡ together f (take i s)
-  pub small : sum ≤ most * i
-
-pub none_yet : (f : ℕ → ℕ) (most : ℕ) (s : List ℕ) → Summed f most s 0 0
-unfolding together
-none_yet f most s = record { so_far = refl; small = omega arith }
-
-pub one_more : (f : ℕ → ℕ) (most : ℕ) (s : List ℕ) (sum i x : ℕ) → Summed f most s sum i → i < length s → x ≡ f (get_or s i 0) → x ≤ most
-    → Summed f most s (sum + x) (i + 1)
-one_more f most s sum i x w h e b =
-    record {
-      so_far = ap (λ (n : ℕ). n + x) w.so_far ∙ ap (λ (n : ℕ). together f (take i s) + n) e ∙ sym (together_more f s i h);
-      small = bound;
-    }
-  where
-    bound : sum + x ≤ most * (i + 1)
-    bound =
-        let d : most * (i + 1) ≡ most * i + most = native.Mathlib.Nat.mul-add most i 1 ∙ ap (λ (n : ℕ). most * i + n) (native.Mathlib.Nat.mul-one most) in
-        omega (arith, w.small)
 
 -- a slot's bytes up to a place, 1,400 at most
 pub cut_down : (s : Slot) (n sum : ℕ) → sum ≡ sum_of (take n s.sizes) → 1400 < sum → 1400 ≡ below s n
@@ -91,3 +76,25 @@ below_mono s m n h = go (sum_of (take m s.sizes)) (sum_of (take n s.sizes)) (tog
         (λ k. mathlib.Core.Logic.by_cases (native.Mathlib.Decide.dec_le x 1400)
         (λ l. omega (arith, small x l, large y (omega arith)))
         (λ l. omega (arith, large x (omega arith), large y (omega arith))))
+
+-- ---- the sums as std says them
+
+pub summed : (f : ℕ → ℕ) (s : List ℕ) → together f s ≡ sum_by f s
+unfolding together
+summed f s = is_sum_by (together f) f refl (λ x xs. refl) s
+
+held_or_not : (x : ℕ) (n : ℕ) → held_in x + n ≡ cond (not (eqb x 0)) (1 + n) n
+held_or_not zero n = zero-add n
+held_or_not (suc x) n = rw (ne_eqb (suc x) 0 (λ e. omega arith)) refl
+
+pub counted : (s : List ℕ) → count_of s ≡ count_by (λ x. not (eqb x 0)) s
+unfolding together
+counted s = is_count_by count_of (λ x. not (eqb x 0)) refl (λ x xs. held_or_not x (count_of xs)) s
+
+-- as the code takes the sum up to a place, 1,400 at most
+pub below_min : (s : Slot) (n : ℕ) → min (sum_of (take n s.sizes)) 1400 ≡ below s n
+unfolding below
+below_min s n = go (sum_of (take n s.sizes))
+  where
+    go : (x : ℕ) → min x 1400 ≡ Rattle.digest.specs.Pick.pick (lib.Dec.ltb 1400 x) 1400 x
+    go x = mathlib.Core.Logic.by_cases (native.Mathlib.Decide.dec_le x 1400) (λ h. rw (borrow.Author.Tests.le-ltb 1400 x h) (omega arith)) (λ h. rw (borrow.Author.Tests.lt-ltb 1400 x (omega arith)) (omega arith))

@@ -1,39 +1,45 @@
 -- The walk over a header's elements. The idea: the answer for the whole header is the answer for what is left of it, from
 -- what is noted so far on; one more element moves both one on (`go_on`), and each way out of the loop ends it.
-use mathlib.Core.Path.{◌≡◌, sym, ap, ◌∙◌}
+use mathlib.Core.Path.{◌≡◌, refl, ap, ◌∙◌, sym}
 use mathlib.Core.List.{List}
 use Prim.Native.Nat.{ℕ, zero, suc, ◌+◌, ◌-◌, ◌≤◌, ◌<◌}
 use native.Mathlib.Omega.{arith}
-use native.Mathlib.Nat.{add-zero}
 use lib.ListN.{length, get_or, take, drop, length-drop}
-use lib.Seq.{get_or-drop, drop-drop}
+use lib.Seq.{drop-drop, take_all}
 use borrow.Author.Tests.{eq-eqb, ne_eqb, lt-ltb, le-ltb}
+use Rattle.std.specs.Prelude.{Result, Ok, Err}
+use Rattle.std.specs.List.{IsSplitAt}
 use Rattle.gather.specs.Header.{nothing, element_of, onward, elements_from, walked_of}
 use Rattle.gather.specs.declared.header.Noted.{Noted}
-use Rattle.gather.specs.declared.header.Elements.{Elements}
-use Rattle.gather.specs.declared.header.Elements.TheVariants.{Fault, Whole}
+use Rattle.gather.specs.declared.refusal.Refusal.{Refusal}
+use Rattle.gather.specs.declared.refusal.Refusal.TheVariants as R
 
--- where the loop stands in the header h: the next element begins at `at`, and n is noted
-pub record Walking (h : List ℕ) (n : Noted) (at : ℕ) : Type 0 where
-  pub inside : at ≤ length h
+-- where the loop stands in the header h: these bytes are left, and n is noted
+pub record Walking (h : List ℕ) (n : Noted) (rest : List ℕ) : Type 0 where
   pub most : ℕ
-  pub enough : length h - at ≤ most
-  pub so_far : walked_of h ≡ elements_from most n (drop at h)
+  pub enough : length rest ≤ most
+  pub so_far : walked_of h ≡ elements_from most n rest
+
+pub begun : (h : List ℕ) → Walking h nothing h
+unfolding walked_of
+begun h = record { most = length h; enough = omega arith; so_far = refl }
 
 -- ---- one step of the definition
 
-none_left : (most : ℕ) (n : Noted) (s : List ℕ) → length s ≡ 0 → elements_from most n s ≡ Whole n
+none_left : (most : ℕ) (n : Noted) (s : List ℕ) → length s ≡ 0 → elements_from most n s ≡ Ok n
 unfolding elements_from
 none_left zero n s e = rw (eq-eqb (length s) 0 e)
 none_left (suc most) n s e = rw (eq-eqb (length s) 0 e)
 
-lone : (most : ℕ) (n : Noted) (s : List ℕ) → 0 < length s → length s < 2 → elements_from (suc most) n s ≡ Fault
+lone : (most : ℕ) (n : Noted) (s : List ℕ) → (length s ≡ 0 → ⊥) → length s < 2 → elements_from most n s ≡ Err R.Header
 unfolding elements_from
-lone most n s h k = rw (ne_eqb (length s) 0 (λ e. omega arith), lt-ltb (length s) 2 k)
+lone zero n s h k = rw (ne_eqb (length s) 0 h)
+lone (suc most) n s h k = rw (ne_eqb (length s) 0 h, lt-ltb (length s) 2 k)
 
-past : (most : ℕ) (n : Noted) (s : List ℕ) → 2 ≤ length s → length s - 2 < get_or s 1 0 → elements_from (suc most) n s ≡ Fault
+past : (most : ℕ) (n : Noted) (s : List ℕ) → 2 ≤ length s → length s - 2 < get_or s 1 0 → length s ≤ most → elements_from most n s ≡ Err R.Header
 unfolding elements_from
-past most n s h k = rw (ne_eqb (length s) 0 (λ e. omega arith), le-ltb (length s) 2 h, lt-ltb (length s - 2) (get_or s 1 0) k)
+past zero n s h k m = absurd (omega arith)
+past (suc most) n s h k m = rw (ne_eqb (length s) 0 (λ e. omega arith), le-ltb (length s) 2 h, lt-ltb (length s - 2) (get_or s 1 0) k)
 
 one_more : (most : ℕ) (n : Noted) (s : List ℕ) → 2 ≤ length s → get_or s 1 0 ≤ length s - 2
     → elements_from (suc most) n s ≡ onward (element_of n (get_or s 0 0) (take (get_or s 1 0) (drop 2 s))) (λ m. elements_from most m (drop (2 + get_or s 1 0) s))
@@ -43,79 +49,44 @@ one_more most n s h k =
 
 -- ---- the loop
 
-pub begun : (h : List ℕ) (n : Noted) → n ≡ nothing → Walking h n 0
-unfolding walked_of
-begun h n e =
-    record {
-      inside = omega arith;
-      most = length h;
-      enough = omega arith;
-      so_far = ap (λ m. elements_from (length h) m h) (sym e);
-    }
+module _ (h : List ℕ) (n : Noted) (rest : List ℕ) (w : Walking h n rest) where
+  pub done : length rest ≡ 0 → walked_of h ≡ Ok n
+  done e = w.so_far ∙ none_left w.most n rest e
 
-module _ (h : List ℕ) (n : Noted) (at : ℕ) (w : Walking h n at) where
-  left : length (drop at h) ≡ length h - at
-  left = length-drop at h
+  pub fault_lone : (length rest ≡ 0 → ⊥) → length rest < 2 → walked_of h ≡ Err R.Header
+  fault_lone k l = w.so_far ∙ lone w.most n rest k l
 
-  at_suc : at < length h → w.most ≡ suc (w.most - 1)
-  at_suc k = omega (arith, w.enough)
+  -- the bytes behind the number and the length of the next element
+  abbrev pub more : List ℕ
+  more = take (length rest - 2) (drop 2 rest)
 
-  on : at < length h → walked_of h ≡ elements_from (suc (w.most - 1)) n (drop at h)
-  on k = w.so_far ∙ ap (λ (m : ℕ). elements_from m n (drop at h)) (at_suc k)
+  all_more : more ≡ drop 2 rest
+  all_more = take_all (length rest - 2) (drop 2 rest) (omega (arith, length-drop 2 rest))
 
-  pub fault_lone : at < length h → length h - at < 2 → walked_of h ≡ Fault
-  fault_lone k l = on k ∙ lone (w.most - 1) n (drop at h) (omega (arith, left)) (omega (arith, left))
+  size_more : length more ≡ length rest - 2
+  size_more = ap length all_more ∙ length-drop 2 rest
 
-  second : get_or (drop at h) 1 0 ≡ get_or h (at + 1) 0
-  second = get_or-drop at h 1 0
+  pub fault_past : (size : ℕ) → size ≡ get_or rest 1 0 → 2 ≤ length rest → length more < size → walked_of h ≡ Err R.Header
+  fault_past size e k l = w.so_far ∙ past w.most n rest k (omega (arith, size_more)) w.enough
 
-  first : get_or (drop at h) 0 0 ≡ get_or h at 0
-  first = get_or-drop at h 0 0 ∙ ap (λ (m : ℕ). get_or h m 0) (add-zero at)
+  -- an element with its body, and what is left behind it
+  module _ (two : 2 ≤ length rest) (size : ℕ) (body next : List ℕ) (e : size ≡ get_or rest 1 0) (cut : IsSplitAt more size body next) where
+    on : (x : Result Noted Refusal) → element_of n (get_or rest 0 0) body ≡ x
+        → walked_of h ≡ onward x (λ m. elements_from (w.most - 1) m next)
+    on x made =
+        let one : w.most ≡ suc (w.most - 1) = omega (arith, w.enough) in
+        let is_body : take (get_or rest 1 0) (drop 2 rest) ≡ body = (λ i. take (sym e i) (sym all_more i)) ∙ sym cut.1 in
+        let is_next : drop (2 + get_or rest 1 0) rest ≡ next =
+        sym (drop-drop (get_or rest 1 0) 2 rest) ∙ (λ i. drop (sym e i) (sym all_more i)) ∙ sym cut.2 in
+        w.so_far
+        ∙ ap (λ (m : ℕ). elements_from m n rest) one
+        ∙ one_more (w.most - 1) n rest two (omega (arith, size_more, cut.0))
+        ∙ (λ i. onward (element_of n (get_or rest 0 0) (is_body i)) (λ m. elements_from (w.most - 1) m (is_next i)))
+        ∙ ap (λ y. onward y (λ m. elements_from (w.most - 1) m next)) made
 
-  pub fault_past : (size : ℕ) → size ≡ get_or h (at + 1) 0 → 2 ≤ length h - at → length h - (at + 2) < size → walked_of h ≡ Fault
-  fault_past size e k l =
-      on (omega arith) ∙ past (w.most - 1) n (drop at h) (omega (arith, left)) (omega (arith, left, second))
+    pub fault_element : (refusal : Refusal) → element_of n (get_or rest 0 0) body ≡ Err refusal → walked_of h ≡ Err refusal
+    fault_element refusal made = on (Err refusal) made
 
-  pub one : (size : ℕ) → size ≡ get_or h (at + 1) 0 → 2 ≤ length h - at → size ≤ length h - (at + 2)
-      → walked_of h ≡ onward (element_of n (get_or h at 0) (take size (drop (at + 2) h))) (λ m. elements_from (w.most - 1) m (drop (at + 2 + size) h))
-  one size e k l =
-      let here : get_or (drop at h) 1 0 ≡ size = second ∙ sym e in
-      let body : drop 2 (drop at h) ≡ drop (at + 2) h = drop-drop 2 at h in
-      let end : at + (2 + size) ≡ at + 2 + size = omega arith in
-      let next : drop (2 + size) (drop at h) ≡ drop (at + 2 + size) h =
-      drop-drop (2 + size) at h ∙ ap (λ (x : ℕ). drop x h) end in
-      on (omega arith)
-      ∙ one_more (w.most - 1) n (drop at h) (omega (arith, left)) (omega (arith, left, second))
-      ∙ ap (λ (x : ℕ). onward (element_of n x (take (get_or (drop at h) 1 0) (drop 2 (drop at h)))) (λ m. elements_from (w.most - 1) m (drop (2 + get_or (drop at h) 1 0) (drop at h)))) first
-      ∙ ap (λ (x : ℕ). onward (element_of n (get_or h at 0) (take x (drop 2 (drop at h)))) (λ m. elements_from (w.most - 1) m (drop (2 + x) (drop at h)))) here
-      ∙ ap (λ (x : List ℕ). onward (element_of n (get_or h at 0) (take size x)) (λ m. elements_from (w.most - 1) m (drop (2 + size) (drop at h)))) body
-      ∙ ap (λ (x : List ℕ). onward (element_of n (get_or h at 0) (take size (drop (at + 2) h))) (λ m. elements_from (w.most - 1) m x)) next
-
-  -- the body as the code cuts it
-  cut : (size : ℕ) → at + 2 + size - (at + 2) ≡ size
-  cut size = omega arith
-
-  body_of : (size : ℕ) (x : Elements) → element_of n (get_or h at 0) (take (at + 2 + size - (at + 2)) (drop (at + 2) h)) ≡ x
-      → element_of n (get_or h at 0) (take size (drop (at + 2) h)) ≡ x
-  body_of size x f = ap (λ (m : ℕ). element_of n (get_or h at 0) (take m (drop (at + 2) h))) (sym (cut size)) ∙ f
-
-  pub fault_element : (size : ℕ) → size ≡ get_or h (at + 1) 0 → 2 ≤ length h - at → size ≤ length h - (at + 2)
-      → element_of n (get_or h at 0) (take (at + 2 + size - (at + 2)) (drop (at + 2) h)) ≡ Fault → walked_of h ≡ Fault
-  fault_element size e k l f =
-      one size e k l
-      ∙ ap (λ (x : Elements). onward x (λ q. elements_from (w.most - 1) q (drop (at + 2 + size) h))) (body_of size Fault f)
-
-  pub go_on : (size : ℕ) → size ≡ get_or h (at + 1) 0 → 2 ≤ length h - at → size ≤ length h - (at + 2) → (m : Noted)
-      → element_of n (get_or h at 0) (take (at + 2 + size - (at + 2)) (drop (at + 2) h)) ≡ Whole m → Walking h m (at + 2 + size)
-  go_on size e k l m f =
-      record {
-        inside = omega arith;
-        most = w.most - 1;
-        enough = omega (arith, w.enough);
-        so_far =
-            one size e k l
-            ∙ ap (λ (x : Elements). onward x (λ q. elements_from (w.most - 1) q (drop (at + 2 + size) h))) (body_of size (Whole m) f);
-      }
-
-  pub done : length h ≤ at → walked_of h ≡ Whole n
-  done k = w.so_far ∙ none_left w.most n (drop at h) (omega (arith, left))
+    pub go_on : (m : Noted) → element_of n (get_or rest 0 0) body ≡ Ok m → Walking h m next
+    go_on m made =
+        record { most = w.most - 1; enough = omega (arith, w.enough, size_more, cut.4); so_far = on (Ok m) made }

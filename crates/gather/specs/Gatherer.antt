@@ -1,6 +1,6 @@
 -- The gatherer's calls, exactly: numbers by value, and the bytes of the store and of the assembly buffer.
 -- What they mean for a map from references to totals and places is in Map.antt.
-use Rattle.std.specs.Prelude.{Bool, List, [], ◌++◌, ℕ, ◌+◌, ◌-◌, ◌*◌, length, get_or, take, drop, eqb, ltb, leb}
+use Rattle.std.specs.Prelude.{List, [], ◌++◌, ℕ, ◌+◌, ◌-◌, ◌*◌, length, get_or, take, drop, set, replicate, eqb, ltb, leb, position, Option, Some, None, Result, Ok, Err}
 use Rattle.digest.specs.Pick.{pick}
 use Rattle.digest.specs.Bytes.{laid_over}
 use Rattle.digest.specs.Mac.{same_bytes}
@@ -10,38 +10,31 @@ use Rattle.gather.specs.declared.slot.Slot.{Slot}
 use Rattle.gather.specs.declared.header.Ports.{Ports}
 use Rattle.gather.specs.declared.header.Place.{Place}
 use Rattle.gather.specs.declared.header.Heading.{Heading}
-use Rattle.gather.specs.declared.header.Heading.TheVariants as H
+use Rattle.gather.specs.declared.header.Heading.TheVariants.{Alone, Part}
 use Rattle.gather.specs.declared.refusal.Refusal.{Refusal}
 use Rattle.gather.specs.declared.refusal.Refusal.TheVariants as R
 use Rattle.gather.specs.declared.gatherer.Gatherer.{Gatherer}
 use Rattle.gather.specs.declared.gatherer.Answer.{Answer}
-use Rattle.gather.specs.declared.gatherer.Answer.TheVariants.{Refused, Waiting, Received, Gathered}
-use Rattle.gather.specs.declared.gatherer.Step.{Step}
+use Rattle.gather.specs.declared.gatherer.Answer.TheVariants.{Waiting, Received, Gathered}
 
 -- ---- the four slots
 
 abbrev pub fresh_of : Gatherer
-fresh_of = record { first = free; second = free; third = free; fourth = free }
+fresh_of = record { slots = replicate 4 free }
 
-unfoldable pub slot_at : Gatherer → ℕ → Slot
-slot_at g k = pick (eqb k 0) g.first (pick (eqb k 1) g.second (pick (eqb k 2) g.third g.fourth))
+abbrev pub slot_at : Gatherer → ℕ → Slot
+slot_at g k = get_or g.slots k free
 
-unfoldable pub with_slot : Gatherer → ℕ → Slot → Gatherer
-with_slot g k s =
-    pick (eqb k 0) (record { first = s; second = g.second; third = g.third; fourth = g.fourth })
-    (pick (eqb k 1) (record { first = g.first; second = s; third = g.third; fourth = g.fourth })
-    (pick (eqb k 2) (record { first = g.first; second = g.second; third = s; fourth = g.fourth })
-    (record { first = g.first; second = g.second; third = g.third; fourth = s })))
+abbrev pub with_slot : Gatherer → ℕ → Slot → Gatherer
+with_slot g k s = record { slots = set g.slots k s }
 
--- the first slot of which something is so; 4 where there is none
-abbrev pub first_of : Gatherer → (Slot → Bool) → ℕ
-first_of g is = pick (is g.first) 0 (pick (is g.second) 1 (pick (is g.third) 2 (pick (is g.fourth) 3 4)))
+-- the first slot that holds a reference
+unfoldable pub held_at : Gatherer → ℕ → Option ℕ
+held_at g r = position (λ s. holds s r) g.slots
 
-unfoldable pub held_at : Gatherer → ℕ → ℕ
-held_at g r = first_of g (λ s. holds s r)
-
-unfoldable pub vacant_at : Gatherer → ℕ
-vacant_at g = first_of g (λ s. eqb s.total 0)
+-- the first slot that is free
+unfoldable pub vacant_at : Gatherer → Option ℕ
+vacant_at g = position (λ s. eqb s.total 0) g.slots
 
 -- ---- the bytes
 
@@ -61,75 +54,71 @@ upper store k s i = kept store k (below s i) (below s 11)
 
 -- ---- a step
 
--- what a step leaves: what comes back, the store, and the assembly buffer
+-- what a step leaves: the gatherer, its answer or refusal, the store, and the assembly buffer
 pub record Left : Type 0 where
   pub gatherer : Gatherer
-  pub answer : Answer
+  pub answer : Result Answer Refusal
   pub store : List ℕ
   pub assembly : List ℕ
 
-abbrev pub leaves : Step → List ℕ → List ℕ → Left
-leaves r store assembly = record { gatherer = r.gatherer; answer = r.answer; store = store; assembly = assembly }
-
--- a refusal that leaves the gathering
-abbrev pub refusing : Gatherer → Refusal → Step
-refusing g refusal = record { gatherer = g; answer = Refused refusal }
-
--- an answer that changes no byte
-abbrev pub said : Gatherer → Answer → List ℕ → List ℕ → Left
-said g answer store assembly = record { gatherer = g; answer = answer; store = store; assembly = assembly }
+abbrev pub leaves : Gatherer → Result Answer Refusal → List ℕ → List ℕ → Left
+leaves g answer store assembly = record { gatherer = g; answer = answer; store = store; assembly = assembly }
 
 -- a part whose place is held
-unfoldable pub again_of : Gatherer → ℕ → Slot → ℕ → List ℕ → List ℕ → Ports → Step
-again_of g k s i store part ports =
-    pick (same_bytes (within store k s i) part)
-    (record { gatherer = g; answer = Waiting ports s.reference (count_of s.sizes) s.total })
-    (refusing g R.Differs)
+unfoldable pub again_of : ℕ → Slot → ℕ → List ℕ → List ℕ → Ports → Result Answer Refusal
+again_of k s i store part ports =
+    pick (same_bytes (within store k s i) part) (Ok (Waiting ports s.reference (count_of s.sizes) s.total)) (Err R.Differs)
 
 -- the part put in its place i of slot s, which is slot k: 20, 22, finished, or waiting
 unfoldable pub add_of : Gatherer → ℕ → Slot → ℕ → List ℕ → List ℕ → Ports → List ℕ → Left
 add_of g k s i store part ports assembly =
     pick (eqb (get_or s.sizes i 0) 0)
     (pick (ltb (1400 - below s 11) (length part))
-    (said (with_slot g k free) (Refused R.Long) store assembly)
+    (leaves (with_slot g k free) (Err R.Long) store assembly)
     (pick (leb s.total (count_of s.sizes + 1))
-    (said (with_slot g k free) (Gathered ports (below s 11 + length part)) store
+    (leaves (with_slot g k free) (Ok (Gathered ports (below s 11 + length part))) store
     (laid_over assembly 0 (lower store k s i ++ part ++ upper store k s i)))
-    (said (with_slot g k (sized s i (length part))) (Waiting ports s.reference (count_of s.sizes + 1) s.total)
+    (leaves (with_slot g k (sized s i (length part))) (Ok (Waiting ports s.reference (count_of s.sizes + 1) s.total))
     (laid_over store (k * 1400 + below s i) (part ++ upper store k s i))
     assembly)))
-    (leaves (again_of g k s i store part ports) store assembly)
+    (leaves g (again_of k s i store part ports) store assembly)
 
 -- a part: 20 for another total, 21, or added to its slot, or to a new one
-unfoldable pub join_of : Gatherer → List ℕ → List ℕ → Ports → Place → List ℕ → Left
-join_of g store part ports p assembly =
-    pick (ltb (held_at g p.reference) 4)
-    (pick (eqb (slot_at g (held_at g p.reference)).total p.total)
-    (add_of g (held_at g p.reference) (slot_at g (held_at g p.reference)) (p.place - 1) store part ports assembly)
-    (said g (Refused R.Differs) store assembly))
-    (pick (eqb (vacant_at g) 4)
-    (said g (Refused R.Full) store assembly)
-    (add_of g (vacant_at g) (begun p.reference p.total) (p.place - 1) store part ports assembly))
+abbrev pub join_by : Gatherer → List ℕ → List ℕ → Ports → Place → List ℕ → Option ℕ → Option ℕ → Left
+join_by g store part ports p assembly (Some k) room =
+    pick (eqb (slot_at g k).total p.total)
+    (add_of g k (slot_at g k) (p.place - 1) store part ports assembly)
+    (leaves g (Err R.Differs) store assembly)
+join_by g store part ports p assembly None (Some k) =
+    add_of g k (begun p.reference p.total) (p.place - 1) store part ports assembly
+join_by g store part ports p assembly None None = leaves g (Err R.Full) store assembly
 
-abbrev pub step_by : Gatherer → List ℕ → List ℕ → List ℕ → Heading → Left
-step_by g store message assembly H.Refused = said g (Refused R.Header) store assembly
-step_by g store message assembly (H.Alone ports start) = said g (Received ports start) store assembly
-step_by g store message assembly (H.Part ports start p) = join_of g store (drop start message) ports p assembly
+abbrev pub join_of : Gatherer → List ℕ → List ℕ → Ports → Place → List ℕ → Left
+join_of g store part ports p assembly = join_by g store part ports p assembly (held_at g p.reference) (vacant_at g)
+
+abbrev pub step_by : Gatherer → List ℕ → List ℕ → List ℕ → Result Heading Refusal → Left
+step_by g store message assembly (Err refusal) = leaves g (Err refusal) store assembly
+step_by g store message assembly (Ok (Alone ports start)) = leaves g (Ok (Received ports start)) store assembly
+step_by g store message assembly (Ok (Part ports start p)) = join_of g store (drop start message) ports p assembly
 
 -- the order 16, 6, 19, and then 20, 21, 22
 unfoldable pub step_of : Gatherer → List ℕ → List ℕ → List ℕ → Left
 step_of g store message assembly =
-    pick (ltb (length store) 5600) (said g (Refused R.Argument) store assembly)
-    (pick (ltb (length assembly) 1400) (said g (Refused R.Room) store assembly)
+    pick (ltb (length store) 5600) (leaves g (Err R.Argument) store assembly)
+    (pick (ltb (length assembly) 1400) (leaves g (Err R.Room) store assembly)
     (step_by g store message assembly (heading_of message)))
 
 -- "dropping one not held changes nothing"
-unfoldable pub drop_of : Gatherer → ℕ → Gatherer
-drop_of g r = pick (eqb (held_at g r) 4) g (with_slot g (held_at g r) free)
+abbrev pub drop_by : Gatherer → Option ℕ → Gatherer
+drop_by g None = g
+drop_by g (Some k) = with_slot g k free
+
+abbrev pub drop_of : Gatherer → ℕ → Gatherer
+drop_of g r = drop_by g (held_at g r)
 
 -- "the datagram is a part of the one or of the other"
-abbrev pub datagram_of : Answer → List ℕ → List ℕ → List ℕ
-datagram_of (Received ports start) message assembly = drop start message
-datagram_of (Gathered ports size) message assembly = take size assembly
-datagram_of (Waiting ports reference have total) message assembly = []
-datagram_of (Refused refusal) message assembly = []
+abbrev pub datagram_of : Result Answer Refusal → List ℕ → List ℕ → List ℕ
+datagram_of (Ok (Received ports start)) message assembly = drop start message
+datagram_of (Ok (Gathered ports size)) message assembly = take size assembly
+datagram_of (Ok (Waiting ports reference have total)) message assembly = []
+datagram_of (Err refusal) message assembly = []

@@ -1,5 +1,5 @@
 -- What the gatherer means: a map from references to totals and places (02, P2), and one message's step over it.
-use Rattle.std.specs.Prelude.{true, List, [], ◌∷◌, ◌++◌, ◌≡◌, ℕ, zero, suc, ◌+◌, ◌-◌, ◌*◌, ◌≤◌, ◌<◌, length, get_or, take, drop, set, replicate, eqb, ltb, leb}
+use Rattle.std.specs.Prelude.{true, List, [], ◌∷◌, ◌++◌, ◌≡◌, ℕ, zero, suc, ◌+◌, ◌-◌, ◌*◌, ◌≤◌, ◌<◌, length, get_or, take, drop, set, replicate, eqb, ltb, leb, Result, Ok, Err}
 use Rattle.digest.specs.Pick.{pick}
 use Rattle.digest.specs.Mac.{same_bytes}
 use Rattle.gather.specs.Header.{heading_of}
@@ -101,10 +101,10 @@ joins m p bytes (held total places) =
     (record { said = refused R.Differs; map = m })
 
 -- "a message without concatenation, or of total 1, takes no reference"
-abbrev pub message_by : Map → List ℕ → Heading → Next
-message_by m s H.Refused = record { said = refused R.Header; map = m }
-message_by m s (H.Alone ports start) = record { said = received (drop start s); map = m }
-message_by m s (H.Part ports start p) = joins m p (drop start s) (m p.reference)
+abbrev pub message_by : Map → List ℕ → Result Heading Refusal → Next
+message_by m s (Err refusal) = record { said = refused refusal; map = m }
+message_by m s (Ok (H.Alone ports start)) = record { said = received (drop start s); map = m }
+message_by m s (Ok (H.Part ports start p)) = joins m p (drop start s) (m p.reference)
 
 abbrev pub message_of : Map → List ℕ → Next
 message_of m s = message_by m s (heading_of s)
@@ -127,18 +127,15 @@ look_up k [] store r = absent
 look_up k (s ∷ slots) store r =
     pick (holds s r) (held s.total (places_of s.sizes (room_of store k))) (look_up (suc k) slots store r)
 
-abbrev pub slots_of : Gatherer → List Slot
-slots_of g = g.first ∷ g.second ∷ g.third ∷ g.fourth ∷ []
-
 abbrev pub map_of : Gatherer → List ℕ → Map
-map_of g store = λ r. look_up 0 (slots_of g) store r
+map_of g store = λ r. look_up 0 g.slots store r
 
 -- what an answer says, with the datagram that it shows
-abbrev pub said_of : Answer → List ℕ → List ℕ → Said
-said_of (A.Refused refusal) message assembly = refused refusal
-said_of (A.Waiting ports r n total) message assembly = waiting r n total
-said_of (A.Received ports start) message assembly = received (drop start message)
-said_of (A.Gathered ports size) message assembly = gathered (take size assembly)
+abbrev pub said_of : Result Answer Refusal → List ℕ → List ℕ → Said
+said_of (Err refusal) message assembly = refused refusal
+said_of (Ok (A.Waiting ports r n total)) message assembly = waiting r n total
+said_of (Ok (A.Received ports start)) message assembly = received (drop start message)
+said_of (Ok (A.Gathered ports size)) message assembly = gathered (take size assembly)
 
 -- a slot as steps leave it: its reference is a byte, it has eleven sizes, and its parts fit its room
 pub record Fits (s : Slot) : Type 0 where
@@ -146,8 +143,9 @@ pub record Fits (s : Slot) : Type 0 where
   pub eleven : length s.sizes ≡ 11
   pub bytes : sum_of s.sizes ≤ 1400
 
--- a gatherer as steps leave it: and no reference is in two slots
+-- a gatherer as steps leave it: four slots, and no reference is in two of them
 pub record Sound (g : Gatherer) : Type 0 where
+  pub four : length g.slots ≡ 4
   pub fits : (k : ℕ) → k < 4 → Fits (slot_at g k)
   pub once : (i k r : ℕ) → i < 4 → k < 4 → holds (slot_at g i) r ≡ true → holds (slot_at g k) r ≡ true → i ≡ k
 

@@ -1,17 +1,19 @@
 // The user data header of a short message (GSM 03.40, 9.2.3.24): a byte with its length, then elements, each a number, a
 // length and a body; behind the header stands the part.
-ghost use Rattle.std.specs.Prelude.{◌≡◌, ◌+◌, ◌*◌, ◌≤◌, ◌<◌, length};
-ghost use Rattle.gather.specs.Header.{heading_of, walked_of, element_of, placed_of, judged_of, nothing};
+ghost use Rattle.std.specs.Prelude.{◌≡◌, ◌+◌, ◌*◌};
+ghost use Rattle.gather.specs.Header.{heading_of, walked_of, element_of, placed_of, judged_of};
+
+use crate::refusal::Refusal;
 
 // Port addressing with 16-bit ports (element 05).
-#[derive(Clone, Copy)]
+#[derive(Clone, Copy, PartialEq, Eq, Debug)]
 pub struct Ports {
     pub destination: u16,
     pub originator: u16,
 }
 
 // Concatenation (element 00): which message, of how many parts, and which of them.
-#[derive(Clone, Copy)]
+#[derive(Clone, Copy, PartialEq, Eq, Debug)]
 pub struct Place {
     pub reference: u8,
     pub total: u8,
@@ -19,10 +21,8 @@ pub struct Place {
 }
 
 // What the header says. The part begins at the number given.
-#[derive(Clone, Copy)]
+#[derive(Clone, Copy, PartialEq, Eq, Debug)]
 pub enum Heading {
-    // 19
-    Refused,
     // without concatenation, or of total 1
     Alone(Ports, usize),
     Part(Ports, usize, Place),
@@ -30,156 +30,101 @@ pub enum Heading {
 
 // The elements noted so far: of two alike the last.
 #[derive(Clone, Copy)]
-pub struct Noted {
-    pub ported: bool,
-    pub ports: Ports,
-    pub joined: bool,
-    pub place: Place,
+pub(crate) struct Noted {
+    pub ports: Option<Ports>,
+    pub place: Option<Place>,
 }
 
-#[derive(Clone, Copy)]
-pub enum Elements {
-    Fault,
-    Whole(Noted),
-}
-
-// The header of any bytes.
-pub fn read(message: &[u8]) -> Heading
+// The header of any bytes; 19.
+pub fn read(message: &[u8]) -> Result<Heading, Refusal>
     ensures exact { result ≡ heading_of message.now }
 {
-    if message.len() == 0 {
-        return Heading::Refused;
-    }
-    let start = (message[0] as usize) + 1;
-    if message.len() < start {
-        return Heading::Refused;
-    }
-    match walked(&message[1..start]) {
-        Elements::Fault => Heading::Refused,
-        Elements::Whole(noted) => judged(noted, start),
-    }
+    let Some((size, rest)) = message.split_first() else {
+        return Err(Refusal::Header);
+    };
+    let size = usize::from(*size);
+    let Some((header, _)) = rest.split_at_checked(size) else {
+        return Err(Refusal::Header);
+    };
+    judged(walked(header)?, size + 1)
 }
 
 // All elements of the header h, from the front.
-fn walked(h: &[u8]) -> Elements
+fn walked(h: &[u8]) -> Result<Noted, Refusal>
     ensures { result ≡ walked_of h.now }
 {
-    let mut noted = none();
-    let mut at: usize = 0;
-    while at < h.len() {
-        if h.len() - at < 2 {
-            return Elements::Fault;
-        }
-        let size = h[at + 1] as usize;
-        let body = at + 2;
-        if h.len() - body < size {
-            return Elements::Fault;
-        }
-        match element(noted, h[at], &h[body..body + size]) {
-            Elements::Fault => return Elements::Fault,
-            Elements::Whole(more) => noted = more,
-        }
-        at = body + size;
+    let mut noted = Noted {
+        ports: None,
+        place: None,
+    };
+    let mut rest = h;
+    while let [number, size, more @ ..] = rest {
+        let Some((body, next)) = more.split_at_checked(usize::from(*size)) else {
+            return Err(Refusal::Header);
+        };
+        noted = element(noted, *number, body)?;
+        rest = next;
     }
-    Elements::Whole(noted)
-}
-
-// Nothing noted.
-fn none() -> Noted
-    ensures { result ≡ nothing }
-{
-    Noted {
-        ported: false,
-        ports: Ports {
-            destination: 0,
-            originator: 0,
-        },
-        joined: false,
-        place: Place {
-            reference: 0,
-            total: 0,
-            place: 0,
-        },
+    if rest.is_empty() {
+        Ok(noted)
+    } else {
+        Err(Refusal::Header)
     }
 }
 
 // One element noted: 05 and 00 by their bodies, which must be of 4 and of 3 bytes; others are skipped.
-fn element(noted: Noted, number: u8, body: &[u8]) -> Elements
+fn element(noted: Noted, number: u8, body: &[u8]) -> Result<Noted, Refusal>
     ensures { result ≡ element_of noted number body.now }
 {
-    if number == 5 {
-        if body.len() != 4 {
-            return Elements::Fault;
+    match number {
+        5 => {
+            let [a, b, c, d] = body else {
+                return Err(Refusal::Header);
+            };
+            let ports = Some(Ports {
+                destination: u16::from_be_bytes([*a, *b]),
+                originator: u16::from_be_bytes([*c, *d]),
+            });
+            Ok(Noted { ports, ..noted })
         }
-        let ports = Ports {
-            destination: pair(body[0], body[1]),
-            originator: pair(body[2], body[3]),
-        };
-        let place = noted.place;
-        return Elements::Whole(Noted {
-            ported: true,
-            ports,
-            joined: noted.joined,
-            place,
-        });
-    }
-    if number == 0 {
-        if body.len() != 3 {
-            return Elements::Fault;
+        0 => {
+            let [reference, total, place] = body else {
+                return Err(Refusal::Header);
+            };
+            let place = Some(Place {
+                reference: *reference,
+                total: *total,
+                place: *place,
+            });
+            Ok(Noted { place, ..noted })
         }
-        let place = Place {
-            reference: body[0],
-            total: body[1],
-            place: body[2],
-        };
-        let ports = noted.ports;
-        return Elements::Whole(Noted {
-            ported: noted.ported,
-            ports,
-            joined: true,
-            place,
-        });
+        _ => Ok(noted),
     }
-    Elements::Whole(noted)
 }
 
 // What the elements of a header say together, with the part at `start`.
-fn judged(noted: Noted, start: usize) -> Heading
+fn judged(noted: Noted, start: usize) -> Result<Heading, Refusal>
     ensures { result ≡ judged_of noted start }
 {
-    if !noted.ported {
-        return Heading::Refused;
+    match (noted.ports, noted.place) {
+        (None, _) => Err(Refusal::Header),
+        (Some(ports), None) => Ok(Heading::Alone(ports, start)),
+        (Some(ports), Some(place)) => placed(ports, start, place),
     }
-    let ports = noted.ports;
-    if !noted.joined {
-        return Heading::Alone(ports, start);
-    }
-    let place = noted.place;
-    placed(ports, start, place)
 }
 
 // What a concatenation says: one of several parts, or a total of 1, which is a message by itself.
-fn placed(ports: Ports, start: usize, place: Place) -> Heading
+fn placed(ports: Ports, start: usize, place: Place) -> Result<Heading, Refusal>
     ensures { result ≡ placed_of ports start place }
 {
     if 11 < place.total {
-        return Heading::Refused;
+        return Err(Refusal::Header);
     }
-    if place.place == 0 {
-        return Heading::Refused;
-    }
-    if place.total < place.place {
-        return Heading::Refused;
+    if place.place == 0 || place.total < place.place {
+        return Err(Refusal::Header);
     }
     if place.total == 1 {
-        return Heading::Alone(ports, start);
+        return Ok(Heading::Alone(ports, start));
     }
-    Heading::Part(ports, start, place)
-}
-
-// The number that two bytes spell, the most significant first.
-fn pair(a: u8, b: u8) -> u16
-    ensures { result ≡ a * 256 + b }
-{
-    (a as u16) * 256 + (b as u16)
+    Ok(Heading::Part(ports, start, place))
 }

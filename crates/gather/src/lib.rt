@@ -5,8 +5,9 @@ mod gatherer;
 mod header;
 mod refusal;
 mod slot;
+mod spot;
 
-pub use gatherer::{Answer, Gatherer, Step, datagram};
+pub use gatherer::{Answer, Gatherer, datagram};
 pub use header::{Heading, Place, Ports, read};
 pub use refusal::{Refusal, refusal_number};
-pub use slot::{Slot, held_places};
+pub use slot::Slot;

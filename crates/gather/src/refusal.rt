@@ -2,7 +2,7 @@
 ghost use Rattle.std.specs.Prelude.{◌≡◌};
 ghost use Rattle.gather.specs.Refusal.{refusal_number};
 
-#[derive(Clone, Copy)]
+#[derive(Clone, Copy, PartialEq, Eq, Debug)]
 pub enum Refusal {
     // the store lent is too short
     Argument,
@@ -18,16 +18,24 @@ pub enum Refusal {
     Long,
 }
 
+impl From<Refusal> for u8 {
+    ghost from_gives = { λ refusal n. n ≡ refusal_number refusal };
+
+    fn from(refusal: Refusal) -> u8 {
+        match refusal {
+            Refusal::Argument => 16,
+            Refusal::Room => 6,
+            Refusal::Header => 19,
+            Refusal::Differs => 20,
+            Refusal::Full => 21,
+            Refusal::Long => 22,
+        }
+    }
+}
+
 // The refusal number.
 pub fn refusal_number(refusal: Refusal) -> u8
     ensures exact { result ≡ refusal_number refusal }
 {
-    match refusal {
-        Refusal::Argument => 16,
-        Refusal::Room => 6,
-        Refusal::Header => 19,
-        Refusal::Differs => 20,
-        Refusal::Full => 21,
-        Refusal::Long => 22,
-    }
+    u8::from(refusal)
 }

@@ -4,7 +4,7 @@
 
 ghost use Rattle.std.specs.Prelude.{◌≤◌, ◌<◌, length};
 
-use gather::{Answer, Gatherer, Heading, Ports};
+use gather::{Answer, Gatherer, Heading, Ports, Refusal};
 
 fn main() {
     let mut buffer = io::large_buffer();
@@ -23,7 +23,7 @@ fn gather_all(s: &[u8], store: &mut [u8], assembly: &mut [u8]) {
         if end <= at {
             return;
         }
-        g = item(g, &s[at..end], store, assembly);
+        item(&mut g, &s[at..end], store, assembly);
         at = end;
     }
 }
@@ -53,43 +53,40 @@ fn pair(a: u8, b: u8) -> usize
 }
 
 // One item, with the two bytes before it.
-fn item(g: Gatherer, s: &[u8], store: &mut [u8], assembly: &mut [u8]) -> Gatherer {
+fn item(g: &mut Gatherer, s: &[u8], store: &mut [u8], assembly: &mut [u8]) {
     if s.len() < 2 {
-        return g;
+        return;
     }
     if pair(s[0], s[1]) == 65535 {
         if s.len() == 3 {
             io::write_all(1, b"dropped\n");
-            return g.drop(s[2]);
+            g.drop(s[2]);
         }
-        return g;
+        return;
     }
-    gathered(g, &s[2..], store, assembly)
+    gathered(g, &s[2..], store, assembly);
 }
 
 // One message.
-fn gathered(g: Gatherer, message: &[u8], store: &mut [u8], assembly: &mut [u8]) -> Gatherer {
+fn gathered(g: &mut Gatherer, message: &[u8], store: &mut [u8], assembly: &mut [u8]) {
     show_heading(gather::read(message));
-    let step = g.step(store, message, assembly);
-    let answer = step.answer;
+    let answer = g.step(store, message, assembly);
     show(answer);
     show_bytes(gather::datagram(answer, message, assembly));
-    let next = step.gatherer;
-    next
 }
 
-fn show_heading(heading: Heading) {
+fn show_heading(heading: Result<Heading, Refusal>) {
     match heading {
-        Heading::Refused => {
+        Err(_) => {
             io::write_all(1, b"no\n");
         }
-        Heading::Alone(ports, start) => {
+        Ok(Heading::Alone(ports, start)) => {
             io::write_all(1, b"alone ");
             show_ports(ports);
             number(start as u64);
             io::write_all(1, b"\n");
         }
-        Heading::Part(ports, start, place) => {
+        Ok(Heading::Part(ports, start, place)) => {
             io::write_all(1, b"part ");
             show_ports(ports);
             number(start as u64);
@@ -101,25 +98,25 @@ fn show_heading(heading: Heading) {
     }
 }
 
-fn show(answer: Answer) {
+fn show(answer: Result<Answer, Refusal>) {
     match answer {
-        Answer::Refused(refusal) => {
+        Err(refusal) => {
             io::write_all(1, b"refused ");
-            number(gather::refusal_number(refusal) as u64);
+            number(u64::from(u8::from(refusal)));
         }
-        Answer::Waiting(ports, reference, have, total) => {
+        Ok(Answer::Waiting(ports, reference, have, total)) => {
             io::write_all(1, b"waiting ");
             show_ports(ports);
             number(reference as u64);
             number(have as u64);
             number(total as u64);
         }
-        Answer::Received(ports, start) => {
+        Ok(Answer::Received(ports, start)) => {
             io::write_all(1, b"received ");
             show_ports(ports);
             number(start as u64);
         }
-        Answer::Gathered(ports, count) => {
+        Ok(Answer::Gathered(ports, count)) => {
             io::write_all(1, b"gathered ");
             show_ports(ports);
             number(count as u64);

@@ -21,7 +21,7 @@ module _ (c : Connection) (g : Gatherer) (store message assembly random out : Li
   -- no datagram: the connection and the output are left alone
   pub quiet : Quiet c g store message assembly random out
   unfolding message_of taken_of heard_of
-  quiet h = rw h (refl, refl)
+  quiet h = rw h (refl, (refl, refl))
 
   -- one is shown: what receive gives of it, and writes
   pub by_receive : ByReceive c g store message assembly random out

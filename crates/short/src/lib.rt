@@ -3,6 +3,5 @@
 #![tactic(auto)]
 
 mod take;
-mod unshown;
 
 pub use take::{Messaged, message, shows};

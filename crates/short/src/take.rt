@@ -1,18 +1,18 @@
 // One short message: 16, 6, then 19 to 22 of the gatherer, then what receive gives of the datagram that is shown.
 ghost use Rattle.std.specs.Prelude.{◌≡◌, length};
-ghost use Rattle.short.specs.Message.{is_shown, taken_of, heard_of, leaves, refusing, message_of};
+ghost use Rattle.gather.specs.Gatherer as G;
+ghost use Rattle.short.specs.Message.{is_shown, taken_of, heard_of, leaves, gathered_of, message_of};
 
-use crate::unshown::nothing;
 use connection::connection::Connection;
 use connection::receive::{Received, receive};
 use gather::{Answer, Gatherer, Refusal, datagram};
 
+// What became of a message.
 #[derive(Clone, Copy)]
 pub struct Messaged {
-    pub gatherer: Gatherer,
-    pub answer: Answer,
-    // what the datagram got: no record, and the connection as it was, where none is shown
-    pub received: Received,
+    pub answer: Result<Answer, Refusal>,
+    // what the datagram got; of an answer that shows none, nothing, and the connection is as it was
+    pub received: Option<Received>,
 }
 
 // Takes a message, the store and the assembly buffer of the gatherer, our random for a new reply, and room of at least 128
@@ -20,78 +20,65 @@ pub struct Messaged {
 // received as any other: 1 to 5 leave the output and the connection, and its reference is free.
 pub fn message(
     c: Connection,
-    g: Gatherer,
+    g: &mut Gatherer,
     store: &mut [u8],
     bytes: &[u8],
     assembly: &mut [u8],
     random: &[u8],
     out: &mut [u8],
 ) -> Messaged
-    ensures exact { leaves result store.new assembly.new out.new
-        ≡ message_of c g store.old bytes.now assembly.old random.now out.old }
+    ensures exact { leaves result g.new store.new assembly.new out.new
+        ≡ message_of c g.old store.old bytes.now assembly.old random.now out.old }
 {
-    if random.len() != 16 {
-        return refused(c, g, Refusal::Argument);
-    }
-    if store.len() < 5600 {
-        return refused(c, g, Refusal::Argument);
-    }
-    if out.len() < 128 {
-        return refused(c, g, Refusal::Room);
-    }
-    let step = g.step(store, bytes, assembly);
-    let answer = step.answer;
-    take(c, step.gatherer, answer, bytes, assembly, random, out)
+    let answer = gathered(g, store, bytes, assembly, random, out.len());
+    let received = taken(c, answer, bytes, assembly, random, out);
+    Messaged { answer, received }
 }
 
 // Whether an answer shows a datagram.
-pub fn shows(answer: Answer) -> bool
+pub fn shows(answer: Result<Answer, Refusal>) -> bool
     ensures exact { result ≡ is_shown answer }
 {
-    match answer {
-        Answer::Refused(_) => false,
-        Answer::Waiting(_, _, _, _) => false,
-        Answer::Received(_, _) => true,
-        Answer::Gathered(_, _) => true,
-    }
+    matches!(answer, Ok(Answer::Received(_, _) | Answer::Gathered(_, _)))
 }
 
-// A refusal before the gatherer sees the message.
-fn refused(c: Connection, g: Gatherer, refusal: Refusal) -> Messaged
-    ensures { result ≡ refusing c g refusal }
+// What the gatherer makes of the message, whatever the connection: first 16 and 6 for what is lent to a receive.
+fn gathered(
+    g: &mut Gatherer,
+    store: &mut [u8],
+    bytes: &[u8],
+    assembly: &mut [u8],
+    random: &[u8],
+    room: usize,
+) -> Result<Answer, Refusal>
+    ensures { G.leaves g.new result store.new assembly.new ≡ gathered_of g.old store.old bytes.now assembly.old random.now room }
 {
-    let answer = Answer::Refused(refusal);
-    Messaged {
-        gatherer: g,
-        answer,
-        received: nothing(c),
+    if random.len() != 16 {
+        return Err(Refusal::Argument);
     }
+    if store.len() < 5600 {
+        return Err(Refusal::Argument);
+    }
+    if room < 128 {
+        return Err(Refusal::Room);
+    }
+    g.step(store, bytes, assembly)
 }
 
 // The datagram received, where the gatherer's answer shows one.
-fn take<'a>(
+fn taken<'a>(
     c: Connection,
-    g: Gatherer,
-    answer: Answer,
+    answer: Result<Answer, Refusal>,
     bytes: &'a [u8],
     assembly: &'a [u8],
     random: &[u8],
     out: &mut [u8],
-) -> Messaged
-    ensures value { result ≡ taken_of c g answer bytes.now assembly.now random.now (length out.old) }
+) -> Option<Received>
+    ensures value { result ≡ taken_of c answer bytes.now assembly.now random.now (length out.old) }
     ensures out_after { out.new ≡ heard_of c answer bytes.now assembly.now random.now out.old }
 {
     if shows(answer) {
-        let received = receive(c, datagram(answer, bytes, assembly), random, out);
-        return Messaged {
-            gatherer: g,
-            answer,
-            received,
-        };
+        return Some(receive(c, datagram(answer, bytes, assembly), random, out));
     }
-    Messaged {
-        gatherer: g,
-        answer,
-        received: nothing(c),
-    }
+    None
 }

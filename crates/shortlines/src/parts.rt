@@ -1,6 +1,4 @@
 // What the state line says of the gathering.
-ghost use Rattle.std.specs.Prelude.{◌≤◌};
-
 use gather::{Gatherer, Slot};
 use lines::text::{put, put_number};
 
@@ -30,23 +28,10 @@ struct Written {
 
 // What is held of one reference: no two slots hold the same.
 fn put_reference(g: Gatherer, r: usize, before: usize, text: &mut [u8], at: usize) -> Written {
-    let a = g.first;
-    if is_held(a, r) {
-        return put_slot(a, before, text, at);
+    match g.slots.iter().find(|s| is_held(**s, r)) {
+        Some(s) => put_slot(*s, before, text, at),
+        None => Written { end: at, before },
     }
-    let b = g.second;
-    if is_held(b, r) {
-        return put_slot(b, before, text, at);
-    }
-    let c = g.third;
-    if is_held(c, r) {
-        return put_slot(c, before, text, at);
-    }
-    let d = g.fourth;
-    if is_held(d, r) {
-        return put_slot(d, before, text, at);
-    }
-    Written { end: at, before }
 }
 
 fn is_held(s: Slot, r: usize) -> bool {
@@ -60,7 +45,7 @@ fn put_slot(s: Slot, before: usize, text: &mut [u8], at: usize) -> Written {
     let end = put_comma(before, text, at);
     let end = put_number(text, end, s.reference as u64);
     let end = put(text, end, b":");
-    let end = put_number(text, end, have(s) as u64);
+    let end = put_number(text, end, s.held_places() as u64);
     let end = put(text, end, b"/");
     let end = put_number(text, end, s.total as u64);
     Written { end, before: 1 }
@@ -71,26 +56,4 @@ fn put_comma(before: usize, text: &mut [u8], at: usize) -> usize {
         return at;
     }
     put(text, at, b",")
-}
-
-// How many places are held.
-fn have(s: Slot) -> usize {
-    let sizes = s.sizes;
-    let mut count: usize = 0;
-    let mut i: usize = 0;
-    while i < 11 {
-        count += held(sizes[i]);
-        i += 1;
-    }
-    count
-}
-
-// 1 for a place that is held.
-fn held(size: u16) -> usize
-    ensures { result ≤ 1 }
-{
-    if size == 0 {
-        return 0;
-    }
-    1
 }

@@ -1,23 +1,25 @@
 -- `element`: by its number, and its length.
-use Rattle.gather.proofs.Headings.{ports_noted, place_wrong}
-use Rattle.digest.proofs.Picks.{picks}
-use Rattle.gather.specs.Header.{element_of}
+use native.Mathlib.Omega.{arith}
+use Rattle.gather.proofs.Headings.{ports_noted, ports_wrong, place_noted, place_wrong, skipped}
 use Rattle.gather.proofs.header.element.Goals as goal
 
-pub returns-then-body-ne4 : goal.returns-then-body-ne4
-unfolding element_of
-returns-then-body-ne4 c = search picks
+pub returns-in_default-body : goal.returns-in_default-body
+returns-in_default-body c = ports_wrong _ _ _ c.in-5.is (λ e. omega arith)
 
-pub returns-then-number-eq5 : goal.returns-then-number-eq5
-returns-then-number-eq5 c = ports_noted _ _ _ _ _ c.if-number-eq5.true c.if-body-ne4.false c.pair.ensures c.pair-then-number-eq5.ensures
+pub returns-in_default-body-3 : goal.returns-in_default-body-3
+returns-in_default-body-3 c = ports_wrong _ _ _ c.in-5.is (λ e. omega arith)
 
-pub returns-then-body-ne3 : goal.returns-then-body-ne3
-returns-then-body-ne3 c = place_wrong _ _ _ c.if-number-eq0.true c.if-body-ne3.true
+pub returns-in_default-body-2 : goal.returns-in_default-body-2
+returns-in_default-body-2 c = place_wrong _ _ _ c.in-0.is (λ e. omega arith)
 
-pub returns-then-number-eq0 : goal.returns-then-number-eq0
-unfolding element_of
-returns-then-number-eq0 c = search picks
+pub returns-in_default-body-2-2 : goal.returns-in_default-body-2-2
+returns-in_default-body-2-2 c = place_wrong _ _ _ c.in-0.is (λ e. omega arith)
 
-pub returns : goal.returns
-unfolding element_of
-returns c = search picks
+pub returns-in-len4 : goal.returns-in-len4
+returns-in-len4 c = ports_noted _ _ _ _ _ c.in-5.is (omega arith) c.from_be_bytes.ensures c.from_be_bytes-in-5.ensures
+
+pub returns-in-len3 : goal.returns-in-len3
+returns-in-len3 c = place_noted _ _ _ c.in-0.is (omega arith)
+
+pub returns-in_default : goal.returns-in_default
+returns-in_default c = skipped _ _ _ (λ e. omega arith) (λ e. omega arith)

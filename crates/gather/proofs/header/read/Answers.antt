@@ -1,28 +1,23 @@
 -- `read`: the length, the walk over the header, and what it says.
-use mathlib.Core.Path.{refl}
-use Rattle.gather.proofs.Headings.{read_on}
-use mathlib.Core.Path.{sym, ◌∙◌}
-use native.Mathlib.Omega.{arith}
-use Rattle.digest.proofs.Picks.{picks}
-use Rattle.gather.specs.Header.{heading_of}
+use mathlib.Core.Path.{refl, sym, ◌∙◌}
+use Rattle.std.proofs.lemmas.Result.{err_from_is_err_and}
+use Rattle.gather.proofs.Headings.{no_bytes, past_end, read_on}
 use Rattle.gather.proofs.header.read.Goals as goal
 
-pub returns-then-message-eq0 : goal.returns-then-message-eq0
-unfolding heading_of
-returns-then-message-eq0 c = record { exact = search picks }
+pub returns-in_default : goal.returns-in_default
+returns-in_default c = record { exact = no_bytes _ c.in_default.ensures.cases }
 
-pub overflow_cast-start : goal.overflow_cast-start
-overflow_cast-start c = omega (arith, c.shared_slice_known-2-1.given 0)
+pub returns-in_default-split_at_checked : goal.returns-in_default-split_at_checked
+returns-in_default-split_at_checked c =
+    record { exact = past_end _ _ _ c.in-Some.ensures.cases.0 _ c.from-size.ensures c.in_default-split_at_checked.ensures.cases }
 
-pub overflow_add-start : goal.overflow_add-start
-overflow_add-start c = omega (arith, c.shared_slice_known-2-1.given 0)
+pub returns-in_err-walked : goal.returns-in_err-walked
+returns-in_err-walked c =
+    let p = err_from_is_err_and c.from_residual.result c.from_residual.ensures.1 in
+    let seen = sym c.walked.ensures ∙ c.in_err-walked.was in
+    record { exact = rw (p.1, p.2) (read_on _ _ _ c.in-Some.ensures.cases.0 _ c.from-size.ensures _ _ _ _ c.in-Some-split_at_checked.ensures.cases seen refl) }
 
-pub returns-then-message-start : goal.returns-then-message-start
-unfolding heading_of
-returns-then-message-start c = record { exact = search picks }
-
-pub returns-in-Fault : goal.returns-in-Fault
-returns-in-Fault c = record { exact = read_on _ _ _ c.if-message-eq0.false c.if-message-start.false (sym c.walked.ensures ∙ c.in-Fault.is) refl }
-
-pub returns-in-Whole : goal.returns-in-Whole
-returns-in-Whole c = record { exact = read_on _ _ _ c.if-message-eq0.false c.if-message-start.false (sym c.walked.ensures ∙ c.in-Whole.is) c.judged.ensures }
+pub returns : goal.returns
+returns c =
+    let seen = sym c.walked.ensures ∙ c.in_ok-walked.was in
+    record { exact = read_on _ _ _ c.in-Some.ensures.cases.0 _ c.from-size.ensures _ _ _ _ c.in-Some-split_at_checked.ensures.cases seen c.judged.ensures }

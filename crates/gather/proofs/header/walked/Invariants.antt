@@ -1,11 +1,10 @@
 -- `walked`: the loop keeps `Walking`, and each way out of it answers for the whole header.
-use Prim.Native.Nat.{◌-◌}
 use lib.ListN.{length}
 use Rattle.gather.proofs.Walking.{Walking}
 use Rattle.gather.proofs.header.walked.Given as goal
 
-abbrev pub invariant-loop-at : goal.invariant-loop-at
-invariant-loop-at l = Walking l.h l.noted l.at
+abbrev pub invariant-loop-rest : goal.invariant-loop-rest
+invariant-loop-rest l = Walking l.h l.noted l.rest
 
-abbrev pub decreases-loop-at : goal.decreases-loop-at
-decreases-loop-at l = length l.h - l.at
+abbrev pub decreases-loop-rest : goal.decreases-loop-rest
+decreases-loop-rest l = length l.rest
