@@ -33,7 +33,12 @@ pub fn put_out(out: &[u8], written: usize, text: &mut [u8], at: usize) -> usize 
 }
 
 // `receive records N` with a line for each record, `receive refused R`, or `receive refused R at P`.
-pub fn put_taken(taken: Result<usize, Untaken>, answers: [Slot; 8], text: &mut [u8], at: usize) -> usize {
+pub fn put_taken(
+    taken: Result<usize, Untaken>,
+    answers: [Slot; 8],
+    text: &mut [u8],
+    at: usize,
+) -> usize {
     match taken {
         Ok(count) => {
             let end = put(text, at, b"receive records ");

@@ -88,7 +88,7 @@ pub kept_front : (n : ℕ) (l : List ℕ) → length l ≡ 8 → take (min n 8) 
 kept_front n l e = decide (leb n 8)
     (λ a. let most : min n 8 ≡ n = omega (arith, leb-true n 8 a) in ap (λ k. take k l) most)
     (λ a. let most : min n 8 ≡ 8 = omega (arith, leb-false n 8 a) in
-      ap (λ k. take k l) most ∙ take_all 8 l (omega (arith, e)) ∙ sym (take_all n l (omega (arith, e, leb-false n 8 a))))
+    ap (λ k. take k l) most ∙ take_all 8 l (omega (arith, e)) ∙ sym (take_all n l (omega (arith, e, leb-false n 8 a))))
 
 -- the first n of a list: no longer than n, nor than the list; and each of them is one of the list
 pub front_most : (n : ℕ) (l : List ℕ) → (length (take n l) ≤ n) × (length (take n l) ≤ length l)

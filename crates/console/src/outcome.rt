@@ -14,7 +14,13 @@ pub fn bad_line(console: Console, text: &mut [u8], at: usize) -> Ran {
 }
 
 // A call that writes no bytes.
-pub fn done(console: Console, name: &[u8], outcome: Result<(), Refusal>, text: &mut [u8], at: usize) -> Ran {
+pub fn done(
+    console: Console,
+    name: &[u8],
+    outcome: Result<(), Refusal>,
+    text: &mut [u8],
+    at: usize,
+) -> Ran {
     let end = put_outcome(name, outcome, text, at);
     state_line(console, text, end)
 }

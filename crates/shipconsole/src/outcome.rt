@@ -17,7 +17,13 @@ pub fn bad_line(console: Console, text: &mut [u8], at: usize) -> Ran {
 }
 
 // A call that writes no bytes.
-pub fn done(console: Console, name: &[u8], outcome: Result<(), Refusal>, text: &mut [u8], at: usize) -> Ran {
+pub fn done(
+    console: Console,
+    name: &[u8],
+    outcome: Result<(), Refusal>,
+    text: &mut [u8],
+    at: usize,
+) -> Ran {
     let end = put_outcome(name, outcome, text, at);
     state_line(console, text, end)
 }
@@ -57,12 +63,7 @@ fn put_outcome(name: &[u8], outcome: Result<(), Refusal>, text: &mut [u8], at: u
     let end = put(text, at, name);
     match outcome {
         Ok(()) => put(text, end, b" ok\n"),
-        Err(refusal) => put_with(
-            b" refused ",
-            refusal::number(refusal) as u64,
-            text,
-            end,
-        ),
+        Err(refusal) => put_with(b" refused ", refusal::number(refusal) as u64, text, end),
     }
 }
 
@@ -80,7 +81,12 @@ fn put_out(out: &[u8], written: usize, text: &mut [u8], at: usize) -> usize {
 }
 
 // `receive records N` with a line for each record, `receive refused R`, or `receive refused R at P`.
-fn put_taken(taken: Result<usize, Untaken>, answers: [Slot; 8], text: &mut [u8], at: usize) -> usize {
+fn put_taken(
+    taken: Result<usize, Untaken>,
+    answers: [Slot; 8],
+    text: &mut [u8],
+    at: usize,
+) -> usize {
     match taken {
         Ok(count) => {
             let end = put_with(b"receive records ", count as u64, text, at);

@@ -134,7 +134,11 @@ fn verified(window: Window, mac: Mac, expected: [u8; 12], state: State, content:
 {
     match finished::judge(content, &expected) {
         Err(Unverified::Malformed) => refuse(window, Refusal::Malformed),
-        Err(Unverified::Wrong) => lead(Answer::Refused(Refusal::WrongFinished), window, Move::Close),
+        Err(Unverified::Wrong) => lead(
+            Answer::Refused(Refusal::WrongFinished),
+            window,
+            Move::Close,
+        ),
         Ok(()) => opened(window, mac, state),
     }
 }

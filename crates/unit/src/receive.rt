@@ -30,7 +30,10 @@ pub fn receive(u: Unit, datagram: &[u8], out: &mut [u8]) -> Received
         return whole(u, Err(Untaken::Refused(Refusal::Room)));
     }
     match walked(datagram) {
-        Err(Misframed { fault, at }) => whole(u, Err(Untaken::Misframed(Refusal::Framing(fault), at))),
+        Err(Misframed { fault, at }) => whole(
+            u,
+            Err(Untaken::Misframed(Refusal::Framing(fault), at)),
+        ),
         Ok(walk) => each(u, datagram, walk, out),
     }
 }

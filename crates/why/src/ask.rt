@@ -36,7 +36,10 @@ pub fn why(edition: u32, c: Connection, datagram: &[u8], random: &[u8], index: u
         Ok(_) => of_record(p, datagram, index),
         Err(untaken) => match untaken {
             Untaken::Refused(refusal) => whole(p.connection, reason_at(p, datagram, 0, refusal)),
-            Untaken::Misframed(refusal, at) => whole(p.connection, reason_at(p, datagram, at, refusal)),
+            Untaken::Misframed(refusal, at) => whole(
+                p.connection,
+                reason_at(p, datagram, at, refusal),
+            ),
         },
     }
 }

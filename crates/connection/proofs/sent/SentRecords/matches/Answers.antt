@@ -18,7 +18,7 @@ loop-sum-init c = refl
 pub returns-then-sum-checksum : goal.returns-then-sum-checksum
 returns-then-sum-checksum c = let a = c.args in
     sym (sym (searched a.self.count _ a.checksum a.self.checksums (search rules) c.min-kept.ensures)
-      ∙ c.loop-sum.invariant ∙ match_here a.checksum c.loop-sum.sum-index _ c.loop-sum-test.true c.if-sum-checksum.true)
+    ∙ c.loop-sum.invariant ∙ match_here a.checksum c.loop-sum.sum-index _ c.loop-sum-test.true c.if-sum-checksum.true)
 
 pub loop-sum-preserved : goal.loop-sum-preserved
 loop-sum-preserved c = c.loop-sum.invariant ∙ no_match_here c.args.checksum c.loop-sum.sum-index _ c.loop-sum-test.true c.if-sum-checksum.false
@@ -26,4 +26,4 @@ loop-sum-preserved c = c.loop-sum.invariant ∙ no_match_here c.args.checksum c.
 pub returns : goal.returns
 returns c = let a = c.args in
     sym (sym (searched a.self.count _ a.checksum a.self.checksums (search rules) c.min-kept.ensures)
-      ∙ c.loop-sum.invariant ∙ past_end a.checksum c.loop-sum.sum-index _ c.loop-sum-test.false)
+    ∙ c.loop-sum.invariant ∙ past_end a.checksum c.loop-sum.sum-index _ c.loop-sum-test.false)
