@@ -67,14 +67,12 @@ fn each(u: Unit, d: &[u8], walk: Walk, out: &mut [u8]) -> Received
     let mut answers = [nothing; 8];
     let mut left = u;
     let mut opens: usize = 0;
-    let mut i: usize = 0;
-    while i < count {
+    for i in 0..count {
         let next = judge(left, d, records[i]);
         let answer = next.answer;
         answers[i] = Slot { answer };
         opens = opens_by(opens, answer);
         left = next.unit;
-        i += 1;
     }
     let flight = left.flight;
     let written = put_flight(flight, opens, out);

@@ -12,12 +12,8 @@ pub fn counted(tally: Tally, received: Received) -> Tally
 {
     let answers = received.answers;
     let mut t = tally;
-    let mut i: usize = 0;
-    while i < 8 {
-        let slot = answers[i];
-        let answer = slot.answer;
-        t = t.with_answer(as_ashore(answer));
-        i += 1;
+    for slot in &answers {
+        t = t.with_answer(as_ashore(slot.answer));
     }
     t
 }

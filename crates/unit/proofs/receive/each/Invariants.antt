@@ -1,11 +1,7 @@
 -- `receive::each`: after i turns the first i records are answered, each in the state that those before it left.
-use Prim.Native.Nat.{◌≤◌, ◌-◌}
 use Rattle.record.proofs.Covering.{Walkable}
 use Rattle.unit.proofs.Running.{Ran}
 use Rattle.unit.proofs.receive.each.Given as goal
 
 abbrev pub invariant-loop-i : goal.invariant-loop-i
-invariant-loop-i l = (l.i ≤ l.count) × Walkable l.d l.count l.records × Ran l.initial.left l.d l.records l.answers l.left l.opens l.i
-
-abbrev pub decreases-loop-i : goal.decreases-loop-i
-decreases-loop-i l = l.count - l.i
+invariant-loop-i l = Walkable l.d l.count l.records × Ran l.initial.left l.d l.records l.answers l.left l.opens l.i

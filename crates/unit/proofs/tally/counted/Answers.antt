@@ -6,14 +6,14 @@ use Rattle.unit.specs.Tally.{counted_first}
 use native.Mathlib.Omega.{arith}
 use Rattle.unit.proofs.tally.counted.Goals as goal
 
-pub loop-i-init : goal.loop-i-init
+pub loop-slot-init : goal.loop-slot-init
 unfolding counted_first
-loop-i-init c = (omega arith, refl)
+loop-slot-init c = refl
 
-pub loop-i-preserved : goal.loop-i-preserved
+pub loop-slot-preserved : goal.loop-slot-preserved
 unfolding counted_first
-loop-i-preserved c = let at = c.loop-i in
-    (omega arith, c.with_answer-t.ensures ∙ ap₂ counted_answer at.invariant.1 c.as_ashore.ensures ∙ sym (ap (counted_first c.args.tally c.args.received.answers) (add-one at.i)))
+loop-slot-preserved c = let at = c.loop-slot in
+    c.with_answer-t.ensures ∙ ap₂ counted_answer at.invariant c.as_ashore.ensures ∙ sym (ap (counted_first c.args.tally c.args.received.answers) (add-one at.slot-index))
 
 pub returns : goal.returns
-returns c = let last : c.loop-i.i ≡ 8 = omega arith in rw last at c.loop-i.invariant.1
+returns c = let last : c.loop-slot.slot-index ≡ 8 = omega (arith, c.loop-slot-test.false) in rw last at c.loop-slot.invariant
