@@ -2,9 +2,13 @@
 use Rattle.std.proofs.Common.{◌≡◌, ℕ, suc, ◌+◌, ◌-◌, ◌<◌, ◌≤◌, List, ◌∷◌, ◌++◌, length, take, drop, set, replicate, sym, refl, ap, ◌∙◌, ap₂, append_assoc, zero-add, arith, length-append, length-drop, length-take-le, drop-drop, take_at, drop_at}
 use lib.ListN.{length-replicate, replicate-append-replicate}
 use borrow.Rule.Slice.PartMut.{put_mid}
-use lib.Seq.{set_at, take-append-add, drop-append-add}
+use lib.Seq.{paste, take-length, set_at, take-append-add, drop-append-add}
 use Rattle.digest.proofs.Picks.{picks}
 use Rattle.digest.specs.Bytes.{laid_over, laid_within, bytes4}
+
+pub laid_paste : (d : List ℕ) (at : ℕ) (s : List ℕ) → paste d at s (length s) ≡ laid_over d at s
+unfolding laid_over
+laid_paste d at s = ap (λ x. take at d ++ x ++ drop (at + length s) d) (take-length s)
 
 -- bytes written over a part, which is as long
 pub laid_part : (d t : List ℕ) (at n : ℕ) (s : List ℕ) → t ≡ s → n ≡ length s → put_mid at n d t ≡ laid_over d at s
@@ -74,12 +78,6 @@ laid_pieces d d₁ d₂ d₃ d₄ s t u v e₁ e₂ e₃ e₄ =
     ∙ laid_behind d (s ++ t) u (length s + length t) two)
     ∙ laid_behind d (s ++ t ++ u) v (length s + length t + length u) three
     ∙ ap (laid_over d 0) (append_assoc (s ++ t) u v ∙ append_assoc s t (u ++ v) ∙ ap (λ x. s ++ x) (sym (append_assoc t u v)))
-
-pub length_pieces : (s t u v : List ℕ) → length (s ++ (t ++ u ++ v)) ≡ length s + length t + length u + length v
-length_pieces s t u v =
-    length-append s (t ++ u ++ v)
-    ∙ ap (λ x. length s + x) (length-append (t ++ u) v ∙ ap (λ x. x + length v) (length-append t u))
-    ∙ omega arith
 
 -- what stands at the front of one block, laid in another behind twenty bytes a that come last
 pub laid_second : (s d₁ e₁ e₂ a : List ℕ) (n : ℕ) → length s ≡ n → n ≤ 108 → length a ≡ 20 → d₁ ≡ laid_over (replicate 128 0) 0 s

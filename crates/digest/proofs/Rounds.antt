@@ -35,7 +35,7 @@ pub f_first : (t b c d : ℕ) → t < 20 → bit_or (bit_and b c) (bit_and (inve
 unfolding f
 f_first t b c d h = search picks
 
-f_second : (t b c d : ℕ) → 20 ≤ t → t < 40 → bit_xor (bit_xor b c) d ≡ f t b c d
+pub f_second : (t b c d : ℕ) → 20 ≤ t → t < 40 → bit_xor (bit_xor b c) d ≡ f t b c d
 unfolding f
 f_second t b c d l h = search picks
 
@@ -44,7 +44,7 @@ unfolding f
 f_third t b c d l h =
     let l₂ : 20 ≤ t = omega arith in search picks
 
-f_fourth : (t b c d : ℕ) → 60 ≤ t → bit_xor (bit_xor b c) d ≡ f t b c d
+pub f_fourth : (t b c d : ℕ) → 60 ≤ t → bit_xor (bit_xor b c) d ≡ f t b c d
 unfolding f
 f_fourth t b c d l =
     let l₂ : 20 ≤ t = omega arith in let l₄ : 40 ≤ t = omega arith in search picks

@@ -1,6 +1,5 @@
 // HMAC with SHA-1 (RFC 2104; 002 section 11.3.1) and the expansion of secrets (002 section 11.3.2).
-ghost use Rattle.std.specs.Prelude.{◌≡◌, ℕ, ◌+◌, ◌<◌, ◌≤◌, List, ◌++◌, length, replicate, nat_le};
-ghost use Rattle.digest.specs.Pick.{pick};
+ghost use Rattle.std.specs.Prelude.{◌≡◌, ℕ, ◌+◌, ◌<◌, ◌≤◌, List, ◌++◌, length, replicate};
 ghost use Rattle.digest.specs.Bytes.{laid_over};
 ghost use Rattle.digest.specs.Sha1.{compress, initial_state};
 ghost use Rattle.digest.specs.Hasher.{AbsorbedFrom, begun, digest_from, ended};
@@ -12,6 +11,7 @@ ghost use Rattle.digest.specs.Expansion as Expansion;
 use crate::block::{State, absorbed, initial};
 use crate::bytes::lay;
 use crate::pieces::{Hasher, closed, ending, sha1, spelled};
+use crate::seed::Seed;
 
 // A key with both pads absorbed, so that codes under one key do not absorb them again. Every value of it is safe.
 #[derive(Clone, Copy)]
@@ -59,14 +59,15 @@ impl Key {
         ensures exact { result ≡ code_under self (head.now ++ body.now) }
         ensures meaning { (k : List ℕ) → self ≡ key_of k → result ≡ hmac k (head.now ++ body.now) }
     {
-        let n = at_most(119, head.len(), body.len());
-        if n < 120 {
-            let mut d = [0u8; 128];
-            lay(&mut d, 0, head);
-            lay(&mut d, head.len(), body);
-            return short_code(self, &mut d, n);
+        match head.len().checked_add(body.len()) {
+            Some(n) if n < 120 => {
+                let mut d = [0u8; 128];
+                lay(&mut d, 0, head);
+                lay(&mut d, head.len(), body);
+                short_code(self, &mut d, n)
+            }
+            _ => self.end(self.begin().update(head).update(body)),
         }
-        self.end(self.begin().update(head).update(body))
     }
 
     // P_hash of the label and of a seed in three pieces, over all of `out`.
@@ -74,18 +75,11 @@ impl Key {
         ensures exact { out.new ≡ expansion (code_under self) (label.now ++ (first.now ++ second.now ++ third.now)) (length out.old) }
         ensures meaning { (k : List ℕ) → self ≡ key_of k → out.new ≡ Expansion.prf k label.now (first.now ++ second.now ++ third.now) (length out.old) }
     {
-        let n = short_seed(
-            out.len(),
-            label.len(),
-            first.len(),
-            second.len(),
-            third.len(),
-        );
-        if n < 100 {
-            one_term(self, label, first, second, third, out);
-            return;
+        let seed = Seed::new(label, first, second, third);
+        match seed.size() {
+            Some(n) if n < 100 && 0 < out.len() && out.len() <= 20 => one_term(self, &seed, n, out),
+            _ => all_terms(self, &seed, out),
         }
-        all_terms(self, label, first, second, third, out);
     }
 }
 
@@ -96,82 +90,39 @@ pub fn prf(secret: &[u8], label: &[u8], first: &[u8], second: &[u8], third: &[u8
     Key::new(secret).expand(label, first, second, third, out);
 }
 
-// The code of a piece in front, with the label and the seed behind it.
-fn seeded(
-    key: Key,
-    front: &[u8],
-    label: &[u8],
-    first: &[u8],
-    second: &[u8],
-    third: &[u8],
-) -> [u8; 20]
-    ensures { result ≡ code_under key (front.now ++ (label.now ++ (first.now ++ second.now ++ third.now))) }
-{
-    let mut g = key.begin();
-    g = g.update(front);
-    g = g.update(label);
-    g = g.update(first);
-    g = g.update(second);
-    g = g.update(third);
-    key.end(g)
-}
-
-// One term of the expansion: the code of A(i), the label and the seed.
-fn term(key: Key, a: [u8; 20], label: &[u8], first: &[u8], second: &[u8], third: &[u8]) -> [u8; 20]
-    ensures { result ≡ code_under key (a ++ (label.now ++ (first.now ++ second.now ++ third.now))) }
-{
-    seeded(key, &a, label, first, second, third)
-}
-
 // The expansion of any length, term by term.
-fn all_terms(key: Key, label: &[u8], first: &[u8], second: &[u8], third: &[u8], out: &mut [u8])
-    ensures { out.new ≡ expansion (code_under key) (label.now ++ (first.now ++ second.now ++ third.now)) (length out.old) }
+fn all_terms(key: Key, seed: &Seed, out: &mut [u8])
+    ensures { out.new ≡ expansion (code_under key) seed.now (length out.old) }
 {
-    if out.len() == 0 {
+    if out.is_empty() {
         return;
     }
     let last = (out.len() - 1) / 20;
-    let mut a = seeded(key, &[], label, first, second, third);
-    let mut i: usize = 0;
-    while i < last {
-        let whole = term(key, a, label, first, second, third);
+    let mut a = seed.code(key, &[]);
+    for i in 0..last {
+        let whole = seed.code(key, &a);
         lay(out, 20 * i, &whole);
         let after = next(key, a);
         a = after;
-        i += 1;
     }
-    let cut = term(key, a, label, first, second, third);
+    let cut = seed.code(key, &a);
     let at = 20 * last;
     lay(out, at, &cut[..out.len() - at]);
 }
 
-// An expansion of one term, with a seed so short that A(1) and the term each take two blocks at most.
-fn one_term(key: Key, label: &[u8], first: &[u8], second: &[u8], third: &[u8], out: &mut [u8])
-    requires { (0 < length out.old) × (length out.old ≤ 20) × (length label.now + length first.now + length second.now + length third.now < 100) }
-    ensures { out.new ≡ expansion (code_under key) (label.now ++ (first.now ++ second.now ++ third.now)) (length out.old) }
+// An expansion of one term, with a seed of n bytes, so few that A(1) and the term each take two blocks at most.
+fn one_term(key: Key, seed: &Seed, n: usize, out: &mut [u8])
+    requires { (0 < length out.old) × (length out.old ≤ 20) × (length seed.now ≡ n) × (n < 100) }
+    ensures { out.new ≡ expansion (code_under key) seed.now (length out.old) }
 {
     let mut d = [0u8; 128];
-    lay_seed(&mut d, label, first, second, third);
-    let n = label.len() + first.len() + second.len() + third.len();
+    seed.lay(&mut d);
     let mut e = [0u8; 128];
     lay(&mut e, 20, &d[..n]);
     let a = short_code(key, &mut d, n);
     lay(&mut e, 0, &a);
     let cut = short_code(key, &mut e, 20 + n);
     lay(out, 0, &cut[..out.len()]);
-}
-
-// The label and the seed, one behind the other, over the front of d.
-fn lay_seed(d: &mut [u8], label: &[u8], first: &[u8], second: &[u8], third: &[u8])
-    requires { length label.now + length first.now + length second.now + length third.now ≤ length d.old }
-    ensures { d.new ≡ laid_over d.old 0 (label.now ++ (first.now ++ second.now ++ third.now)) }
-{
-    lay(d, 0, label);
-    let one = label.len();
-    lay(d, one, first);
-    let two = one + first.len();
-    lay(d, two, second);
-    lay(d, two + second.len(), third);
 }
 
 // The code of n bytes, which stand at the front of d with zeros behind them.
@@ -183,35 +134,6 @@ fn short_code(key: Key, d: &mut [u8], n: usize) -> [u8; 20]
     let outer = key.outer;
     let last = closed(inner, d, n, (n + 64) as u64);
     hashed(outer, spelled(last))
-}
-
-// The sizes of the label and of the seed's pieces together, where these are below 100 and the output takes one term; else 100.
-fn short_seed(out: usize, label: usize, first: usize, second: usize, third: usize) -> usize
-    ensures { result < 100 → (0 < out) × (out ≤ 20) × (label + first + second + third ≡ result) }
-{
-    if out == 0 {
-        return 100;
-    }
-    if 20 < out {
-        return 100;
-    }
-    let one = at_most(99, label, first);
-    let two = at_most(99, one, second);
-    at_most(99, two, third)
-}
-
-// The sum of a and b where it is at most `most`, else one more than that.
-fn at_most(most: usize, a: usize, b: usize) -> usize
-    requires { most < 128 }
-    ensures { result ≡ pick (nat_le (a + b) most) (a + b) (most + 1) }
-{
-    if most < a {
-        return most + 1;
-    }
-    if most - a < b {
-        return most + 1;
-    }
-    a + b
 }
 
 // A(i + 1), from A(i).
@@ -268,10 +190,8 @@ fn masked(block: [u8; 64], x: u8) -> [u8; 64]
     ensures { result ≡ Hmac.masked x block }
 {
     let mut d = block;
-    let mut i: usize = 0;
-    while i < 64 {
-        d[i] = block[i] ^ x;
-        i += 1;
+    for byte in &mut d {
+        *byte ^= x;
     }
     d
 }

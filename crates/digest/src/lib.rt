@@ -9,6 +9,7 @@ mod key;
 mod mac;
 mod named;
 mod pieces;
+mod seed;
 
 pub use block::State;
 pub use bytes::put;

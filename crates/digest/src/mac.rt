@@ -93,10 +93,8 @@ pub fn same_code(a: &[u8], b: &[u8]) -> bool
         return false;
     }
     let mut differ: u8 = 0;
-    let mut i: usize = 0;
-    while 0 < a.len() - i {
-        differ = differ | (a[i] ^ b[i]);
-        i += 1;
+    for (x, y) in a.iter().zip(b) {
+        differ |= x ^ y;
     }
     differ == 0
 }

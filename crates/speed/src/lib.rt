@@ -34,10 +34,8 @@ pub extern "C" fn speed_codes(key: &[u8], message: &[u8], n: usize, out: &mut [u
 {
     let k = Key::new(key);
     let mut c = code(k, message);
-    let mut i: usize = 1;
-    while i < n {
+    for _ in 1..n {
         c = code(k, message);
-        i += 1;
     }
     put(out, 0, &c);
 }

@@ -48,10 +48,8 @@ fn papers() {
 fn million_a() -> [u8; 20] {
     let piece = [97u8; 1000];
     let mut h = digest::Hasher::new();
-    let mut i: usize = 0;
-    while i < 1000 {
+    for _ in 0..1000 {
         h = h.update(&piece);
-        i += 1;
     }
     h.finish()
 }
@@ -155,10 +153,8 @@ fn lengths() {
 // Byte i is i modulo 251.
 fn message() -> [u8; 128] {
     let mut m = [0u8; 128];
-    let mut i: usize = 0;
-    while i < 128 {
+    for i in 0..128 {
         m[i] = (i % 251) as u8;
-        i += 1;
     }
     m
 }
@@ -238,10 +234,8 @@ fn code(key: &[u8], head: &[u8], body: &[u8], name: &[u8], published: &[u8]) {
 // The bytes 1 to 25.
 fn one_up() -> [u8; 25] {
     let mut key = [0u8; 25];
-    let mut i: usize = 0;
-    while i < 25 {
-        key[i] = (i % 25 + 1) as u8;
-        i += 1;
+    for i in 0..25 {
+        key[i] = (i + 1) as u8;
     }
     key
 }

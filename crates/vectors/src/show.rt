@@ -6,14 +6,8 @@ pub fn line(name: &[u8], published: &[u8], computed: &[u8]) {
     io::write_all(STDOUT_FILENO, b" ");
     io::write_all(STDOUT_FILENO, published);
     io::write_all(STDOUT_FILENO, b" ");
-    let mut i: usize = 0;
-    while i < computed.len() {
-        io::print_hex(STDOUT_FILENO, wide(computed[i]), 2);
-        i += 1;
+    for byte in computed {
+        io::print_hex(STDOUT_FILENO, u64::from(*byte), 2);
     }
     io::write_all(STDOUT_FILENO, b"\n");
-}
-
-fn wide(x: u8) -> u64 {
-    x as u64
 }

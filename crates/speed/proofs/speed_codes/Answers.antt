@@ -4,11 +4,11 @@ use borrow.Author.Rules.{rules}
 use Rattle.digest.specs.Bytes.{laid_within}
 use Rattle.speed.proofs.speed_codes.Goals as goal
 
-pub loop-i-init : goal.loop-i-init
-loop-i-init c = (c.code-c.ensures _ c.new-k.ensures.exact, search rules)
+pub loop-init : goal.loop-init
+loop-init c = (c.code-c.ensures _ c.new-k.ensures.exact, search rules)
 
-pub loop-i-preserved : goal.loop-i-preserved
-loop-i-preserved c = (c.code-c-in-loop-i.ensures _ c.new-k.ensures.exact, search rules)
+pub loop-preserved : goal.loop-preserved
+loop-preserved c = (c.code-c-in-loop.ensures _ c.new-k.ensures.exact, search rules)
 
 pub returns : goal.returns
-returns c = c.put.ensures.exact ∙ ap (laid_within _ 0) c.loop-i.invariant.0
+returns c = c.put.ensures.exact ∙ ap (laid_within _ 0) c.loop.invariant.0

@@ -1,12 +1,8 @@
 -- `speed_codes`: each code that is made is the code of the message.
-use Prim.Native.Nat.{◌-◌}
 use mathlib.Core.Path.{◌≡◌}
 use lib.ListN.{length}
 use Rattle.digest.specs.Hmac.{hmac}
 use Rattle.speed.proofs.speed_codes.Given as goal
 
-abbrev pub invariant-loop-i : goal.invariant-loop-i
-invariant-loop-i l = (l.c ≡ hmac l.key l.message) × (length l.c ≡ 20)
-
-abbrev pub decreases-loop-i : goal.decreases-loop-i
-decreases-loop-i l = l.n - l.i
+abbrev pub invariant-loop : goal.invariant-loop
+invariant-loop l = (l.c ≡ hmac l.key l.message) × (length l.c ≡ 20)

@@ -1,22 +1,26 @@
--- `key::masked`: after i turns the first i bytes are masked.
-use Rattle.std.proofs.Common.{◌≡◌, refl, ◌∙◌, arith, length-set}
+-- `key::masked`: the bytes so far are masked, and the others as they were.
+use Rattle.std.proofs.Common.{◌≡◌, ◌+◌, set, take, refl, ap, ◌∙◌, arith, length-set, get_or-set_other}
+use lib.Bits.{bit_xor}
 use Rattle.digest.specs.Hmac as Hmac
 use Rattle.digest.proofs.Codes.{masked_more, masked_whole}
 use Rattle.digest.proofs.key.masked.Goals as goal
 
-pub loop-i-init : goal.loop-i-init
+pub loop-byte-init : goal.loop-byte-init
 unfolding Hmac.masked
-loop-i-init c = (omega arith, c.requires, c.requires, refl)
+loop-byte-init c = (c.requires, refl, λ k h. refl)
 
-pub loop-i-preserved : goal.loop-i-preserved
-loop-i-preserved c = let at = c.loop-i in (
-  omega arith,
-  at.invariant.1,
-  length-set at.d at.i _ ∙ at.invariant.2,
-  masked_more _ c.args.block at.d at.i (omega arith) (omega arith) at.invariant.3,
-)
+pub loop-byte-preserved : goal.loop-byte-preserved
+loop-byte-preserved c = let at = c.loop-byte in
+    let d = at.byte-items in
+    let i = at.byte-index in
+    let x = c.args.x in
+    let here = at.invariant.2 i (omega arith) in (
+      length-set d i _ ∙ at.invariant.0,
+      ap (λ v. take (i + 1) (set d i (bit_xor v x))) here ∙ masked_more x c.args.block d i (omega arith) (omega arith) at.invariant.1,
+      λ k h. get_or-set_other d i k _ 0 (λ e. omega arith) ∙ at.invariant.2 k (omega arith),
+    )
 
 pub returns : goal.returns
-returns c = let at = c.loop-i in
-    let last : at.i ≡ 64 = omega arith in
-    masked_whole _ 64 _ at.d at.invariant.1 at.invariant.2 (rw last at at.invariant.3)
+returns c = let at = c.loop-byte in
+    let last : at.byte-index ≡ 64 = omega arith in
+    masked_whole _ 64 _ at.byte-items c.requires at.invariant.0 (rw last at at.invariant.1)

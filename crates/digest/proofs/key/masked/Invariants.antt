@@ -1,10 +1,9 @@
--- `key::masked`: after i turns the first i bytes are masked.
-use Rattle.std.proofs.Common.{◌≡◌, ◌-◌, ◌≤◌, length, take}
+-- `key::masked`: the bytes so far are masked, and the others as they were.
+use Rattle.std.proofs.Common.{◌≡◌, ℕ, ◌≤◌, length, get_or, take}
 use Rattle.digest.specs.Hmac as Hmac
 use Rattle.digest.proofs.key.masked.Given as goal
 
-abbrev pub invariant-loop-i : goal.invariant-loop-i
-invariant-loop-i l = (l.i ≤ 64) × (length l.block ≡ 64) × (length l.d ≡ 64) × (take l.i l.d ≡ Hmac.masked l.x (take l.i l.block))
-
-abbrev pub decreases-loop-i : goal.decreases-loop-i
-decreases-loop-i l = 64 - l.i
+abbrev pub invariant-loop-byte : goal.invariant-loop-byte
+invariant-loop-byte l = (length l.byte-items ≡ 64)
+    × (take l.byte-index l.byte-items ≡ Hmac.masked l.x (take l.byte-index l.fn.block))
+    × ((k : ℕ) → l.byte-index ≤ k → get_or l.byte-items k 0 ≡ get_or l.fn.block k 0)

@@ -1,8 +1,8 @@
--- `key::seeded`: five pieces behind the inner pad, and the end.
-use Rattle.std.proofs.Common.{[], ap, ◌∙◌, append_assoc}
+-- `Seed::code`: five pieces behind the inner pad, and the end.
+use Rattle.std.proofs.Common.{[], ◌++◌, ap, ◌∙◌, append_assoc}
 use Rattle.digest.specs.Hmac.{code_under}
 use Rattle.digest.proofs.Codes.{begun_absorbed, piece}
-use Rattle.digest.proofs.key.seeded.Goals as goal
+use Rattle.digest.proofs.seed.Seed.code.Goals as goal
 
 pub returns : goal.returns
 returns c = let args = c.args in
@@ -13,4 +13,6 @@ returns c = let args = c.args in
     let three = piece g _ _ _ _ c.update-g-3.ensures.exact two in
     let four = piece g _ _ _ _ c.update-g-4.ensures.exact three in
     let five = piece g _ _ _ _ c.update-g-5.ensures.exact four in
-    c.end.ensures.meaning _ five ∙ ap (code_under args.key) (simp append_assoc)
+    c.end.ensures.meaning _ five
+    ∙ ap (code_under args.key) (simp append_assoc)
+    ∙ ap (λ s. code_under args.key (args.front.now ++ s)) c.self.view_is
