@@ -30,10 +30,7 @@ pub fn write_file(
         count,
         end: bytes.len() + HEAD * count,
     };
-    if !run.is_within() {
-        return Err(Refusal::Limit);
-    }
-    let size = run.file_size();
+    let size = run.file_size().ok_or(Refusal::Limit)?;
     if out.len() < size {
         return Err(Refusal::Room);
     }
