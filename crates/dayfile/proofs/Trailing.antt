@@ -5,7 +5,7 @@ use mathlib.Core.Path.{◌≡◌, refl, sym, ◌∙◌, ap, subst}
 use mathlib.Core.Bool.{Bool, true, false, ◌&&◌}
 use mathlib.Core.List.{List, [], ◌∷◌, ◌++◌, append_assoc}
 use mathlib.Core.Logic.{◌⊎◌, inl, inr, by_cases}
-use Prim.Native.Nat.{ℕ, ◌+◌, ◌-◌, ◌*◌, ◌/◌, ◌%◌, ◌≤◌, ◌<◌}
+use Prim.Native.Nat.{ℕ, ◌+◌, ◌*◌, ◌/◌, ◌%◌, ◌≤◌, ◌<◌}
 use native.Mathlib.Omega.{arith}
 use native.Mathlib.Decide.{ℕ_discrete, dec_le}
 use native.Mathlib.Nat.{zero-add}
@@ -19,7 +19,9 @@ use Rattle.digest.specs.Mac.{same_bytes}
 use Rattle.digest.proofs.Same.{differ_same}
 use Rattle.digest.proofs.Lay.{length_laid}
 use Rattle.dayfile.specs.File.{Report, report_of, body_of, distances_of, trailer_of, file_of, is_within, Sound}
-use Rattle.dayfile.specs.Runs.{pair_at, run_of, counted, RunStands}
+use Rattle.dayfile.specs.Runs.{pair_at, run_of, counted, size_within, RunStands}
+use Rattle.std.specs.Prelude.{Option, Some, None}
+use Rattle.std.specs.Bool.{then_some}
 use Rattle.dayfile.specs.declared.run.Run.{Run}
 use Rattle.dayfile.proofs.Laying.{pair_back, bytes2_of, laid_append, laid_at_front, laid_within_lem}
 use Rattle.dayfile.proofs.Fronts.{short_nothing, length_report}
@@ -78,14 +80,48 @@ module _ (run : Run) (l : List Report) (c : run ≡ counted l) where
   many_in : run.count ≡ length l
   many_in = ap (λ r. r.count) c
 
-  pub few_within : run.count ≤ 4096 → leb run.end (65536 - (3 + 2 * run.count)) ≡ is_within l
-  few_within few =
-      by_cases (dec_le run.end (65536 - (3 + 2 * run.count)))
-      (λ h. le-leb run.end (65536 - (3 + 2 * run.count)) h ∙ sym (within_yes l (omega (arith, many_in)) (omega (arith, run_size))))
-      (λ h. lt-leb run.end (65536 - (3 + 2 * run.count)) (omega arith) ∙ sym (over_long l (omega (arith, many_in)) (omega (arith, run_size))))
+  pub many_without : 4096 < run.count → None ≡ size_within l
+  many_without h = ap (λ t. pick t (Some (length (file_of l))) None) (sym (over_many l (omega (arith, many_in))))
 
-  pub many_within : 4096 < run.count → leb run.count 4096 ≡ is_within l
-  many_within many = lt-leb run.count 4096 many ∙ sym (over_many l (omega (arith, many_in)))
+  pub long_without : run.count ≤ 4096 → 65536 < run.end + (3 + 2 * run.count) → None ≡ size_within l
+  long_without few h =
+      ap (λ t. pick t (Some (length (file_of l))) None) (sym (over_long l (omega (arith, many_in)) (omega (arith, run_size))))
+
+  pub size_there : run.count ≤ 4096 → (n : ℕ) → n ≡ run.end + (3 + 2 * run.count) → then_some (leb n 65536) n ≡ size_within l
+  size_there few n e =
+      by_cases (dec_le n 65536)
+      (λ h.
+      ap (λ t. then_some t n) (le-leb n 65536 h) ∙ ap Some (e ∙ run_size)
+      ∙ ap (λ t. pick t (Some (length (file_of l))) None) (sym (within_yes l (omega (arith, many_in)) (omega (arith, run_size)))))
+      (λ h. ap (λ t. then_some t n) (lt-leb n 65536 (omega arith)) ∙ long_without few (omega arith))
+
+-- what the size that is told says of the run and of its list
+pub record Sized (run : Run) (l : List Report) (size : ℕ) : Type 0 where
+  pub within : is_within l ≡ true
+  pub exact : size ≡ length (file_of l)
+  pub sum : run.end + (3 + 2 * run.count) ≡ size
+  pub small : run.end < 65536
+
+pub sized : (run : Run) (l : List Report) → run ≡ counted l → (size : ℕ) → size_within l ≡ Some size → Sized run l size
+sized run l c size e = told (is_within l) refl e
+  where
+    told : (t : Bool) → is_within l ≡ t → pick t (Some (length (file_of l))) None ≡ Some size → Sized run l size
+    told true p q =
+        let exact : size ≡ length (file_of l) = cc in
+        record {
+          within = p;
+          exact = exact;
+          sum = run_size run l c ∙ sym exact;
+          small = omega (arith, run_size run l c, (within_is l p).1);
+        }
+    told false p q = absurd (cc)
+
+pub without_size : (l : List Report) → size_within l ≡ None → is_within l ≡ false
+without_size l e = told (is_within l) refl e
+  where
+    told : (t : Bool) → is_within l ≡ t → ◌≡◌ {A = Option ℕ} (pick t (Some (length (file_of l))) None) None → is_within l ≡ false
+    told true p q = absurd (cc)
+    told false p q = p
 
 -- a report has more than one byte
 pub few_in : (l : List Report) → length l ≤ length (body_of l)

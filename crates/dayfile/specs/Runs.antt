@@ -2,7 +2,7 @@
 -- where D1 stands and its 5 + length bytes are there, its length from 1 to 1,400. Reading a file goes the same way.
 use Rattle.std.specs.Prelude.{List, [], ◌∷◌, ◌≡◌, ℕ, zero, suc, ◌+◌, ◌*◌, ◌-◌, ◌≤◌, length, get_or, take, drop, eqb, ltb, Option, Some, None}
 use Rattle.digest.specs.Pick.{pick}
-use Rattle.dayfile.specs.File.{Report, report_of, body_of, is_sized}
+use Rattle.dayfile.specs.File.{Report, report_of, body_of, file_of, is_sized, is_within}
 use Rattle.dayfile.specs.declared.report.Found.{Found}
 use Rattle.dayfile.specs.declared.run.Run.{Run}
 
@@ -45,6 +45,10 @@ run_of s = run_within (length s) s
 -- how many reports the run has, and where it ends
 abbrev pub counted : List Report → Run
 counted l = record { count = length l; end = length (body_of l) }
+
+-- how many bytes the file of a list has, where the list is within the limits
+abbrev pub size_within : List Report → Option ℕ
+size_within l = pick (is_within l) (Some (length (file_of l))) None
 
 -- a run, of so many reports and with this end, stands at the front of s, byte for byte
 pub record RunStands (s : List ℕ) (run : Run) : Type 0 where

@@ -1,6 +1,6 @@
 // The day's list as a file (02 P9) and its mending (02 P10), for Rattle and, by the calls of this page, which `dayfile_c` exports
 // under their names, for C and Rust. There is no heap; everything is lent. No call has a `requires`: what is lent is tested. A
-// refused call leaves every lent byte as it was.
+// refused call leaves every lent byte as it was. Each answers one number, since C takes no Result.
 #![tactic(auto)]
 
 ghost use Rattle.std.specs.Prelude.{◌≡◌, ◌+◌, ◌*◌, ◌≤◌, length, drop};

@@ -24,10 +24,8 @@ pub fn mend_file(file: &[u8], out: &mut [u8]) -> Result<Mended, Refusal>
         return Err(Refusal::Limit);
     }
     let run = run_in(file);
-    if !run.is_within() {
-        return Err(Refusal::Limit);
-    }
-    if out.len() < run.file_size() {
+    let size = run.file_size().ok_or(Refusal::Limit)?;
+    if out.len() < size {
         return Err(Refusal::Room);
     }
     let sound = trailer_stands(file, run);

@@ -1,7 +1,7 @@
 // The run of whole reports from the front.
-ghost use Rattle.std.specs.Prelude.{List, ◌≡◌, ◌+◌, ◌*◌, ◌≤◌, ◌<◌, true, length, take};
-ghost use Rattle.dayfile.specs.File.{Report, body_of, file_of, is_within};
-ghost use Rattle.dayfile.specs.Runs.{run_of, counted};
+ghost use Rattle.std.specs.Prelude.{List, ◌≡◌, take};
+ghost use Rattle.dayfile.specs.File.{Report, body_of};
+ghost use Rattle.dayfile.specs.Runs.{run_of, counted, size_within};
 
 use crate::report::{HEAD, report_at};
 
@@ -18,28 +18,15 @@ pub struct Run {
 }
 
 impl Run {
-    // Whether a list of these reports has a file: how many it may have, and how many bytes.
-    pub(crate) fn is_within(self) -> bool
-        ensures exact { (l : List Report) → self ≡ counted l → result ≡ is_within l }
-        ensures bounds { result ≡ true → (self.count ≤ 4096) × (self.end < 65536) }
+    // How many bytes the file of these reports has, the trailer included, where it is within the limits.
+    pub(crate) fn file_size(self) -> Option<usize>
+        ensures { (l : List Report) → self ≡ counted l → result ≡ size_within l }
     {
-        self.count <= MOST_REPORTS && self.end <= MOST_BYTES - self.trailer_size()
-    }
-
-    // How many bytes its file has: the reports, and the trailer behind them.
-    pub(crate) fn file_size(self) -> usize
-        requires { (self.count ≤ 4096) × (self.end < 65536) }
-        ensures { (l : List Report) → self ≡ counted l → result ≡ length (file_of l) }
-    {
-        self.end + self.trailer_size()
-    }
-
-    // An opening byte, two bytes for each report, and two for the count.
-    fn trailer_size(self) -> usize
-        requires { self.count ≤ 4096 }
-        ensures { result ≡ 3 + 2 * self.count }
-    {
-        3 + 2 * self.count
+        if MOST_REPORTS < self.count {
+            return None;
+        }
+        let size = self.end.checked_add(3 + 2 * self.count)?;
+        (size <= MOST_BYTES).then_some(size)
     }
 }
 

@@ -1,5 +1,5 @@
-// Writing: the file of a list that is lent as three slices: the numbers of its reports, their
-// sizes, and the bytes of all of them, one report's behind the other's.
+// Writing: the file of a list that is lent as three slices, since C lends it so: the numbers of its
+// reports, their sizes, and the bytes of all of them, one report's behind the other's.
 ghost use Rattle.std.specs.Prelude.{true, ◌≡◌, ◌++◌, ◌+◌, ◌*◌, ◌≤◌, length};
 ghost use Rattle.digest.specs.Bytes.{laid_over};
 ghost use Rattle.dayfile.specs.File.{body_of, head_of};
@@ -30,10 +30,7 @@ pub fn write_file(
         count,
         end: bytes.len() + HEAD * count,
     };
-    if !run.is_within() {
-        return Err(Refusal::Limit);
-    }
-    let size = run.file_size();
+    let size = run.file_size().ok_or(Refusal::Limit)?;
     if out.len() < size {
         return Err(Refusal::Room);
     }
