@@ -4,6 +4,7 @@ use crate::console::{Console, Ran};
 use calllines::outcome::{put_out, put_outcome, put_taken};
 use calllines::status::put_status;
 use connection::receive::Received;
+use connection::refusal::Refusal;
 use lines::text::put;
 
 // A line that is no call changes nothing.

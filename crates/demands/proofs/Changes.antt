@@ -27,7 +27,7 @@ use Rattle.demands.specs.Refusals.{marked, marked_as, refused_leaves, RefusedRec
 use Rattle.demands.specs.Changes.{Leaves, RecordChangesOnly, CloseChangesOnly, StartChangesOnly}
 use Rattle.demands.proofs.Table.{row_of}
 use Rattle.connection.specs.declared.sent.SentRecords.{SentRecords}
-use Rattle.std.specs.Prelude.{Err, Ok}
+use Rattle.std.specs.Prelude.{Err, Ok, Result, ⊤}
 
 module _ (h : Handshake) (sent : SentRecords) (random d : List ℕ) (r : Record) where
   -- the mark of a new number
@@ -98,7 +98,7 @@ refused_record h sent random d r x e =
 
 -- close, and start again
 
-refused_done : {P : Type 0} (x : Refusal) → Err x ≡ Ok tt → P
+refused_done : {P : Type 0} (x : Refusal) → ◌≡◌ {A = Result ⊤ Refusal} (Err x) (Ok tt) → P
 refused_done x e = let z : ◌≡◌ {A = ℕ} 0 1 = cc in absurd (omega arith)
 
 closed_by : (c : Connection) (s : State) → (closed_in c s).outcome ≡ Ok tt → (closed_in c s).connection ≡ ended c

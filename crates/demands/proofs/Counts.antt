@@ -23,7 +23,7 @@ use Rattle.connection.specs.declared.answer.Answer.TheVariants as W
 use Rattle.connection.specs.declared.answer.Slot.{Slot}
 use Rattle.connection.specs.declared.connection.Connection.{Connection}
 use Rattle.connection.specs.declared.tally.Tally.{Tally}
-use Rattle.demands.specs.Runs.{Call, Result, received, sent, called, Step, step_of}
+use Rattle.demands.specs.Runs.{Call, Returned, received, sent, called, Step, step_of}
 use Rattle.demands.specs.Calls.{Chain, chain_end, chain_more, CallRow, receive_16, receive_6, receive_framing, receive_records, data_16, data_7, data_8, data_15, data_6, data_sent_lem, alert_16, alert_7, alert_8, alert_15, alert_6, alert_sent_lem, close_7, close_done, start_7, start_8, start_done}
 use Rattle.demands.specs.Past.{is_data}
 use Rattle.demands.specs.LeftOut.{answers_in, tallied_in}
@@ -144,7 +144,7 @@ module _ (a b c e : ℕ) (slots : List Slot) where
 
 -- ---- each receive gives eight places
 
-Eight : Result → Type 0
+Eight : Returned → Type 0
 Eight (received taken answers written) = length answers ≡ 8
 Eight (sent outcome written) = Unit
 Eight (called outcome) = Unit
@@ -188,7 +188,7 @@ eight c (start_7 e) = tt
 eight c (start_8 n m) = tt
 eight c (start_done e) = tt
 
-result_counts : (a b c e : ℕ) (r : Result) → Eight r
+result_counts : (a b c e : ℕ) (r : Returned) → Eight r
     → tallied_in (tally_of a b c e) r ≡ tally_of (a + count_in is_data (answers_in r)) (b + count_in (refused_as is_forged) (answers_in r)) (c + count_in (refused_as is_old) (answers_in r)) (e + count_in (refused_as is_repeated) (answers_in r))
 unfolding Eight count_in
 result_counts a b c e (received taken answers written) l = eight_counts a b c e answers l
@@ -203,7 +203,7 @@ all_counts : (os : List OnConnection) (a b c e : ℕ)
 unfolding tally_after count_over
 all_counts [] a b c e = none a b c e
 all_counts (o ∷ os) a b c e =
-    let r : Result = (step_of o.connection o.call).result in
+    let r : Returned = (step_of o.connection o.call).result in
     let n : (Answer → Bool) → ℕ = λ is. count_in is (answers_in r) in
     ap (λ t. tally_after step_of tallied_in t os) (result_counts a b c e r (eight o.connection (call_of o.connection o.call)))
     ∙ all_counts os (a + count_in is_data (answers_in r)) (b + count_in (refused_as is_forged) (answers_in r)) (c + count_in (refused_as is_old) (answers_in r)) (e + count_in (refused_as is_repeated) (answers_in r))

@@ -1,6 +1,7 @@
 -- Data only after Finished. The idea: a connection is Open only behind an Open answer, with no new reply, closing or start since; that
 -- answer's record was protected under the keys that the connection held, and these are the keys of the last new reply
 -- (`Kept.kept_more`); its content was judged right, so it is the Finished of the contents that the connection expected.
+use Rattle.message.specs.declared.finished.Unverified.{Unverified}
 use mathlib.Core.Path.{◌≡◌, refl, sym, ◌∙◌, ap, ap₂, subst}
 use mathlib.Core.Logic.{◌⊎◌, inl, inr}
 use mathlib.Core.Bool.{Bool, true, false}
@@ -61,13 +62,13 @@ use Rattle.demands.proofs.Refusals.{outcome_in}
 use Rattle.demands.proofs.Kept.{kept_more, kept_fresh, live, greets_live, protected_live}
 use Rattle.connection.specs.declared.sent.SentRecords.{SentRecords}
 use Rattle.connection.specs.Connection.{alone}
-use Rattle.std.specs.Prelude.{Err, Ok}
+use Rattle.std.specs.Prelude.{Err, Ok, Result, ⊤}
 
 -- ---- a content that was judged right is the Finished of the expected contents
 
 module _ (m e : List ℕ) where
   judged_tests : (a b c : Bool) → eqb (length m) 15 ≡ a → fills finished m ≡ b → same_bytes (part_of m 3 15) e ≡ c
-      → pick a (pick b (pick c (Ok tt) (Err F.Wrong)) (Err F.Malformed)) (Err F.Malformed) ≡ Ok tt
+      → ◌≡◌ {A = Result ⊤ Unverified} (pick a (pick b (pick c (Ok tt) (Err F.Wrong)) (Err F.Malformed)) (Err F.Malformed)) (Ok tt)
       → (length m ≡ 15) × (fills finished m ≡ true) × (part_of m 3 15 ≡ e)
   judged_tests true true true ea eb ec z = (eqb-true (length m) 15 ea, eb, same_equal (part_of m 3 15) e ec)
   judged_tests true true false ea eb ec z = let w : ◌≡◌ {A = ℕ} 0 1 = cc in absurd (omega arith)

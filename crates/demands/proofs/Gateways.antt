@@ -32,7 +32,7 @@ use Rattle.connection.specs.declared.connection.Connection.{Connection}
 use Rattle.connection.specs.declared.receive.Untaken.TheVariants as T
 use Rattle.connection.specs.declared.handshake.Handshake.{Handshake}
 use Rattle.connection.specs.declared.handshake.Session.{Session}
-use Rattle.demands.specs.Runs.{receive, close, Result, received, Gateway, step_of, final_of}
+use Rattle.demands.specs.Runs.{receive, close, Returned, received, Gateway, step_of, final_of}
 use Rattle.demands.specs.Seen.{Seen, seen_in}
 use Rattle.demands.specs.Table.{Row, Allowed, hello, change, alert, guarded, row_not_allowed, row_change}
 use Rattle.demands.specs.Calls.{Chain, chain_end, chain_more, FirstSends}
@@ -370,8 +370,8 @@ closing_counts = refl
 pub invented_tally : (counting : Counting) → Invented counting → CountsRight step_of counting → ⊥
 unfolding Invented CountsRight tally_after count_over
 invented_tally counting bad right =
-    let r : Result = (step_of handing.connection handing.call).result in
-    let q : Result = (step_of closing_only.connection closing_only.call).result in
+    let r : Returned = (step_of handing.connection handing.call).result in
+    let q : Returned = (step_of closing_only.connection closing_only.call).result in
     let one : (counting fresh_tally r).handed ≡ up_to_stop (count_in is_data (answers_in r) + 0) = ap (λ x. x.handed) (right (handing ∷ [])) in
     let none : (counting fresh_tally q).handed ≡ up_to_stop (count_in is_data (answers_in q) + 0) = ap (λ x. x.handed) (right (closing_only ∷ [])) in
     let z : ◌≡◌ {A = ℕ} 1 0

@@ -38,7 +38,7 @@ use Rattle.connection.specs.declared.connection.Connection.{Connection}
 use Rattle.connection.specs.declared.handshake.Handshake.{Handshake}
 use Rattle.connection.specs.declared.tally.Tally.{Tally}
 use Rattle.demands.specs.Seen.{seen_in}
-use Rattle.demands.specs.Runs.{Call, receive, send_data, send_alert, close, start, Result, received, sent, called, Step, step_of, final_of}
+use Rattle.demands.specs.Runs.{Call, receive, send_data, send_alert, close, start, Returned, received, sent, called, Step, step_of, final_of}
 use Rattle.record.specs.declared.keys.Keys.{Keys}
 use Rattle.demands.specs.Genuine.{Genuine, Protected, RecordOf, keys_of}
 use Rattle.demands.specs.Table.{Row, Hears, Guarded}
@@ -270,7 +270,7 @@ alike_first t u b slots zero = b
 alike_first t u b slots (suc n) =
     alike (counted_first t slots n) (counted_first u slots n) (alike_first t u b slots n) (get_or slots n (slot W.Nothing)).answer
 
-alike_result : (t u : Tally) → ButForged t u → (r : Result) → ButForged (tallied_in t r) (tallied_in u r)
+alike_result : (t u : Tally) → ButForged t u → (r : Returned) → ButForged (tallied_in t r) (tallied_in u r)
 alike_result t u b (received taken answers written) = alike_first t u b answers 8
 alike_result t u b (sent outcome written) = b
 alike_result t u b (called outcome) = b
@@ -722,7 +722,7 @@ module _ (k : Keys) where
       (same_handeds (step_of c (receive d random out)).connection e more (q.0 ∙ same) (subst (Settled k) (sym q.0) x))
 
   -- the tally of a result
-  quiet_result : (t : Tally) (r : Result) → SlotsSilent (answers_in r) → ButForged (tallied_in t r) t
+  quiet_result : (t : Tally) (r : Returned) → SlotsSilent (answers_in r) → ButForged (tallied_in t r) t
   quiet_result t (received taken answers written) s = counted_silent t answers s 8
   quiet_result t (sent outcome written) s = same_tally t
   quiet_result t (called outcome) s = same_tally t

@@ -21,7 +21,7 @@ use Rattle.connection.specs.Send.{next_protected, next_alert, alert_body}
 use Rattle.connection.specs.declared.refusal.Refusal.{Refusal}
 use Rattle.connection.specs.declared.refusal.Refusal.TheVariants as X
 use Rattle.connection.specs.declared.connection.Connection.{Connection}
-use Rattle.demands.specs.Runs.{Call, receive, send_data, send_alert, Result, received, sent, called, Step, step_of}
+use Rattle.demands.specs.Runs.{Call, receive, send_data, send_alert, Returned, received, sent, called, Step, step_of}
 use Rattle.demands.specs.Calls.{CallRow, receive_16, receive_6, receive_framing, receive_records, data_16, data_7, data_8, data_15, data_6, data_sent_lem, alert_16, alert_7, alert_8, alert_15, alert_6, alert_sent_lem, close_7, close_done, start_7, start_8, start_done}
 use Rattle.demands.specs.Refusals.{lent_by, IsRefused, written_by, RefusedCallChangesNothing, NothingWrittenWithoutReply, RefusedByTheList}
 use Rattle.demands.specs.Changes.{after_sending, DataChangesOnly, AlertChangesOnly}
@@ -29,7 +29,7 @@ use Rattle.demands.proofs.First.{first_is}
 use Rattle.demands.proofs.Calls.{call_of}
 use Rattle.connection.specs.Told.{told_record, kept_by}
 use Rattle.connection.specs.Send.{sender_of, after_send}
-use Rattle.std.specs.Prelude.{Err, Ok, ⊤}
+use Rattle.std.specs.Prelude.{Err, Ok, ⊤, Result}
 
 module _ (c : Connection) where
   by_row : {call : Call} {s : Step} → CallRow c call s → IsRefused s.result
@@ -94,12 +94,12 @@ unfolding laid_over
 laid_front out bytes = take_at bytes (drop (0 + length bytes) out) (length bytes) refl
 
 -- what stands in a step of a send
-abbrev pub outcome_in : Result → Result ⊤ Refusal
+abbrev pub outcome_in : Returned → Result ⊤ Refusal
 outcome_in (received taken answers written) = Ok tt
 outcome_in (sent outcome written) = outcome
 outcome_in (called outcome) = outcome
 
-pub refused_done : {P : Type 0} (x : Refusal) → Err x ≡ Ok tt → P
+pub refused_done : {P : Type 0} (x : Refusal) → ◌≡◌ {A = Result ⊤ Refusal} (Err x) (Ok tt) → P
 refused_done x e = let z : ◌≡◌ {A = ℕ} 0 1 = cc in absurd (omega arith)
 
 data_after : (c : Connection) (bytes out : List ℕ) {s : Step} → CallRow c (send_data bytes out) s → outcome_in s.result ≡ Ok tt

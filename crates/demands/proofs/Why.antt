@@ -43,7 +43,7 @@ use Rattle.why.specs.Why.{is_hello, malformed_by, reason_by, reason_at, answer_r
 use Rattle.why.specs.declared.reason.Reason.{Reason}
 use Rattle.why.specs.declared.reason.Reason.TheVariants as R
 use Rattle.why.specs.declared.reason.Why.{Why}
-use Rattle.demands.specs.Runs.{receive, Result, step_of, steps_of, fresh_one, fresh_with}
+use Rattle.demands.specs.Runs.{receive, Returned, step_of, steps_of, fresh_one, fresh_with}
 use Rattle.demands.specs.Acts.{Act, comes, behind}
 use Rattle.demands.specs.Events.{Happened, history, after}
 use Rattle.demands.specs.Kept.{KeptAs}
@@ -306,7 +306,7 @@ module _ (edition : ℕ) (c : Connection) (d random : List ℕ) (i : ℕ) where
 
 -- what a receive gives there
 module _ (c : Connection) (d random out : List ℕ) (i : ℕ) (fits : CallFits (length random) (length out)) where
-  abbrev result : Result
+  abbrev result : Returned
   result = (step_of c (receive d random out)).result
 
   given_at_fault : (fault : Fault) (at : ℕ) → WhyFaulty d fault at → number_given result i ≡ fault_number fault

@@ -10,7 +10,7 @@ use Rattle.connection.specs.declared.connection.Connection.{Connection}
 use Rattle.connection.specs.declared.refusal.Refusal.{Refusal}
 use Rattle.connection.specs.declared.refusal.Refusal.TheVariants as X
 use Rattle.connection.specs.declared.tally.Tally.{Tally}
-use Rattle.demands.specs.Runs.{Call, Result, Gateway}
+use Rattle.demands.specs.Runs.{Call, Returned, Gateway}
 use Rattle.demands.specs.Past.{is_data}
 use Rattle.demands.specs.LeftOut.{answers_in}
 
@@ -90,7 +90,7 @@ count_over g is (o ∷ os) = count_in is (answers_in (g o.connection o.call).res
 
 -- a way to bring a tally up to date after a call
 abbrev pub Counting : Type 0
-Counting = Tally → Result → Tally
+Counting = Tally → Returned → Tally
 
 unfoldable pub tally_after : Gateway → Counting → Tally → List OnConnection → Tally
 tally_after g counting t [] = t

@@ -18,7 +18,7 @@ use Rattle.connection.specs.declared.answer.Answer.TheVariants.{Refused}
 use Rattle.connection.specs.declared.connection.Connection.{Connection}
 use Rattle.connection.specs.declared.receive.Untaken.TheVariants as T
 use Rattle.connection.specs.declared.tally.Tally.{Tally}
-use Rattle.demands.specs.Runs.{Call, receive, Result, received, Gateway, step_of, final_of}
+use Rattle.demands.specs.Runs.{Call, receive, Returned, received, Gateway, step_of, final_of}
 use Rattle.demands.specs.Calls.{Chain, FirstSends, CallRow}
 use Rattle.demands.specs.Refusals.{IsRefused}
 use Rattle.demands.specs.Acts.{Act, comes, SoundActs, acts_of, event_of, behind}
@@ -116,7 +116,7 @@ FirstOnly g =
 
 -- any invented tally: whatever came back, it goes on alike
 unfoldable pub Invented : Counting → Type 0
-Invented counting = (t : Tally) (x y : Result) → counting t x ≡ counting t y
+Invented counting = (t : Tally) (x y : Returned) → counting t x ≡ counting t y
 
 -- None of them passes. 01 names for each what it fails: the table, the handing out, one answer per record, the
 -- history rule.

@@ -16,7 +16,7 @@ use Rattle.connection.specs.declared.connection.Connection.{Connection}
 use Rattle.connection.specs.declared.state.State.{State}
 use Rattle.connection.specs.declared.state.State.TheVariants.{Open, Closed}
 use Rattle.connection.specs.declared.tally.Tally.{Tally}
-use Rattle.demands.specs.Runs.{Call, receive, send_data, send_alert, close, start, Result, received, sent, called, Gateway, final_of}
+use Rattle.demands.specs.Runs.{Call, receive, send_data, send_alert, close, start, Returned, received, sent, called, Gateway, final_of}
 use Rattle.record.specs.declared.keys.Keys.{Keys}
 use Rattle.demands.specs.Genuine.{Genuine, RecordOf, keys_of}
 use Rattle.demands.specs.Asked.{RightBeside}
@@ -112,7 +112,7 @@ handed_parts d [] = []
 handed_parts d (slot ∷ slots) =
     pick (is_data slot.answer) (handed_of d slot.answer ∷ handed_parts d slots) (handed_parts d slots)
 
-abbrev pub answers_in : Result → List Slot
+abbrev pub answers_in : Returned → List Slot
 answers_in (received taken answers written) = answers
 answers_in (sent outcome written) = []
 answers_in (called outcome) = []
@@ -130,7 +130,7 @@ handed_by g c (call ∷ calls) =
     handed_parts (datagram_of call) (answers_in (g c call).result) ++ handed_by g (g c call).connection calls
 
 -- the tally after a run
-abbrev pub tallied_in : Tally → Result → Tally
+abbrev pub tallied_in : Tally → Returned → Tally
 tallied_in t (received taken answers written) = counted_of t answers
 tallied_in t (sent outcome written) = t
 tallied_in t (called outcome) = t

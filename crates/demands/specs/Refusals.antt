@@ -1,7 +1,7 @@
 -- Demand 1: "A refused call writes nothing into the output we lend, and the connection is as before, except where the
 -- list names the change." 01: "A refusal changes neither buffer nor connection, except that 12 under protection and
 -- 17 mark the number, and 17 also closes."
-use Rattle.std.specs.Prelude.{◌≡◌, Bool, true, false, List, [], ◌∷◌, ℕ, ◌≤◌, eqb, Err, Ok, ⊤}
+use Rattle.std.specs.Prelude.{◌≡◌, Bool, true, false, List, [], ◌∷◌, ℕ, ◌≤◌, eqb, Err, Ok, ⊤, Result}
 use Rattle.connection.specs.declared.receive.Untaken.{Untaken}
 use Rattle.record.specs.declared.window.NotNew.{NotNew}
 use Rattle.record.specs.declared.window.Window.{Window}
@@ -26,7 +26,7 @@ use Rattle.connection.specs.declared.asked.Whom.TheVariants as K
 use Rattle.connection.specs.declared.connection.Connection.{Connection}
 use Rattle.connection.specs.declared.receive.Untaken.TheVariants as T
 use Rattle.connection.specs.declared.handshake.Handshake.{Handshake}
-use Rattle.demands.specs.Runs.{Call, receive, send_data, send_alert, close, start, Result, received, sent, called, Gateway, step_of}
+use Rattle.demands.specs.Runs.{Call, receive, send_data, send_alert, close, start, Returned, received, sent, called, Gateway, step_of}
 use Rattle.connection.specs.declared.sent.SentRecords.{SentRecords}
 
 -- the output that a call lends
@@ -47,13 +47,13 @@ abbrev pub NotDone : Result ⊤ Refusal → Type 0
 NotDone (Ok tt) = ⊥
 NotDone (Err refusal) = Unit
 
-abbrev pub IsRefused : Result → Type 0
+abbrev pub IsRefused : Returned → Type 0
 IsRefused (received taken answers written) = NotTaken taken
 IsRefused (sent outcome written) = NotDone outcome
 IsRefused (called outcome) = NotDone outcome
 
 -- how many bytes it says it wrote
-abbrev pub written_by : Result → ℕ
+abbrev pub written_by : Returned → ℕ
 written_by (received taken answers written) = written
 written_by (sent outcome written) = written
 written_by (called outcome) = 0

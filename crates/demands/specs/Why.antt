@@ -1,6 +1,6 @@
 -- 02, P5, "Why was this report dropped?": the tool "names a refusal exactly when receiving would give it, the facts shown are true, and
 -- they are enough to bring that refusal about. Asking changes nothing."
-use Rattle.std.specs.Prelude.{◌≡◌, ◌↔◌, ◌⊎◌, ◌≢◌, List, [], ◌∷◌, ℕ, ◌<◌, length, Err, Ok}
+use Rattle.std.specs.Prelude.{◌≡◌, ◌↔◌, ◌⊎◌, ◌≢◌, List, [], ◌∷◌, ℕ, ◌<◌, length, Err, Ok, Result}
 use Rattle.connection.specs.declared.receive.Untaken.{Untaken}
 use Rattle.record.specs.Window.{Held}
 use Rattle.connection.specs.Answer.{answer_number}
@@ -12,7 +12,7 @@ use Rattle.why.specs.Reason.{reason_number}
 use Rattle.why.specs.Why.{why_of}
 use Rattle.why.specs.declared.reason.Reason.{Reason}
 use Rattle.why.specs.declared.reason.Why.{Why}
-use Rattle.demands.specs.Runs.{Call, receive, Result, received, sent, called, Step, Gateway, steps_of, fresh_one}
+use Rattle.demands.specs.Runs.{Call, receive, Returned, received, sent, called, Step, Gateway, steps_of, fresh_one}
 use Rattle.demands.specs.Acts.{Act, behind}
 use Rattle.demands.specs.Exactly.Whole.{CallFits, WhyFaulty, SoundlyFramed, start_of}
 use Rattle.demands.specs.Exactly.Record.{Bytes, seen_at}
@@ -25,7 +25,7 @@ number_at (Ok count) own = own
 number_at (Err (T.Refused refusal)) own = taken_number (Err (T.Refused refusal))
 number_at (Err (T.Misframed refusal at)) own = taken_number (Err (T.Misframed refusal at))
 
-abbrev pub number_given : Result → ℕ → ℕ
+abbrev pub number_given : Returned → ℕ → ℕ
 number_given (received taken answers written) i = number_at taken (answer_number (answer_given (received taken answers written) i))
 number_given (sent outcome written) i = 0
 number_given (called outcome) i = 0

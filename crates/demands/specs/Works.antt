@@ -21,7 +21,7 @@ use Rattle.connection.specs.declared.answer.Answer.{Answer}
 use Rattle.connection.specs.declared.answer.Answer.TheVariants as W
 use Rattle.connection.specs.declared.connection.Connection.{Connection}
 use Rattle.connection.specs.declared.receive.Untaken.TheVariants as T
-use Rattle.demands.specs.Runs.{receive, send_alert, Result, received, sent, Gateway}
+use Rattle.demands.specs.Runs.{receive, send_alert, Returned, received, sent, Gateway}
 use Rattle.record.specs.declared.keys.Keys.{Keys}
 use Rattle.demands.specs.Genuine.{unit_key, keys_of}
 use Rattle.demands.specs.Runs.{fresh_with}
@@ -45,7 +45,7 @@ keys_after secret random m plan =
     record { secret = secret; mac = plan.mac; refresh = plan.refresh; server = random; client = client_random m }
 
 -- one record, one answer, so many bytes written
-abbrev pub one_answer : Answer → ℕ → Result
+abbrev pub one_answer : Answer → ℕ → Returned
 one_answer a written = received (Ok 1) (slots_of (a ∷ [])) written
 
 pub record Worked (g : Gateway) (id secret : List ℕ) (width : ℕ) (m random out bytes : List ℕ) (plan : Plan) : Type 0 where

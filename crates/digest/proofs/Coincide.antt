@@ -3,8 +3,9 @@
 -- weakened until it allows a second outcome is refused here.
 -- Two values that both equal one definition are equal, and so are the contents of two buffers. Of several clauses the
 -- first is that equation; a `meaning` is not needed. In `ap (λ w. ..)`, w stands for the lent buffer, in its place
--- among the parameters. `cut` gives back a part of a lent slice: the same bytes.
-use Rattle.std.proofs.Common.{◌≡◌, sym, refl, ap, ◌∙◌}
+-- among the parameters. `cut` gives back a part of a lent slice, and `name` one that stands in the program: the same bytes. Where a name
+-- stands in the program, `static` is how long that lasts, whatever it is.
+use Rattle.std.proofs.Common.{◌≡◌, ℕ, List, sym, refl, ap, ◌∙◌}
 use Rattle.digest.specs.Determined.{OneOutcome, OneOutcomeBy}
 use Rattle.digest.proofs.bytes.put as bytes-put
 use Rattle.digest.specs.contracts.bytes.put as bytes-put-contract
@@ -30,6 +31,10 @@ use Rattle.digest.proofs.key.prf as key-prf
 use Rattle.digest.specs.contracts.key.prf as key-prf-contract
 use Rattle.digest.proofs.edition.mac_named as edition-mac-named
 use Rattle.digest.specs.contracts.edition.mac_named as edition-mac-named-contract
+use Rattle.digest.proofs.named.Named.name as named-named-name
+use Rattle.digest.specs.contracts.named.Named.name as named-named-name-contract
+use Rattle.digest.proofs.named.Named.sizes as named-named-sizes
+use Rattle.digest.specs.contracts.named.Named.sizes as named-named-sizes-contract
 use Rattle.digest.proofs.mac.Mac.number as mac-mac-number
 use Rattle.digest.specs.contracts.mac.Mac.number as mac-mac-number-contract
 use Rattle.digest.proofs.mac.Mac.size as mac-mac-size
@@ -80,8 +85,14 @@ key_key_expand_one κs a x y s u e f = (refl, ap (λ w. (tt, (tt, (tt, (tt, (tt,
 pub key_prf_one : OneOutcome key-prf-contract.ended key-prf.Reads.Learnt
 key_prf_one κs a x y s u e f = (refl, ap (λ w. (tt, (tt, (tt, (tt, (tt, (w, tt))))))) (e ∙ sym f))
 
-pub edition_mac_named_one : OneOutcome edition-mac-named-contract.ended edition-mac-named.Reads.Learnt
-edition_mac_named_one κs a x y s u e f = (e ∙ sym f, refl)
+pub edition_mac_named_one : (static : List ℕ) → OneOutcome edition-mac-named-contract.ended (λ κs. edition-mac-named.Reads.Learnt (static, κs))
+edition_mac_named_one static κs a x y s u e f = (e ∙ sym f, refl)
+
+pub named_named_name_one : (static : List ℕ) → OneOutcomeBy named-named-name-contract.ended (λ κs x y. x.now ≡ y.now) (λ κs. named-named-name.Reads.Learnt (static, κs))
+named_named_name_one static κs a x y s u e f = (e.0 ∙ sym f.0, refl)
+
+pub named_named_sizes_one : (static : List ℕ) → OneOutcome named-named-sizes-contract.ended (λ κs. named-named-sizes.Reads.Learnt (static, κs))
+named_named_sizes_one static κs a x y s u e f = (e ∙ sym f, refl)
 
 pub mac_mac_number_one : OneOutcome mac-mac-number-contract.ended mac-mac-number.Reads.Learnt
 mac_mac_number_one κs a x y s u e f = (e ∙ sym f, refl)

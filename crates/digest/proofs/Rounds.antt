@@ -1,6 +1,6 @@
 -- The laws of SHA-1's words, schedule and rounds, on which the functions of block.rt stand.
 use Rattle.std.proofs.Common.{◌≡◌, ℕ, zero, suc, ◌+◌, ◌-◌, ◌*◌, ◌%◌, ◌<◌, ◌≤◌, List, [], ◌∷◌, ◌++◌, length, get_or, take, drop, set, sym, refl, ap, ◌∙◌, ap₂, add-zero, add-suc, add-one, arith, length-append, get_or-drop, get_or-set_other, get_or-take, get_or-set_same, take-suc-set}
-use mathlib.Core.Logic.{by_cases}
+use mathlib.Core.Logic.{by_cases, ◌⊎◌, inl, inr}
 use native.Mathlib.Decide.{dec_le}
 use lib.ListN.{get_or-append}
 use lib.Seq.{get_or_at}
@@ -35,7 +35,7 @@ pub f_first : (t b c d : ℕ) → t < 20 → bit_or (bit_and b c) (bit_and (inve
 unfolding f
 f_first t b c d h = search picks
 
-pub f_second : (t b c d : ℕ) → 20 ≤ t → t < 40 → bit_xor (bit_xor b c) d ≡ f t b c d
+f_second : (t b c d : ℕ) → 20 ≤ t → t < 40 → bit_xor (bit_xor b c) d ≡ f t b c d
 unfolding f
 f_second t b c d l h = search picks
 
@@ -44,10 +44,14 @@ unfolding f
 f_third t b c d l h =
     let l₂ : 20 ≤ t = omega arith in search picks
 
-pub f_fourth : (t b c d : ℕ) → 60 ≤ t → bit_xor (bit_xor b c) d ≡ f t b c d
+f_fourth : (t b c d : ℕ) → 60 ≤ t → bit_xor (bit_xor b c) d ≡ f t b c d
 unfolding f
 f_fourth t b c d l =
     let l₂ : 20 ≤ t = omega arith in let l₄ : 40 ≤ t = omega arith in search picks
+
+pub f_parity : (t b c d : ℕ) → ((20 ≤ t) × (t < 40)) ⊎ (60 ≤ t) → bit_xor (bit_xor b c) d ≡ f t b c d
+f_parity t b c d (inl (l, h)) = f_second t b c d l h
+f_parity t b c d (inr l) = f_fourth t b c d l
 
 pub k_first : (t : ℕ) → t < 20 → 0x5a827999 ≡ k t
 unfolding k

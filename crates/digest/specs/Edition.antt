@@ -1,71 +1,80 @@
 -- The list of MAC kinds in its two editions (002 appendix A, table 6; 02, P11).
-use Rattle.std.specs.Prelude.{ℕ, Bool, true, false, List, [], ◌∷◌, ◌==◌}
+use Rattle.std.specs.Prelude.{ℕ, Bool, true, false, List, [], ◌∷◌, ◌==◌, Option, Some, None, Result, Ok, Err}
 use Rattle.digest.specs.Pick.{pick}
+use Rattle.digest.specs.Named.{Told}
 use Rattle.digest.specs.declared.edition.Entry.{Entry}
-use Rattle.digest.specs.declared.edition.Sizes.{Sizes}
-use Rattle.digest.specs.declared.edition.Sizes.TheVariants.{Shown, Unshown}
-use Rattle.digest.specs.declared.edition.Listing.{Listing}
-use Rattle.digest.specs.declared.edition.Listing.TheVariants.{Listed, Unlisted, UnknownEdition}
-use Rattle.digest.specs.declared.edition.Named.{Named}
+use Rattle.digest.specs.declared.named.Sizes.{Sizes}
+use Rattle.digest.specs.declared.named.Unnamed.{Unnamed}
+use Rattle.digest.specs.declared.named.Unnamed.TheVariants.{Unlisted, UnknownEdition}
 
--- names, ten bytes each, with zeros behind them
+-- the names
 abbrev pub sha0 : List ℕ
-sha0 = 83 ∷ 72 ∷ 65 ∷ 95 ∷ 48 ∷ 0 ∷ 0 ∷ 0 ∷ 0 ∷ 0 ∷ []
+sha0 = 83 ∷ 72 ∷ 65 ∷ 95 ∷ 48 ∷ []
 
 abbrev pub sha40 : List ℕ
-sha40 = 83 ∷ 72 ∷ 65 ∷ 95 ∷ 52 ∷ 48 ∷ 0 ∷ 0 ∷ 0 ∷ 0 ∷ []
+sha40 = 83 ∷ 72 ∷ 65 ∷ 95 ∷ 52 ∷ 48 ∷ []
 
 abbrev pub sha80 : List ℕ
-sha80 = 83 ∷ 72 ∷ 65 ∷ 95 ∷ 56 ∷ 48 ∷ 0 ∷ 0 ∷ 0 ∷ 0 ∷ []
+sha80 = 83 ∷ 72 ∷ 65 ∷ 95 ∷ 56 ∷ 48 ∷ []
 
 abbrev pub sha : List ℕ
-sha = 83 ∷ 72 ∷ 65 ∷ 0 ∷ 0 ∷ 0 ∷ 0 ∷ 0 ∷ 0 ∷ 0 ∷ []
+sha = 83 ∷ 72 ∷ 65 ∷ []
 
 abbrev pub sha_xor40 : List ℕ
 sha_xor40 = 83 ∷ 72 ∷ 65 ∷ 95 ∷ 88 ∷ 79 ∷ 82 ∷ 95 ∷ 52 ∷ 48 ∷ []
 
 abbrev pub md540 : List ℕ
-md540 = 77 ∷ 68 ∷ 53 ∷ 95 ∷ 52 ∷ 48 ∷ 0 ∷ 0 ∷ 0 ∷ 0 ∷ []
+md540 = 77 ∷ 68 ∷ 53 ∷ 95 ∷ 52 ∷ 48 ∷ []
 
 abbrev pub md580 : List ℕ
-md580 = 77 ∷ 68 ∷ 53 ∷ 95 ∷ 56 ∷ 48 ∷ 0 ∷ 0 ∷ 0 ∷ 0 ∷ []
+md580 = 77 ∷ 68 ∷ 53 ∷ 95 ∷ 56 ∷ 48 ∷ []
 
 abbrev pub md5 : List ℕ
-md5 = 77 ∷ 68 ∷ 53 ∷ 0 ∷ 0 ∷ 0 ∷ 0 ∷ 0 ∷ 0 ∷ 0 ∷ []
+md5 = 77 ∷ 68 ∷ 53 ∷ []
 
-abbrev pub none : List ℕ
-none = 0 ∷ 0 ∷ 0 ∷ 0 ∷ 0 ∷ 0 ∷ 0 ∷ 0 ∷ 0 ∷ 0 ∷ []
+-- an entry: its name, its sizes where they are shown, and whether each edition lists it
+abbrev pub row : List ℕ → Option Sizes → Bool → Bool → Entry
+row name sizes older later = record { named = record { name = name; sizes = sizes }; older = older; later = later }
 
--- an entry: its name and how many bytes that has, its key size and code size, and whether each edition lists it
-abbrev pub row : List ℕ → ℕ → Sizes → Bool → Bool → Entry
-row n l s older later = record { name = n; length = l; sizes = s; older = older; later = later }
+-- one that both editions list, with its key size and its code size
+abbrev pub both : List ℕ → ℕ → ℕ → Entry
+both name key code = row name (Some (record { key = key; code = code })) true true
 
-abbrev pub blank : Entry
-blank = row none 0 Unshown false false
-
--- the one table: the entry of a number, which no edition lists where there is none
-unfoldable pub entry_of : ℕ → Entry
+-- the one table: the entry of a number, where there is one
+unfoldable pub entry_of : ℕ → Option Entry
 entry_of n =
-    pick (n == 0) (row sha0 5 (Shown 0 0) true true)
-    (pick (n == 1) (row sha40 6 (Shown 20 5) true true)
-    (pick (n == 2) (row sha80 6 (Shown 20 10) true true)
-    (pick (n == 3) (row sha 3 (Shown 20 20) true true)
-    (pick (n == 4) (row sha_xor40 10 Unshown true false)
-    (pick (n == 5) (row md540 6 (Shown 16 5) true true)
-    (pick (n == 6) (row md580 6 (Shown 16 10) true true)
-    (pick (n == 7) (row md5 3 (Shown 16 16) true true)
-    blank)))))))
+    pick (n == 0) (Some (both sha0 0 0))
+    (pick (n == 1) (Some (both sha40 20 5))
+    (pick (n == 2) (Some (both sha80 20 10))
+    (pick (n == 3) (Some (both sha 20 20))
+    (pick (n == 4) (Some (row sha_xor40 None true false))
+    (pick (n == 5) (Some (both md540 16 5))
+    (pick (n == 6) (Some (both md580 16 10))
+    (pick (n == 7) (Some (both md5 16 16))
+    None)))))))
 
--- an answer with a name and its sizes, and one without
-abbrev pub named : Entry → Named
-named e = record { listing = Listed; name = e.name; length = e.length; sizes = e.sizes }
+-- the entry, where the edition has it
+abbrev pub where_listed : (Entry → Bool) → Option Entry → Option Entry
+where_listed lists (Some e) = pick (lists e) (Some e) None
+where_listed lists None = None
 
-abbrev pub nameless : Listing → Named
-nameless l = record { listing = l; name = none; length = 0; sizes = Unshown }
+-- what is said of the entry that an edition lists; an unlisted number has no name
+abbrev pub named : Option Entry → Result Told Unnamed
+named (Some e) = Ok e.named
+named None = Err Unlisted
 
--- the entry as an edition lists it: 1 the older list, 2 that of April 2001
-unfoldable pub named_in : ℕ → ℕ → Named
+-- what an edition says of a number: 1 the older list, 2 that of April 2001
+unfoldable pub named_in : ℕ → ℕ → Result Told Unnamed
 named_in edition n =
-    pick (edition == 1) (pick (entry_of n).older (named (entry_of n)) (nameless Unlisted))
-    (pick (edition == 2) (pick (entry_of n).later (named (entry_of n)) (nameless Unlisted))
-    (nameless UnknownEdition))
+    pick (edition == 1) (named (where_listed (λ e. e.older) (entry_of n)))
+    (pick (edition == 2) (named (where_listed (λ e. e.later) (entry_of n)))
+    (Err UnknownEdition))
+
+-- the name and the sizes that were said: none where there is no name
+abbrev pub name_in : Result Told Unnamed → List ℕ
+name_in (Ok told) = told.name
+name_in (Err why) = []
+
+abbrev pub sizes_in : Result Told Unnamed → Option Sizes
+sizes_in (Ok told) = told.sizes
+sizes_in (Err why) = None

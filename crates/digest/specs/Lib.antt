@@ -7,5 +7,6 @@ pub mod Hasher
 pub mod Hmac
 pub mod Expansion
 pub mod Mac
+pub mod Named
 pub mod Edition
 pub mod Determined

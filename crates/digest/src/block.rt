@@ -3,13 +3,10 @@
 // Each word is made just before its round: the first sixteen are read from the block, and a later one takes the place
 // of the word sixteen rounds before (section 8). Small loops with run-time ends, each called with constants: the
 // compiler then unrolls each whole, every place is a constant, and the words live in registers (docs/SPEED.md).
-ghost use Rattle.std.specs.Prelude.{◌≡◌, ℕ, ◌+◌, ◌*◌, ◌<◌, ◌≤◌, List, length, take, drop};
-ghost use Rattle.std.specs.Int.Bits.{bit_and, bit_or, bit_xor};
+ghost use Rattle.std.specs.Prelude.{◌≡◌, ℕ, ◌+◌, ◌*◌, ◌<◌, ◌≤◌, ◌⊎◌, List, length, take, drop};
 ghost use Rattle.digest.specs.Bytes.{word_at};
 ghost use Rattle.digest.specs.Midway.{turned_over, Reached};
-ghost use Rattle.digest.specs.Sha1.{shifted, f, k, initial_state, words, round, joined, compress, absorb};
-
-use std::num::wrapping_add_u32;
+ghost use Rattle.digest.specs.Sha1.{f, k, initial_state, words, round, joined, compress, absorb};
 
 // The five words of FIPS 180-1 section 7.
 #[derive(Clone, Copy)]
@@ -20,6 +17,15 @@ pub struct State {
     pub d: u32,
     pub e: u32,
 }
+
+// Section 6: the constants of the four twenties of rounds.
+const FIRST: u32 = 0x5a827999;
+
+const SECOND: u32 = 0x6ed9eba1;
+
+const THIRD: u32 = 0x8f1bbcdc;
+
+const FOURTH: u32 = 0xca62c1d6;
 
 // A block on its way: the state after some rounds, and the words of the last sixteen of them, that of round t at t mod 16.
 #[derive(Clone, Copy)]
@@ -47,10 +53,8 @@ pub(crate) fn absorbed(h: State, s: &[u8], from: usize, blocks: usize) -> State
     ensures { result ≡ absorb (drop from s.now) blocks h }
 {
     let mut g = h;
-    let mut i: usize = 0;
-    while i < blocks {
+    for i in 0..blocks {
         g = compressed(g, s, from + 64 * i);
-        i += 1;
     }
     g
 }
@@ -65,10 +69,10 @@ fn compressed(h: State, s: &[u8], at: usize) -> State
         words: [0; 16],
     };
     let early = first(first(start, s, at, 0, 8), s, at, 8, 16);
-    let one = late1(early, 16, 20);
-    let two = late2(late2(one, 20, 30), 30, 40);
-    let three = late3(late3(two, 40, 50), 50, 60);
-    let four = late4(late4(three, 60, 70), 70, 80);
+    let one = late(early, 16, 20, choice, FIRST);
+    let two = late(late(one, 20, 30, parity, SECOND), 30, 40, parity, SECOND);
+    let three = late(late(two, 40, 50, majority, THIRD), 50, 60, majority, THIRD);
+    let four = late(late(three, 60, 70, parity, FOURTH), 70, 80, parity, FOURTH);
     let last = four.state;
     added(h, last)
 }
@@ -78,11 +82,11 @@ fn added(g: State, h: State) -> State
     ensures { result ≡ joined g h }
 {
     State {
-        a: wrapping_add_u32(g.a, h.a),
-        b: wrapping_add_u32(g.b, h.b),
-        c: wrapping_add_u32(g.c, h.c),
-        d: wrapping_add_u32(g.d, h.d),
-        e: wrapping_add_u32(g.e, h.e),
+        a: g.a.wrapping_add(h.a),
+        b: g.b.wrapping_add(h.b),
+        c: g.c.wrapping_add(h.c),
+        d: g.d.wrapping_add(h.d),
+        e: g.e.wrapping_add(h.e),
     }
 }
 
@@ -91,13 +95,7 @@ fn word(s: &[u8], at: usize) -> u32
     requires { at + 3 < length s.now }
     ensures { result ≡ word_at s.now at }
 {
-    ((wide(s[at]) * 256 + wide(s[at + 1])) * 256 + wide(s[at + 2])) * 256 + wide(s[at + 3])
-}
-
-fn wide(x: u8) -> u32
-    ensures { (result ≡ x) × (result < 256) }
-{
-    x as u32
+    u32::from_be_bytes([s[at], s[at + 1], s[at + 2], s[at + 3]])
 }
 
 // Step a: rounds of the first sixteen, each with its word of the block that stands at `at`.
@@ -107,12 +105,10 @@ fn first(p: Midway, s: &[u8], at: usize, from: usize, end: usize) -> Midway
 {
     let mut g = p.state;
     let mut w = p.words;
-    let mut t = from;
-    while t < end {
+    for t in from..end {
         let x = word(s, at + 4 * t);
         w[t % 16] = x;
-        g = turned(g, (g.b & g.c) | (!g.b & g.d), x, 0x5a827999);
-        t += 1;
+        g = turned(g, choice(g.b, g.c, g.d), x, FIRST);
     }
     Midway { state: g, words: w }
 }
@@ -122,104 +118,70 @@ fn next(w: [u32; 16], t: usize) -> u32
     requires { (length w ≡ 16) × (t < 80) }
     ensures { result ≡ turned_over w t }
 {
-    rotated(
-        w[(t + 13) % 16] ^ w[(t + 8) % 16] ^ w[(t + 2) % 16] ^ w[t % 16],
-        1,
-    )
+    (w[(t + 13) % 16] ^ w[(t + 8) % 16] ^ w[(t + 2) % 16] ^ w[t % 16]).rotate_left(1)
 }
 
-// The last of the first twenty rounds, each with its word.
-fn late1(p: Midway, from: usize, end: usize) -> Midway
-    requires { (16 ≤ from) × (from ≤ end) × (end ≤ 20) }
+// Later rounds, each with its word, and the function and the constant of their twenty.
+fn late<F: Fn(u32, u32, u32) -> u32>(
+    p: Midway,
+    from: usize,
+    end: usize,
+    function: F,
+    constant: u32,
+) -> Midway
+    requires places { (16 ≤ from) × (from ≤ end) × (end ≤ 80) }
+    requires callable { F.IsAlwaysCallable function }
+    requires function { (t b c d x : ℕ) → from ≤ t → t < end → F.post function b c d x → x ≡ f t b c d }
+    requires constant { (t : ℕ) → from ≤ t → t < end → constant ≡ k t }
     ensures { (m : List ℕ) (h : State) → length m ≡ 16 → Reached m h from p → Reached m h end result }
 {
     let mut g = p.state;
     let mut w = p.words;
-    let mut t = from;
-    while t < end {
+    for t in from..end {
         let x = next(w, t);
         w[t % 16] = x;
-        g = turned(g, (g.b & g.c) | (!g.b & g.d), x, 0x5a827999);
-        t += 1;
+        g = turned(g, function(g.b, g.c, g.d), x, constant);
     }
     Midway { state: g, words: w }
 }
 
-// Rounds of the second twenty, each with its word.
-fn late2(p: Midway, from: usize, end: usize) -> Midway
-    requires { (20 ≤ from) × (from ≤ end) × (end ≤ 40) }
-    ensures { (m : List ℕ) (h : State) → length m ≡ 16 → Reached m h from p → Reached m h end result }
+// Section 5: the function of the first twenty rounds,
+fn choice(b: u32, c: u32, d: u32) -> u32
+    ensures { (t : ℕ) → t < 20 → result ≡ f t b c d }
 {
-    let mut g = p.state;
-    let mut w = p.words;
-    let mut t = from;
-    while t < end {
-        let x = next(w, t);
-        w[t % 16] = x;
-        g = turned(g, g.b ^ g.c ^ g.d, x, 0x6ed9eba1);
-        t += 1;
-    }
-    Midway { state: g, words: w }
+    (b & c) | (!b & d)
 }
 
-// Rounds of the third twenty, each with its word.
-fn late3(p: Midway, from: usize, end: usize) -> Midway
-    requires { (40 ≤ from) × (from ≤ end) × (end ≤ 60) }
-    ensures { (m : List ℕ) (h : State) → length m ≡ 16 → Reached m h from p → Reached m h end result }
+// of the second and of the fourth,
+fn parity(b: u32, c: u32, d: u32) -> u32
+    ensures { (t : ℕ) → ((20 ≤ t) × (t < 40)) ⊎ (60 ≤ t) → result ≡ f t b c d }
 {
-    let mut g = p.state;
-    let mut w = p.words;
-    let mut t = from;
-    while t < end {
-        let x = next(w, t);
-        w[t % 16] = x;
-        g = turned(g, (g.b & g.c) | (g.b & g.d) | (g.c & g.d), x, 0x8f1bbcdc);
-        t += 1;
-    }
-    Midway { state: g, words: w }
+    b ^ c ^ d
 }
 
-// Rounds of the last twenty, each with its word.
-fn late4(p: Midway, from: usize, end: usize) -> Midway
-    requires { (60 ≤ from) × (from ≤ end) × (end ≤ 80) }
-    ensures { (m : List ℕ) (h : State) → length m ≡ 16 → Reached m h from p → Reached m h end result }
+// and of the third.
+fn majority(b: u32, c: u32, d: u32) -> u32
+    ensures { (t : ℕ) → 40 ≤ t → t < 60 → result ≡ f t b c d }
 {
-    let mut g = p.state;
-    let mut w = p.words;
-    let mut t = from;
-    while t < end {
-        let x = next(w, t);
-        w[t % 16] = x;
-        g = turned(g, g.b ^ g.c ^ g.d, x, 0xca62c1d6);
-        t += 1;
-    }
-    Midway { state: g, words: w }
+    (b & c) | (b & d) | (c & d)
 }
 
 // Step d, with the values of f, W and K for round t given.
 fn turned(h: State, ft: u32, wt: u32, kt: u32) -> State
     ensures { (t : ℕ) → ft ≡ f t h.b h.c h.d → kt ≡ k t → result ≡ round t wt h }
 {
-    let temp = wrapping_add_u32(
-        wrapping_add_u32(
-            wrapping_add_u32(wrapping_add_u32(rotated(h.a, 5), ft), h.e),
-            wt,
-        ),
-        kt,
-    );
+    let temp = h
+        .a
+        .rotate_left(5)
+        .wrapping_add(ft)
+        .wrapping_add(h.e)
+        .wrapping_add(wt)
+        .wrapping_add(kt);
     State {
         a: temp,
         b: h.a,
-        c: rotated(h.b, 30),
+        c: h.b.rotate_left(30),
         d: h.c,
         e: h.d,
     }
-}
-
-// S^n(X): the circular shift to the left by n places.
-fn rotated(x: u32, n: u32) -> u32
-    requires { (0 < n) × (n < 32) }
-    ensures { result ≡ shifted n x }
-{
-    (x << n) | (x >> (32 - n))
 }

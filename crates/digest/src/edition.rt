@@ -1,137 +1,63 @@
 // The list of MAC kinds (002 appendix A, table 6) in its two editions: the older with SHA_XOR_40, that of April 2001 without.
-ghost use Rattle.std.specs.Prelude.{◌≡◌, true};
-ghost use Rattle.digest.specs.Pick.{pick};
-ghost use Rattle.digest.specs.declared.edition.Sizes.TheVariants.{Shown};
-ghost use Rattle.digest.specs.declared.edition.Listing.TheVariants.{Unlisted};
-ghost use Rattle.digest.specs.Edition.{entry_of, named_in, row, named, nameless};
+ghost use Rattle.std.specs.Prelude.{◌≡◌, ◌≤◌, length};
+ghost use Rattle.digest.specs.Edition.{entry_of, named_in, named, both};
 
-// The key size and the code size, where the list shows them.
-#[derive(Clone, Copy)]
-pub enum Sizes {
-    Shown(usize, usize),
-    Unshown,
-}
+use crate::named::{Named, Sizes, Unnamed};
 
-// An entry: its name with zeros behind it and how many bytes the name has, its sizes, and which editions list it.
-#[derive(Clone, Copy)]
+// An entry: what the list says of the kind, and which editions have it.
+#[derive(Drop)]
 struct Entry {
-    name: [u8; 10],
-    length: usize,
-    sizes: Sizes,
+    named: Named,
     older: bool,
     later: bool,
 }
 
-// Whether an edition lists a number. An edition other than 1 and 2 is unknown: 16.
-#[derive(Clone, Copy)]
-pub enum Listing {
-    Listed,
-    Unlisted,
-    UnknownEdition,
-}
-
-// What an edition says of a number; without a name where it is not listed.
-#[derive(Clone, Copy)]
-pub struct Named {
-    pub listing: Listing,
-    pub name: [u8; 10],
-    pub length: usize,
-    pub sizes: Sizes,
-}
-
 // What edition 1, the older, or 2, that of April 2001, says of a number.
-pub fn mac_named(edition: u8, number: u8) -> Named
+pub fn mac_named(edition: u8, number: u8) -> Result<Named, Unnamed>
     ensures exact { result ≡ named_in edition number }
 {
-    let e = row_of(number);
-    if edition == 1 {
-        return shown(e, e.older);
+    match edition {
+        1 => named(row_of(number).filter(|e| e.older)),
+        2 => named(row_of(number).filter(|e| e.later)),
+        _ => Err(Unnamed::UnknownEdition),
     }
-    if edition == 2 {
-        return shown(e, e.later);
-    }
-    unnamed(Listing::UnknownEdition)
 }
 
-// The entry where it is listed, else no name.
-fn shown(e: Entry, listed: bool) -> Named
-    ensures { result ≡ pick listed (named e) (nameless Unlisted) }
+// What is said of the entry that an edition lists.
+fn named(listed: Option<Entry>) -> Result<Named, Unnamed>
+    ensures { result ≡ named listed }
 {
-    if listed {
-        let name = e.name;
-        let sizes = e.sizes;
-        return Named {
-            listing: Listing::Listed,
-            name,
-            length: e.length,
-            sizes,
-        };
-    }
-    unnamed(Listing::Unlisted)
-}
-
-fn unnamed(listing: Listing) -> Named
-    ensures { result ≡ nameless listing }
-{
-    Named {
-        listing,
-        name: [0; 10],
-        length: 0,
-        sizes: Sizes::Unshown,
-    }
+    listed.map(|e| e.named).ok_or(Unnamed::Unlisted)
 }
 
 // The one table, by the assigned number.
-fn row_of(n: u8) -> Entry
+fn row_of(n: u8) -> Option<Entry>
     ensures { result ≡ entry_of n }
 {
-    if n == 0 {
-        return both(*b"SHA_0\0\0\0\0\0", 5, 0, 0);
-    }
-    if n == 1 {
-        return both(*b"SHA_40\0\0\0\0", 6, 20, 5);
-    }
-    if n == 2 {
-        return both(*b"SHA_80\0\0\0\0", 6, 20, 10);
-    }
-    if n == 3 {
-        return both(*b"SHA\0\0\0\0\0\0\0", 3, 20, 20);
-    }
-    if n == 4 {
-        return Entry {
-            name: *b"SHA_XOR_40",
-            length: 10,
-            sizes: Sizes::Unshown,
+    match n {
+        0 => Some(both(b"SHA_0", 0, 0)),
+        1 => Some(both(b"SHA_40", 20, 5)),
+        2 => Some(both(b"SHA_80", 20, 10)),
+        3 => Some(both(b"SHA", 20, 20)),
+        4 => Some(Entry {
+            named: Named::new(b"SHA_XOR_40", None),
             older: true,
             later: false,
-        };
-    }
-    if n == 5 {
-        return both(*b"MD5_40\0\0\0\0", 6, 16, 5);
-    }
-    if n == 6 {
-        return both(*b"MD5_80\0\0\0\0", 6, 16, 10);
-    }
-    if n == 7 {
-        return both(*b"MD5\0\0\0\0\0\0\0", 3, 16, 16);
-    }
-    Entry {
-        name: [0; 10],
-        length: 0,
-        sizes: Sizes::Unshown,
-        older: false,
-        later: false,
+        }),
+        5 => Some(both(b"MD5_40", 16, 5)),
+        6 => Some(both(b"MD5_80", 16, 10)),
+        7 => Some(both(b"MD5", 16, 16)),
+        _ => None,
     }
 }
 
 // An entry that both editions list, with its key size and its code size.
-fn both(name: [u8; 10], length: usize, key: usize, code: usize) -> Entry
-    ensures { result ≡ row name length (Shown key code) true true }
+fn both(name: &'static [u8], key: usize, code: usize) -> Entry
+    requires { length name.now ≤ 10 }
+    ensures { result ≡ both name.now key code }
 {
     Entry {
-        name,
-        length,
-        sizes: Sizes::Shown(key, code),
+        named: Named::new(name, Some(Sizes { key, code })),
         older: true,
         later: true,
     }

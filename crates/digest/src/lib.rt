@@ -7,11 +7,13 @@ mod bytes;
 mod edition;
 mod key;
 mod mac;
+mod named;
 mod pieces;
 
 pub use block::State;
 pub use bytes::put;
-pub use edition::{Listing, Named, Sizes, mac_named};
+pub use edition::mac_named;
 pub use key::{Key, prf};
 pub use mac::{Mac, same_code};
+pub use named::{Named, Sizes, Unnamed};
 pub use pieces::{Hasher, sha1};

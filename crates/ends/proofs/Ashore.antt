@@ -16,31 +16,31 @@ use Rattle.connection.specs.declared.answer.Slot.{Slot}
 use Rattle.connection.specs.declared.connection.Connection.{Connection}
 use Rattle.connection.specs.declared.receive.Untaken.TheVariants as T
 use Rattle.connection.specs.declared.state.State.TheVariants as S
-use Rattle.demands.specs.Runs.{Result, received, sent, called, Step, step_of}
+use Rattle.demands.specs.Runs.{Returned, received, sent, called, Step, step_of}
 use Rattle.demands.specs.Calls.{Chain, GoodData, data_sent_lem}
 use Rattle.demands.proofs.Calls.{by_chain, call_is}
 use Rattle.demands.proofs.Refusals.{laid_front}
-use Rattle.std.specs.Prelude.{Ok, ⊤}
+use Rattle.std.specs.Prelude.{Ok, ⊤, Result}
 use Rattle.connection.specs.declared.receive.Untaken.{Untaken}
 use Rattle.connection.specs.declared.refusal.Refusal.{Refusal}
 
 -- what stands in a result
-abbrev taken_in : Result → Result ℕ Untaken
+abbrev taken_in : Returned → Result ℕ Untaken
 taken_in (received taken answers written) = taken
 taken_in (sent outcome written) = Ok 0
 taken_in (called outcome) = Ok 0
 
-abbrev slots_in : Result → List Slot
+abbrev slots_in : Returned → List Slot
 slots_in (received taken answers written) = answers
 slots_in (sent outcome written) = []
 slots_in (called outcome) = []
 
-abbrev written_in : Result → ℕ
+abbrev written_in : Returned → ℕ
 written_in (received taken answers written) = written
 written_in (sent outcome written) = written
 written_in (called outcome) = 0
 
-abbrev outcome_in : Result → Result ⊤ Refusal
+abbrev outcome_in : Returned → Result ⊤ Refusal
 outcome_in (received taken answers written) = Ok tt
 outcome_in (sent outcome written) = outcome
 outcome_in (called outcome) = outcome

@@ -42,7 +42,7 @@ use Rattle.demands.specs.Genuine.{Genuine, RecordOf}
 use Rattle.demands.specs.LeftOut.{Unreplaced}
 use Rattle.demands.specs.Past.{is_data}
 use Rattle.demands.specs.Runs as Runs
-use Rattle.demands.specs.Runs.{Result, received, sent, called, Step, step_of}
+use Rattle.demands.specs.Runs.{Returned, received, sent, called, Step, step_of}
 use Rattle.demands.specs.Table.{Row}
 use Rattle.demands.specs.Table.{row_ended, row_returned, row_not_allowed, row_reply, row_hello_malformed, row_unacceptable, row_resent, row_change, row_change_malformed, row_clear_malformed, row_checksum, row_clear_warning, row_clear_critical, row_clear_fatal, row_forged, row_old, row_repeated, row_malformed, row_data, row_warning, row_critical, row_barred, row_open, row_again, row_wrong_finished}
 use Rattle.demands.proofs.Calls.{call_of, chain_of}
@@ -55,7 +55,7 @@ use Rattle.demands.proofs.Table.{row_of, row_is}
 use Rattle.ends.specs.Link.{GenuineFor, Handed, handed, number_in, handed_as, out_ashore}
 use Rattle.ends.proofs.Ashore as Calls
 use Rattle.ends.proofs.Courses.{DueFor, Taken, nothing, hands, passes, step_for, stays_shut}
-use Rattle.std.specs.Prelude.{Err, Ok, Some, ⊤}
+use Rattle.std.specs.Prelude.{Err, Ok, Some, ⊤, Result}
 
 -- ---- what the answers of a datagram hand out
 
@@ -223,12 +223,12 @@ module _ (c : Connection) (d random out : List ℕ) (lr : length random ≡ 16) 
 
 -- ---- sends
 
-abbrev outcome_in : Result → Result ⊤ Refusal
+abbrev outcome_in : Returned → Result ⊤ Refusal
 outcome_in (received taken answers written) = Ok tt
 outcome_in (sent outcome written) = outcome
 outcome_in (called outcome) = outcome
 
-abbrev written_in : Result → ℕ
+abbrev written_in : Returned → ℕ
 written_in (received taken answers written) = written
 written_in (sent outcome written) = written
 written_in (called outcome) = 0

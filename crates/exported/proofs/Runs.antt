@@ -33,14 +33,14 @@ use Rattle.lent.specs.Calls.{data_result, data_state, data_loads, data_out, aler
 use Rattle.lent.specs.Calls.{receive_result, receive_state, receive_loads, receive_tally, receive_answers, receive_out}
 use Rattle.lent.proofs.TallyHolds.{tally_held}
 use Rattle.demands.specs.Runs as R
-use Rattle.demands.specs.Runs.{Call, Result, Step, step_of, steps_of, final_of, fresh_one}
+use Rattle.demands.specs.Runs.{Call, Returned, Step, step_of, steps_of, final_of, fresh_one}
 use Rattle.demands.specs.Calls.{CallRow, receive_16, receive_6, receive_framing, receive_records, fresh_done, FreshHolds}
 use Rattle.demands.specs.Refusals.{NotDone, IsRefused, RefusedCallChangesNothing}
 use Rattle.demands.specs.LeftOut.{tallied_in, tallied_by}
 use Rattle.demands.proofs.Calls.{call_of, fresh_holds}
 use Rattle.demands.proofs.Refusals.{refused_call}
 use Rattle.exported.specs.Runs.{Exported, receive, send_data, send_alert, close, start, state_after, loads_after, tally_after, calls_in, number_of, answers_of, number_in, out_in, answers_in, IsLayer4, EachIsLayer4, final_state, final_tally, calls_of, RunsAreLayer4, FreshIsLayer4, Refused16, SixteenFirst, ExportedHolds}
-use Rattle.std.specs.Prelude.{Err, Ok, ⊤}
+use Rattle.std.specs.Prelude.{Err, Ok, ⊤, Result}
 use Rattle.connection.specs.declared.receive.Untaken.{Untaken}
 
 -- ---- bytes that hold c
@@ -107,7 +107,7 @@ count_none : (t : Tally) → counted_of t (slots_of []) ≡ t
 unfolding counted_first slots_of
 count_none t = refl
 
-abbrev taken_in : Result → Result ℕ Untaken
+abbrev taken_in : Returned → Result ℕ Untaken
 taken_in (R.received taken answers written) = taken
 taken_in (R.sent outcome written) = Ok 0
 taken_in (R.called outcome) = Ok 0

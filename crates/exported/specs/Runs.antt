@@ -13,7 +13,7 @@ use Rattle.lent.specs.Calls.{fresh_state, fresh_loads, close_result, close_state
 use Rattle.lent.specs.Calls.{data_result, data_state, data_loads, data_out, alert_result, alert_state, alert_loads, alert_out}
 use Rattle.lent.specs.Calls.{receive_result, receive_state, receive_loads, receive_tally, receive_answers, receive_out}
 use Rattle.demands.specs.Runs as R
-use Rattle.demands.specs.Runs.{Call, Result, Step, step_of, steps_of, final_of, fresh_one}
+use Rattle.demands.specs.Runs.{Call, Returned, Step, step_of, steps_of, final_of, fresh_one}
 use Rattle.demands.specs.LeftOut.{tallied_by}
 
 -- an exported call on a connection: its arguments, and the bytes that are lent beside those of the connection and of the
@@ -88,12 +88,12 @@ calls_in state tally close = pick (is_saved state) (R.close ∷ []) []
 calls_in state tally start = pick (is_saved state) (R.start ∷ []) []
 
 -- what layer 4's result is as a number, and in the answers
-abbrev pub number_of : Result → ℕ
+abbrev pub number_of : Returned → ℕ
 number_of (R.received taken answers written) = taken_result written taken
 number_of (R.sent outcome written) = result_of (refusal_in outcome) written 0
 number_of (R.called outcome) = result_of (refusal_in outcome) 0 0
 
-abbrev pub answers_of : List ℕ → Result → List ℕ
+abbrev pub answers_of : List ℕ → Returned → List ℕ
 answers_of lent (R.received taken answers written) = where_taken taken (report_of answers) lent
 answers_of lent (R.sent outcome written) = lent
 answers_of lent (R.called outcome) = lent

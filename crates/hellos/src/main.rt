@@ -2,7 +2,7 @@
 // a line for each: the refusal number with the field or the condition, or 0 with MAC number and refresh.
 #![tactic(auto)]
 
-use message::acceptance::{Condition, Unheard};
+use message::acceptance::{Condition, Plan, Unheard};
 use message::hello::Field;
 use message::{acceptance, field};
 

@@ -11,13 +11,13 @@ use borrow.Author.Tests.{le-ltb}
 use Rattle.digest.specs.Pick.{pick}
 use Rattle.digest.proofs.Picks.{pick_no}
 use Rattle.digest.proofs.Editions.{unknown_edition, unlisted_above}
-use Rattle.digest.specs.declared.edition.Sizes.TheVariants.{Shown}
+use Rattle.std.specs.Prelude.{Some}
 use Rattle.lent.specs.Calls.{result_of, not_taken}
 use Rattle.lent.specs.Macs.{sizes_count, key_part, code_part, named_result, named_out, mac_result, mac_out}
 
 -- The sizes can be taken out of the count again.
 pub sizes_back : (key code : ℕ) → key < 128 → code < 256
-    → (key_part (sizes_count (Shown key code)) ≡ key) × (code_part (sizes_count (Shown key code)) ≡ code)
+    → (key_part (sizes_count (Some (record { key = key; code = code }))) ≡ key) × (code_part (sizes_count (Some (record { key = key; code = code }))) ≡ code)
 sizes_back key code k c = (omega arith, omega arith)
 
 -- "an unknown edition is 16", and no byte changes.

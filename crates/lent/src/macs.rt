@@ -1,49 +1,37 @@
 // The list of MAC kinds for a caller (02, P11): a name into the lent bytes, its sizes as one count.
-ghost use Rattle.std.specs.Prelude.{◌≡◌, Bool, true, false, ◌≤◌, length};
-ghost use Rattle.lent.specs.Macs.{is_unknown, sizes_count, named_result, named_out};
+ghost use Rattle.std.specs.Prelude.{◌≡◌, length};
+ghost use Rattle.lent.specs.Macs.{sizes_count, named_result, named_out};
 
 use crate::result::{not_taken, result_of};
 use connection::refusal::{Refusal, number};
-use digest::{Listing, Named, Sizes, put};
+use digest::{Named, Sizes, Unnamed, put};
 
 // The room that any name fits.
 const ROOM: usize = 10;
 
 // What an edition says, left in the lent bytes.
-pub(crate) fn leave_named(named: Named, out: &mut [u8]) -> u64
-    requires { named.length ≤ 10 }
-    ensures value { result ≡ named_result named (length out.old) }
-    ensures out_after { out.new ≡ named_out named out.old }
+pub(crate) fn leave_named(said: Result<Named, Unnamed>, out: &mut [u8]) -> u64
+    ensures value { result ≡ named_result said (length out.old) }
+    ensures out_after { out.new ≡ named_out said out.old }
 {
-    let listing = named.listing;
-    if is_unknown(listing) {
-        return not_taken();
-    }
-    if out.len() < ROOM {
-        return result_of(number(Refusal::Room), 0, 0);
-    }
-    let name = named.name;
-    let sizes = named.sizes;
-    put(out, 0, &name[..named.length]);
-    result_of(0, named.length, sizes_count(sizes))
-}
-
-fn is_unknown(listing: Listing) -> bool
-    ensures { result ≡ is_unknown listing }
-{
-    match listing {
-        Listing::Listed => false,
-        Listing::Unlisted => false,
-        Listing::UnknownEdition => true,
+    match said {
+        Err(Unnamed::UnknownEdition) => not_taken(),
+        _ if out.len() < ROOM => result_of(number(Refusal::Room), 0, 0),
+        Err(Unnamed::Unlisted) => result_of(0, 0, 0),
+        Ok(named) => {
+            let name = named.name();
+            put(out, 0, name);
+            result_of(0, name.len(), sizes_count(named.sizes()))
+        }
     }
 }
 
 // The sizes as one count; 0 where they are not shown.
-fn sizes_count(sizes: Sizes) -> usize
+fn sizes_count(sizes: Option<Sizes>) -> usize
     ensures { result ≡ sizes_count sizes }
 {
     match sizes {
-        Sizes::Shown(key, code) => 32768 + key % 128 * 256 + code % 256,
-        Sizes::Unshown => 0,
+        Some(Sizes { key, code }) => 32768 + key % 128 * 256 + code % 256,
+        None => 0,
     }
 }

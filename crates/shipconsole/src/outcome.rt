@@ -4,6 +4,7 @@ use crate::console::{Console, Ran};
 use crate::status::put_status;
 use connection::receive::Untaken;
 use connection::refusal;
+use connection::refusal::Refusal;
 use lines::text::{put, put_hex, put_number};
 use message::alert::{Description, description_number};
 use unit::answer::{Answer, Slot};

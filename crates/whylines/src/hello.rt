@@ -1,6 +1,6 @@
 // 12 and 13 of a hello: the first field at fault, or the first condition that fails with what the hello had.
 use crate::put::{put_bytes, put_with};
-use digest::{Listing, mac_named};
+use digest::mac_named;
 use lines::text::{put, put_number};
 use message::acceptance::Condition;
 use message::field::part;
@@ -74,13 +74,9 @@ fn put_half(i: usize, edition: u8, byte: u8, text: &mut [u8], at: usize) -> usiz
 
 // The name in that edition of the list, the number where it is not listed.
 fn put_mac(edition: u8, mac: u8, text: &mut [u8], at: usize) -> usize {
-    let named = mac_named(edition, mac);
-    let listing = named.listing;
-    let name = named.name;
-    match listing {
-        Listing::Listed => put(text, at, part(&name, 0, named.length)),
-        Listing::Unlisted => put_number(text, at, mac as u64),
-        Listing::UnknownEdition => put_number(text, at, mac as u64),
+    match mac_named(edition, mac) {
+        Ok(named) => put(text, at, named.name()),
+        Err(_) => put_number(text, at, mac as u64),
     }
 }
 

@@ -312,7 +312,7 @@ module _ (protected : Bool) (state : State) (level description lent number code 
   alert_goes (f, m, n, l) = alert-in state (Ok tt) refl (may-done protected m) f.3 ∙ goes_out number (9 + code) room n l
 
   -- where they do not: 16, and no other
-  alert-unknown : (x : Refusal) → (AlertFits level description lent → ⊥) → WhyA x → Err X.Argument ≡ Err x
+  alert-unknown : (x : Refusal) → (AlertFits level description lent → ⊥) → WhyA x → ◌≡◌ {A = Result ⊤ Refusal} (Err X.Argument) (Err x)
   alert-unknown X.Argument bad w = refl
   alert-unknown X.Ended bad w = absurd (bad w.0)
   alert-unknown X.NotAllowed bad w = absurd (bad w.0)

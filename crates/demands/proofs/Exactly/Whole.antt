@@ -21,7 +21,7 @@ use Rattle.connection.specs.declared.receive.Untaken.TheVariants as T
 use Rattle.connection.specs.declared.receive.Received.{Received}
 use Rattle.connection.specs.declared.refusal.Refusal.{Refusal}
 use Rattle.connection.specs.declared.refusal.Refusal.TheVariants as X
-use Rattle.demands.specs.Runs.{receive, Result, received, sent, called, step_of}
+use Rattle.demands.specs.Runs.{receive, Returned, received, sent, called, step_of}
 use Rattle.demands.specs.Exactly.Whole.{head_at, size_at, SoundAt, start_of, SoundBefore, SizeFits, Reached, WhyFaulty, WhyMisframed, WhyWhole, CallFits, SoundlyFramed, ExactlyReceive}
 use Rattle.demands.proofs.Exactly.Reasons.{decide}
 use Rattle.demands.proofs.Exactly.Reading.{made_of, read-type, read_head, read-fragment, read_sound, used-is, by-record}
@@ -208,7 +208,7 @@ module _ (d : List ℕ) where
 -- ---- the call
 
 -- what comes back of a receive has its reason
-abbrev ResultHolds : List ℕ → ℕ → ℕ → Result → Type 0
+abbrev ResultHolds : List ℕ → ℕ → ℕ → Returned → Type 0
 ResultHolds d random room (received (Err (T.Refused x)) answers written) = WhyWhole random room x
 ResultHolds d random room (received (Err (T.Misframed x at)) answers written) = CallFits random room × WhyMisframed d x at
 ResultHolds d random room (received (Ok n) answers written) = CallFits random room × SoundlyFramed d n
@@ -216,10 +216,10 @@ ResultHolds d random room (sent outcome written) = Unit
 ResultHolds d random room (called outcome) = Unit
 
 module _ (c : Connection) (d random out : List ℕ) where
-  abbrev result : Result
+  abbrev result : Returned
   result = (step_of c (receive d random out)).result
 
-  abbrev H : Result → Type 0
+  abbrev H : Returned → Type 0
   H = ResultHolds d (length random) (length out)
 
   is-argument : length random ≢ 16 → result ≡ received (Err (T.Refused X.Argument)) (slots_of []) 0
@@ -231,7 +231,7 @@ module _ (c : Connection) (d random out : List ℕ) where
   is-room r o = rw (eq-eqb (length random) 16 r, lt-ltb (length out) 128 o) refl
 
   -- past 16 and 6, by the framing
-  abbrev result_by : Framing → Result
+  abbrev result_by : Framing → Returned
   result_by y = received (framed_to c random d y).taken (framed_to c random d y).answers (framed_to c random d y).written
 
   is_framed : CallFits (length random) (length out) → result ≡ result_by (framing_of d)

@@ -38,14 +38,14 @@ use Rattle.unit.proofs.Greeting.{hello_size_lem}
 use Rattle.demands.specs.Exactly.Numbers.{is_assigned}
 use Rattle.demands.specs.Exactly.Sends.{DataFits, AlertFits}
 use Rattle.demands.specs.Ship.Table.{Midway, Up, Over}
-use Rattle.demands.specs.Ship.Runs.{Result, received, sent, called, step_of}
+use Rattle.demands.specs.Ship.Runs.{Returned, received, sent, called, step_of}
 use Rattle.demands.specs.Ship.ExactlyCalls.{Down, WhyFresh, fresh_16, ExactlyFresh, Kinds, HelloFits, hello_size, WhyHello, hello_16, hello_7, hello_8, hello_6, ExactlyHello}
 use Rattle.demands.specs.Ship.ExactlyCalls.{again_bytes, MayAgain, WhyAgain, again_7, again_8, again_6, ExactlyAgain, WhyData, data_16, data_7, data_8, data_15, data_6, ExactlyData}
 use Rattle.demands.specs.Ship.ExactlyCalls.{AlertMay, alert_number_of, alert_code_of, WhyAlert, alert_16, alert_7, alert_8, alert_15, alert_6, ExactlyAlert}
 use Rattle.demands.specs.Ship.ExactlyCalls.{WhyClose, close_7, ExactlyClose, WhyStart, start_7, start_8, ExactlyStart}
 use Rattle.demands.proofs.Exactly.Reasons.{clash, decide}
 use Rattle.demands.proofs.Exactly.Sends.{LevelHolds, level_holds, SortedHolds, sorted-holds}
-use Rattle.std.specs.Prelude.{Err, None, Ok, Option, Some, ⊤}
+use Rattle.std.specs.Prelude.{Err, None, Ok, Option, Some, ⊤, Result}
 
 -- ---- an outcome and what it wrote
 
@@ -56,7 +56,7 @@ OutcomeHolds Why Goes size written (Err x) = Why x × (written ≡ 0)
 abbrev SentHolds : (Refusal → Type 0) → Type 0 → ℕ → Sent → Type 0
 SentHolds Why Goes size s = OutcomeHolds Why Goes size s.written s.outcome
 
-abbrev outcome_in : Result → Result ⊤ Refusal
+abbrev outcome_in : Returned → Result ⊤ Refusal
 outcome_in (received taken answers written) = Ok tt
 outcome_in (sent outcome written) = outcome
 outcome_in (called outcome) = outcome
@@ -446,7 +446,7 @@ exactly-alert =
 -- ---- hello
 
 -- the kinds that are named
-abbrev NamedHolds : List ℕ → Option Kinds → Type 0
+abbrev NamedHolds : List ℕ → Option Offers → Type 0
 NamedHolds macs (Some kinds) = Kinds macs × (pairs_size kinds ≡ length macs + length macs)
 NamedHolds macs None = Kinds macs → ⊥
 
@@ -480,7 +480,7 @@ module _ (u : Ship) (id8 : length u.id ≡ 8) (random macs : List ℕ) (refresh 
       record_length false false C.Handshake 0 (offer_hello random u.id (offer_of kinds refresh))
       ∙ omega (arith, hello_size_lem random u.id (offer_of kinds refresh) lr id8, e)
 
-  named-sent : (lr : length random ≡ 16) (l : refresh ≤ 255) (n : Option Kinds) → NamedHolds macs n
+  named-sent : (lr : length random ≡ 16) (l : refresh ≤ 255) (n : Option Offers) → NamedHolds macs n
       → SentHolds HelloWhy HelloGoes (hello_size macs) (hello_as u random refresh room n)
   unfolding greeted_with
   named-sent lr l (Some kinds) (k, e) =

@@ -24,7 +24,7 @@ use Rattle.unit.specs.declared.unit.Unit.{Unit as Ship}
 use Rattle.unit.proofs.Running.{length_answers}
 use Rattle.demands.specs.Exactly.Whole.{WhyMisframed, SoundlyFramed, start_of}
 use Rattle.demands.specs.Exactly.Record.{seen_at}
-use Rattle.demands.specs.Ship.Runs.{receive, Result, received, sent, called, step_of}
+use Rattle.demands.specs.Ship.Runs.{receive, Returned, received, sent, called, step_of}
 use Rattle.demands.specs.Ship.ExactlyRecord.{WhyRecord, ExactlyRecord}
 use Rattle.demands.specs.Ship.ExactlyReceive.{WhyWhole, receive_6, ExactlyReceive, answer_given, ExactlyAnswers, GivenExactlyWhen}
 use Rattle.demands.proofs.Exactly.Reasons.{numbered, decide}
@@ -34,7 +34,7 @@ use Rattle.demands.proofs.Ship.ExactlyRecord.{exactly-record}
 use Rattle.demands.proofs.Ship.ExactlyCalls.{exactly-fresh, exactly-hello, exactly-again, exactly-data, exactly-alert, exactly-close, exactly-start}
 use Rattle.std.specs.Prelude.{Err, Ok}
 
-abbrev ResultHolds : List ℕ → ℕ → Result → Type 0
+abbrev ResultHolds : List ℕ → ℕ → Returned → Type 0
 ResultHolds d room (received (Ok n) answers written) = (128 ≤ room) × SoundlyFramed d n
 ResultHolds d room (received (Err (T.Refused x)) answers written) = WhyWhole room x
 ResultHolds d room (received (Err (T.Misframed x at)) answers written) = (128 ≤ room) × WhyMisframed d x at
@@ -42,10 +42,10 @@ ResultHolds d room (sent outcome written) = Unit
 ResultHolds d room (called outcome) = Unit
 
 module _ (u : Ship) (d out : List ℕ) where
-  abbrev result : Result
+  abbrev result : Returned
   result = (step_of u (receive d out)).result
 
-  abbrev H : Result → Type 0
+  abbrev H : Returned → Type 0
   H = ResultHolds d (length out)
 
   is-room : length out < 128 → result ≡ received (Err (T.Refused X.Room)) (slots_of []) 0
@@ -53,7 +53,7 @@ module _ (u : Ship) (d out : List ℕ) where
   is-room o = rw (lt-ltb (length out) 128 o) refl
 
   -- past 6, by the framing
-  abbrev result_by : Framing → Result
+  abbrev result_by : Framing → Returned
   result_by y = received (framed_to u d y).taken (framed_to u d y).answers (framed_to u d y).written
 
   is_framed : 128 ≤ length out → result ≡ result_by (framing_of d)

@@ -9,7 +9,7 @@ use Rattle.connection.specs.declared.answer.Answer.{Answer}
 use Rattle.connection.specs.declared.answer.Answer.TheVariants.{Nothing, Refused}
 use Rattle.connection.specs.declared.connection.Connection.{Connection}
 use Rattle.connection.specs.declared.refusal.Refusal.{Refusal}
-use Rattle.demands.specs.Runs.{receive, Result, received, sent, called, Gateway}
+use Rattle.demands.specs.Runs.{receive, Returned, received, sent, called, Gateway}
 use Rattle.demands.specs.Exactly.Whole.{CallFits, start_of}
 use Rattle.demands.specs.Exactly.Record.{HoldsNumbers, Bytes, seen_at, WhyRecord}
 use Rattle.connection.specs.Asked.{asked_of}
@@ -18,7 +18,7 @@ use Rattle.demands.specs.Asked.{Asks}
 use Rattle.record.specs.Datagram.{blank}
 
 -- answer i of a receive
-abbrev pub answer_given : Result → ℕ → Answer
+abbrev pub answer_given : Returned → ℕ → Answer
 answer_given (received taken answers written) i = (get_or answers i (slot Nothing)).answer
 answer_given (sent outcome written) i = Nothing
 answer_given (called outcome) i = Nothing

@@ -16,7 +16,7 @@ use Rattle.unit.specs.declared.unit.Unit.{Unit as Ship}
 use Rattle.demands.specs.Exactly.Numbers.{Numbered}
 use Rattle.demands.specs.Exactly.Whole.{WhyMisframed, SoundlyFramed, start_of}
 use Rattle.demands.specs.Exactly.Record.{seen_at, Bytes}
-use Rattle.demands.specs.Ship.Runs.{receive, Result, received, sent, called, Shipboard}
+use Rattle.demands.specs.Ship.Runs.{receive, Returned, received, sent, called, Shipboard}
 use Rattle.demands.specs.Ship.Course.{HoldsNumbers}
 use Rattle.demands.specs.Ship.ExactlyRecord.{WhyRecord, ExactlyRecord}
 use Rattle.demands.specs.Ship.ExactlyCalls.{ExactlyFresh, ExactlyHello, ExactlyAgain, ExactlyData, ExactlyAlert, ExactlyClose, ExactlyStart}
@@ -37,7 +37,7 @@ pub record ExactlyReceive (g : Shipboard) : Type 0 where
       ↔ ((128 ≤ length out) × SoundlyFramed d n)
 
 -- answer i of a receive
-abbrev pub answer_given : Result → ℕ → Answer
+abbrev pub answer_given : Returned → ℕ → Answer
 answer_given (received taken answers written) i = (get_or answers i (slot Nothing)).answer
 answer_given (sent outcome written) i = Nothing
 answer_given (called outcome) i = Nothing

@@ -1,6 +1,6 @@
 -- Demand 1 at the shipboard end: "A refused call writes nothing into the output we lend, and the connection is as before, except where
 -- the list names the change": "12 under protection and 17 mark the number, and 17 also closes".
-use Rattle.std.specs.Prelude.{◌≡◌, Bool, List, [], ℕ, eqb, Err, Ok}
+use Rattle.std.specs.Prelude.{◌≡◌, Bool, List, [], ℕ, eqb, Err, Ok, Result}
 use Rattle.record.specs.declared.window.NotNew.{NotNew}
 use Rattle.record.specs.declared.window.Window.{Window}
 use Rattle.digest.specs.Pick.{pick}
@@ -15,7 +15,7 @@ use Rattle.unit.specs.declared.answer.Answer.TheVariants as W
 use Rattle.unit.specs.declared.state.State.TheVariants.{Closed}
 use Rattle.unit.specs.declared.unit.Unit.{Unit as Ship}
 use Rattle.demands.specs.Refusals.{NotTaken, NotDone}
-use Rattle.demands.specs.Ship.Runs.{Call, hello, again, receive, send_data, send_alert, close, start, Result, received, sent, called, Shipboard}
+use Rattle.demands.specs.Ship.Runs.{Call, hello, again, receive, send_data, send_alert, close, start, Returned, received, sent, called, Shipboard}
 
 -- the output that a call lends
 abbrev pub lent_by : Call → List ℕ
@@ -28,12 +28,12 @@ lent_by close = []
 lent_by start = []
 
 -- a call that is refused as a whole, and how many bytes it says it wrote
-abbrev pub IsRefused : Result → Type 0
+abbrev pub IsRefused : Returned → Type 0
 IsRefused (received taken answers written) = NotTaken taken
 IsRefused (sent outcome written) = NotDone outcome
 IsRefused (called outcome) = NotDone outcome
 
-abbrev pub written_by : Result → ℕ
+abbrev pub written_by : Returned → ℕ
 written_by (received taken answers written) = written
 written_by (sent outcome written) = written
 written_by (called outcome) = 0

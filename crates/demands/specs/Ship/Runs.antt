@@ -27,14 +27,14 @@ pub data Call : Type 0 where
   start : Call
 
 -- what comes back
-pub data Result : Type 0 where
-  received : (taken : Result ℕ Untaken) (answers : List Slot) (written : ℕ) → Result
-  sent : (outcome : Result ⊤ Refusal) (written : ℕ) → Result
-  called : (outcome : Result ⊤ Refusal) → Result
+pub data Returned : Type 0 where
+  received : (taken : Result ℕ Untaken) (answers : List Slot) (written : ℕ) → Returned
+  sent : (outcome : Result ⊤ Refusal) (written : ℕ) → Returned
+  called : (outcome : Result ⊤ Refusal) → Returned
 
 -- what comes back, what the lent output then holds, and the unit
 pub record Step : Type 0 where
-  pub result : Result
+  pub result : Returned
   pub output : List ℕ
   pub unit : Ship
 

@@ -26,12 +26,12 @@ use Rattle.unit.specs.declared.state.State.TheVariants.{Opening}
 use Rattle.unit.specs.declared.unit.Unit.{Unit as Ship}
 use Rattle.demands.specs.Sends.{ClearRecord}
 use Rattle.demands.specs.Ship.Table.{Midway}
-use Rattle.demands.specs.Ship.Runs.{hello, again, receive, send_data, send_alert, Result, received, sent, called, Step, Shipboard}
+use Rattle.demands.specs.Ship.Runs.{hello, again, receive, send_data, send_alert, Returned, received, sent, called, Step, Shipboard}
 use Rattle.demands.specs.Ship.Refusals.{written_by}
 use Rattle.demands.specs.Ship.ExactlyReceive.{answer_given}
 
 -- a call that is done
-abbrev pub IsDone : Result → Type 0
+abbrev pub IsDone : Returned → Type 0
 IsDone (received taken answers written) = ⊥
 IsDone (sent (Ok tt) written) = Unit
 IsDone (sent (Err x) written) = ⊥

@@ -5,7 +5,6 @@ use Prim.Native.Nat.{ℕ}
 use lib.ListN.{length}
 use borrow.Author.Tests.{lt-ltb, le-ltb}
 use Rattle.digest.proofs.Picks.{pick_yes, pick_no}
-use Rattle.digest.proofs.Editions.{name_fits}
 use Rattle.lent.specs.Macs.{mac_result, mac_out, named_result, named_out}
 use Rattle.lent.proofs.mac.Goals as goal
 
@@ -19,9 +18,6 @@ unfolding mac_result mac_out
 returns-then-number-gt255 c = let below = le-ltb 255 c.args.edition c.if-edition-gt255.false in
     let above = lt-ltb 255 c.args.number c.if-number-gt255.true in
     record { exact = pick_no ℕ _ _ _ _ below (pick_yes ℕ _ _ _ _ above c.not_taken-then-number-gt255.ensures); bytes = pick_no (List ℕ) _ _ _ _ below (pick_yes (List ℕ) _ _ _ _ above refl) }
-
-pub leave_named-requires : goal.leave_named-requires
-leave_named-requires c = rw c.mac_named.ensures.exact (name_fits _ _)
 
 pub returns : goal.returns
 unfolding mac_result mac_out

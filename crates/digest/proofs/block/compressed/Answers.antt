@@ -1,32 +1,44 @@
 -- `block::compressed`: word by word and round by round the eighty rounds.
-use Rattle.std.proofs.Common.{take, drop, ap, ◌∙◌}
+use Rattle.std.proofs.Common.{take, drop, ap, ◌∙◌, arith}
 use Rattle.digest.specs.Sha1.{compress, words, joined}
-use Rattle.digest.proofs.Rounds.{none_reached, length_words}
+use Rattle.digest.proofs.Rounds.{none_reached, length_words, k_first, k_second, k_third, k_fourth}
 use Rattle.digest.proofs.block.compressed.Goals as goal
+
+pub late-one-requires-clause-constant : goal.late-one-requires-clause-constant
+late-one-requires-clause-constant c = λ t l h. k_first t (omega arith)
+
+pub late-requires-clause-constant : goal.late-requires-clause-constant
+late-requires-clause-constant c = λ t l h. k_second t (omega arith) (omega arith)
+
+pub late-two-requires-clause-constant : goal.late-two-requires-clause-constant
+late-two-requires-clause-constant c = λ t l h. k_second t (omega arith) (omega arith)
+
+pub late-requires-2-clause-constant : goal.late-requires-2-clause-constant
+late-requires-2-clause-constant c = λ t l h. k_third t (omega arith) (omega arith)
+
+pub late-three-requires-clause-constant : goal.late-three-requires-clause-constant
+late-three-requires-clause-constant c = λ t l h. k_third t (omega arith) (omega arith)
+
+pub late-requires-3-clause-constant : goal.late-requires-3-clause-constant
+late-requires-3-clause-constant c = λ t l h. k_fourth t (omega arith)
+
+pub late-four-requires-clause-constant : goal.late-four-requires-clause-constant
+late-four-requires-clause-constant c = λ t l h. k_fourth t (omega arith)
 
 pub returns : goal.returns
 unfolding compress
-returns c = let c₈₀ = c in
-    let c₇₀ = c₈₀ in
-    let c₆₀ = c₇₀ in
-    let c₅₀ = c₆₀ in
-    let c₄₀ = c₅₀ in
-    let c₃₀ = c₄₀ in
-    let c₂₀ = c₃₀ in
-    let c₁₆ = c₂₀ in
-    let c₈ = c₁₆ in
-    let args = c₈.args in
+returns c = let args = c.args in
     let h = args.h in
     let block = take 64 (drop args.at args.s.now) in
     let m = words block 16 in
     let l = length_words block 16 in
-    let p₈ = c₈.first.ensures h (none_reached m _ h) in
-    let p₁₆ = c₁₆.first-early.ensures h p₈ in
-    let p₂₀ = c₂₀.late1-one.ensures m h l p₁₆ in
-    let p₃₀ = c₃₀.late2.ensures m h l p₂₀ in
-    let p₄₀ = c₄₀.late2-two.ensures m h l p₃₀ in
-    let p₅₀ = c₅₀.late3.ensures m h l p₄₀ in
-    let p₆₀ = c₆₀.late3-three.ensures m h l p₅₀ in
-    let p₇₀ = c₇₀.late4.ensures m h l p₆₀ in
-    let p₈₀ = c₈₀.late4-four.ensures m h l p₇₀ in
+    let p₈ = c.first.ensures h (none_reached m _ h) in
+    let p₁₆ = c.first-early.ensures h p₈ in
+    let p₂₀ = c.late-one.ensures m h l p₁₆ in
+    let p₃₀ = c.late.ensures m h l p₂₀ in
+    let p₄₀ = c.late-two.ensures m h l p₃₀ in
+    let p₅₀ = c.late-2.ensures m h l p₄₀ in
+    let p₆₀ = c.late-three.ensures m h l p₅₀ in
+    let p₇₀ = c.late-3.ensures m h l p₆₀ in
+    let p₈₀ = c.late-four.ensures m h l p₇₀ in
     c.added.ensures ∙ ap (joined h) p₈₀.state_is

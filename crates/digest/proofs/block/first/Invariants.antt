@@ -1,15 +1,10 @@
 -- `block::first`: each turn is a word of the block and its round, with the function and the constant of the first twenty.
-use Rattle.std.proofs.Common.{◌≡◌, ◌-◌, ◌≤◌, length, take, drop}
+use Rattle.std.proofs.Common.{◌≡◌, length, take, drop}
 use Rattle.digest.specs.Sha1.{words}
 use Rattle.digest.specs.Midway.{Reached}
 use Rattle.digest.specs.declared.block.State.{State}
 use Rattle.digest.proofs.block.first.Given as goal
 
 abbrev pub invariant-loop-t : goal.invariant-loop-t
-invariant-loop-t l = (l.from ≤ l.t)
-    × (l.t ≤ l.end)
-    × (length l.w ≡ 16)
+invariant-loop-t l = (length l.w ≡ 16)
     × ((h : State) → Reached (words (take 64 (drop l.at l.s)) 16) h l.from (record { state = l.initial.g; words = l.initial.w }) → Reached (words (take 64 (drop l.at l.s)) 16) h l.t (record { state = l.g; words = l.w }))
-
-abbrev pub decreases-loop-t : goal.decreases-loop-t
-decreases-loop-t l = l.end - l.t

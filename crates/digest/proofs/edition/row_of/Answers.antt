@@ -1,42 +1,40 @@
 -- `edition::row_of`: entry by entry.
-use Rattle.digest.proofs.Picks.{picks}
+use Rattle.std.proofs.Common.{true, false, Some, ap, arith}
 use Rattle.digest.specs.Edition.{entry_of}
-use Rattle.digest.proofs.Editions.{row_at}
-use Rattle.std.proofs.Common.{refl}
+use Rattle.digest.proofs.Editions.{row_at, none_above}
 use Rattle.digest.proofs.edition.row_of.Goals as goal
 
-pub returns-then-n-eq0 : goal.returns-then-n-eq0
+pub returns-in-0 : goal.returns-in-0
 unfolding entry_of
-returns-then-n-eq0 c = row_at 0 _ _ c.if-n-eq0.true c.both.ensures
+returns-in-0 c = row_at 0 _ _ c.in-0.is (ap Some c.both.ensures)
 
-pub returns-then-n-eq1 : goal.returns-then-n-eq1
+pub returns-in-1 : goal.returns-in-1
 unfolding entry_of
-returns-then-n-eq1 c = row_at 1 _ _ c.if-n-eq1.true c.both-then-n-eq1.ensures
+returns-in-1 c = row_at 1 _ _ c.in-1.is (ap Some c.both-in-1.ensures)
 
-pub returns-then-n-eq2 : goal.returns-then-n-eq2
+pub returns-in-2 : goal.returns-in-2
 unfolding entry_of
-returns-then-n-eq2 c = row_at 2 _ _ c.if-n-eq2.true c.both-then-n-eq2.ensures
+returns-in-2 c = row_at 2 _ _ c.in-2.is (ap Some c.both-in-2.ensures)
 
-pub returns-then-n-eq3 : goal.returns-then-n-eq3
+pub returns-in-3 : goal.returns-in-3
 unfolding entry_of
-returns-then-n-eq3 c = row_at 3 _ _ c.if-n-eq3.true c.both-then-n-eq3.ensures
+returns-in-3 c = row_at 3 _ _ c.in-3.is (ap Some c.both-in-3.ensures)
 
-pub returns-then-n-eq4 : goal.returns-then-n-eq4
+pub returns-in-4 : goal.returns-in-4
 unfolding entry_of
-returns-then-n-eq4 c = row_at 4 _ _ c.if-n-eq4.true refl
+returns-in-4 c = row_at 4 _ _ c.in-4.is (λ i. Some (record { named = c.new.ensures i; older = true; later = false }))
 
-pub returns-then-n-eq5 : goal.returns-then-n-eq5
+pub returns-in-5 : goal.returns-in-5
 unfolding entry_of
-returns-then-n-eq5 c = row_at 5 _ _ c.if-n-eq5.true c.both-then-n-eq5.ensures
+returns-in-5 c = row_at 5 _ _ c.in-5.is (ap Some c.both-in-5.ensures)
 
-pub returns-then-n-eq6 : goal.returns-then-n-eq6
+pub returns-in-6 : goal.returns-in-6
 unfolding entry_of
-returns-then-n-eq6 c = row_at 6 _ _ c.if-n-eq6.true c.both-then-n-eq6.ensures
+returns-in-6 c = row_at 6 _ _ c.in-6.is (ap Some c.both-in-6.ensures)
 
-pub returns-then-n-eq7 : goal.returns-then-n-eq7
+pub returns-in-7 : goal.returns-in-7
 unfolding entry_of
-returns-then-n-eq7 c = row_at 7 _ _ c.if-n-eq7.true c.both-then-n-eq7.ensures
+returns-in-7 c = row_at 7 _ _ c.in-7.is (ap Some c.both-in-7.ensures)
 
-pub returns : goal.returns
-unfolding entry_of
-returns c = search picks
+pub returns-in_default : goal.returns-in_default
+returns-in_default c = none_above c.args.n (omega arith)

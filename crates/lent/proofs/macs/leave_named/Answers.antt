@@ -1,34 +1,20 @@
--- `macs::leave_named`: 16, then 6, then the name and its sizes.
-use mathlib.Core.Path.{◌≡◌, refl, sym, ◌∙◌, ap}
-use mathlib.Core.List.{List}
-use Prim.Native.Nat.{ℕ}
-use native.Mathlib.Omega.{arith}
-use lib.ListN.{length}
-use lib.Seq.{length-take-le}
-use borrow.Author.Rules.{rules}
-use borrow.Author.Tests.{lt-ltb, le-ltb}
-use Rattle.digest.proofs.Picks.{pick_yes, pick_no}
-use Rattle.lent.specs.Calls.{result_of}
-use Rattle.lent.proofs.Calling.{test_no}
+-- `macs::leave_named`: an unlisted number has no name, so no byte changes.
+use Rattle.std.proofs.Common.{◌≡◌, ℕ, Bool, true, false, leb, ltb, List, length, Err, Result, refl, rules}
+use Rattle.digest.specs.Pick.{pick}
+use Rattle.digest.specs.Bytes.{laid_within, laid_over}
+use Rattle.digest.specs.Named.{Told}
+use Rattle.digest.specs.declared.named.Unnamed.{Unnamed}
+use Rattle.digest.specs.declared.named.Unnamed.TheVariants.{Unlisted}
+use Rattle.lent.specs.Macs.{named_out}
 use Rattle.lent.proofs.macs.leave_named.Goals as goal
 
-pub returns-then-out-lt-ROOM : goal.returns-then-out-lt-ROOM
-returns-then-out-lt-ROOM c = let out = c.args.out.now in
-    let unknown = c.is_unknown.ensures in
-    let no = c.if-is_unknown.false in
-    let short = lt-ltb (length out) 10 c.if-out-lt-ROOM.true in
-    record { value = test_no _ unknown no (pick_yes ℕ _ _ _ _ short (c.result_of.ensures.exact ∙ ap (λ x. result_of x 0 0) c.number.ensures)); out_after = test_no _ unknown no (pick_yes (List ℕ) _ _ _ _ short refl) }
+either : (b : Bool) (r x y : List ℕ) → r ≡ x → r ≡ y → r ≡ pick b x y
+either true r x y e f = e
+either false r x y e f = f
 
-pub slice_bounds-name-end : goal.slice_bounds-name-end
-slice_bounds-name-end c = let l : length c.args.named.name ≡ 10 = search rules in omega arith
+none : (said : Result Told Unnamed) (out : List ℕ) → said ≡ Err Unlisted → out ≡ named_out said out
+unfolding laid_within laid_over
+none said out e = rw e (either (ltb (length out) 10) _ _ _ refl (either (leb 0 (length out)) _ _ _ refl refl))
 
-pub slice_bounds-put-end : goal.slice_bounds-put-end
-slice_bounds-put-end c = let l : length c.args.named.name ≡ 10 = search rules in sym (length-take-le _ c.args.named.name (omega arith))
-
-pub returns : goal.returns
-returns c = let m = c.args.named in
-    let out = c.args.out.now in
-    let unknown = c.is_unknown.ensures in
-    let no = c.if-is_unknown.false in
-    let long = le-ltb (length out) 10 c.if-out-lt-ROOM.false in
-    record { value = test_no _ unknown no (pick_no ℕ _ _ _ _ long (c.result_of-2.ensures.exact ∙ ap (result_of 0 m.length) c.sizes_count.ensures)); out_after = test_no _ unknown no (pick_no (List ℕ) _ _ _ _ long c.put.ensures.exact) }
+pub returns-in-Err-Unlisted-clause-out_after : goal.returns-in-Err-Unlisted-clause-out_after
+returns-in-Err-Unlisted-clause-out_after c = let is : c.args.said ≡ Err Unlisted = search rules in none _ _ is
