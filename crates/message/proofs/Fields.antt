@@ -10,10 +10,15 @@ use lib.Seq.{take-nil, take_all}
 use lib.Dec.{leb, ltb}
 use borrow.Author.Tests.{le-leb, lt-leb, le-ltb, lt-ltb, leb-true, ltb-true, ltb-false, ne_eqb, eqb-true, eqb-false}
 use Rattle.digest.specs.Pick.{pick}
-use Rattle.std.specs.Prelude.{Option, None, Some, eqb, slice_get, ◌∷◌}
+use Rattle.std.specs.Prelude.{Option, None, Some, Err, ok_or, eqb, slice_get, ◌∷◌}
 use Rattle.std.specs.Bool.{then_some}
 use Rattle.std.proofs.lemmas.Grind.{get_or_default_zero}
 use Rattle.message.specs.Field.{field_end, short_end, long_end, told_end, two_at, part_of, both}
+
+-- what `ok_or` refuses with
+pub refused_by : {T E : Type 0} (o : Option T) (d f : E) → Err d ≡ ok_or o f → (o ≡ None) × (d ≡ f)
+refused_by None d f e = (refl, cc)
+refused_by (Some x) d f e = let y : ◌≡◌ {A = ℕ} 0 1 = cc in absurd (omega arith)
 
 -- an end as it is answered
 pub told_none : (n : ℕ) → 0 ≡ n → None ≡ told_end n

@@ -1,6 +1,6 @@
 -- Laws of the hello's own fields, and of its reading: one for a field that is there, one for a field that is not, and one
 -- for all of them together.
-use mathlib.Core.Path.{◌≡◌, refl, ◌∙◌, ap}
+use mathlib.Core.Path.{◌≡◌, refl, sym, ◌∙◌, ap}
 use mathlib.Core.List.{List}
 use mathlib.Core.Bool.{true, false}
 use Prim.Native.Nat.{ℕ, ◌%◌, ◌≤◌, ◌<◌}
@@ -16,7 +16,7 @@ use Rattle.message.specs.Hello.{suites_end, walk_on, walk_of, read_of}
 use Rattle.message.specs.declared.hello.Hello.{Hello}
 use Rattle.message.specs.declared.hello.Field.{Field}
 use Rattle.message.specs.declared.hello.Field.TheVariants.{Header, Size, Rest}
-use Rattle.message.proofs.Fields.{end_none, end_some, short_cut, pick_same}
+use Rattle.message.proofs.Fields.{refused_by, end_none, end_some, short_cut, pick_same}
 use Rattle.std.specs.Prelude.{Err, Ok, Result, None, Some, Option, ok_or}
 
 pub suites_cut : (m : List ℕ) (at : ℕ) → length m ≤ at → 0 ≡ suites_end m at
@@ -31,18 +31,13 @@ pub suites_even : (m : List ℕ) (at end : ℕ) → get_or m at 0 % 2 ≡ 0 → 
 unfolding suites_end
 suites_even m at end h e = rw (eq-eqb (get_or m at 0 % 2) 0 h) e
 
-err_same : (f g : Field) → ◌≡◌ {A = Result ℕ Field} (Err f) (Err g) → f ≡ g
-err_same f g e = cc
-
 -- a field that is not there is at fault; behind one that is there the reading goes on
 module _ (o : Option ℕ) (end : ℕ) (fault : Field) (next : ℕ → Result Hello Field) (h : o ≡ told_end end) where
   pub missing : (f : Field) → Err f ≡ ok_or o fault → Err f ≡ walk_on end fault next
   unfolding walk_on
-  missing f e = go o h e
-    where
-      go : (a : Option ℕ) → a ≡ told_end end → Err f ≡ ok_or a fault → Err f ≡ walk_on end fault next
-      go None k g = rw (end_none end k) (λ i. Err (err_same f fault g i))
-      go (Some x) k g = let y : ◌≡◌ {A = ℕ} 0 1 = cc in absurd (omega arith)
+  missing f e =
+      let w = refused_by o f fault e in
+      rw (end_none end (sym w.0 ∙ h)) (ap Err w.1)
 
   pub there : (e : ℕ) (r : Result Hello Field) → Ok e ≡ ok_or o fault → r ≡ next e → r ≡ walk_on end fault next
   unfolding walk_on

@@ -1,7 +1,7 @@
 // Whether a ClientHello is acceptable (01, Handshake), and what is planned for it.
 ghost use Rattle.std.specs.Prelude.{◌≡◌};
 ghost use Rattle.message.specs.Values.{values_at};
-ghost use Rattle.message.specs.Acceptance.{fits_pair, first_fit, has_null, accepted_of, acceptance_of, heard_of};
+ghost use Rattle.message.specs.Acceptance.{fits_pair, first_fit, accepted_of, acceptance_of, heard_of};
 
 use crate::hello::{Field, Hello};
 use crate::{field, hello};
@@ -33,17 +33,32 @@ pub enum Unheard {
     Malformed(Field),
 }
 
+impl From<Condition> for Unheard {
+    ghost use Rattle.message.specs.declared.acceptance.Unheard.TheVariants.{Unacceptable};
+
+    ghost from_gives = { λ condition u. u ≡ Unacceptable condition };
+
+    fn from(condition: Condition) -> Unheard {
+        Unheard::Unacceptable(condition)
+    }
+}
+
+impl From<Field> for Unheard {
+    ghost use Rattle.message.specs.declared.acceptance.Unheard.TheVariants.{Malformed};
+
+    ghost from_gives = { λ fault u. u ≡ Malformed fault };
+
+    fn from(fault: Field) -> Unheard {
+        Unheard::Malformed(fault)
+    }
+}
+
 // Reads a message as a ClientHello and judges it against the planted session identifier.
 pub fn hear(m: &[u8], planted: &[u8]) -> Result<Plan, Unheard>
     ensures { result ≡ heard_of m.now planted.now }
 {
-    match hello::read(m) {
-        Err(fault) => Err(Unheard::Malformed(fault)),
-        Ok(h) => match judge(m, h, planted) {
-            Ok(plan) => Ok(plan),
-            Err(condition) => Err(Unheard::Unacceptable(condition)),
-        },
-    }
+    let h = hello::read(m)?;
+    Ok(judge(m, h, planted)?)
 }
 
 // Judges the values that stand at the places of a hello.
@@ -88,7 +103,7 @@ pub fn accept(
     let Some(mac) = Mac::listed(first_fit(suites)) else {
         return Err(Condition::CipherSuite);
     };
-    if !has_null(methods) {
+    if !methods.contains(&0) {
         return Err(Condition::Compression);
     }
     if numbering != 2 {
@@ -105,42 +120,20 @@ pub fn accept(
 fn first_fit(suites: &[u8]) -> u8
     ensures { result ≡ first_fit suites.now }
 {
-    let mut at: usize = 0;
-    while at < suites.len() {
-        if suites.len() - at < 2 {
-            return 0;
+    let mut rest = suites;
+    while let [cipher, mac, tail @ ..] = rest {
+        if fits(*cipher, *mac) {
+            return *mac;
         }
-        if fits(suites[at], suites[at + 1]) {
-            return suites[at + 1];
-        }
-        at += 2;
+        rest = tail;
     }
     0
 }
 
 // Whether a pair is the null cipher with SHA_80 or SHA.
+#[tactic(auto, unfolding(crate::specs::Acceptance::fits_pair))]
 fn fits(cipher: u8, mac: u8) -> bool
     ensures { result ≡ fits_pair cipher mac }
 {
-    if cipher != 0 {
-        return false;
-    }
-    if mac == 2 {
-        return true;
-    }
-    mac == 3
-}
-
-// Whether null compression is among the methods.
-fn has_null(methods: &[u8]) -> bool
-    ensures { result ≡ has_null methods.now }
-{
-    let mut i: usize = 0;
-    while i < methods.len() {
-        if methods[i] == 0 {
-            return true;
-        }
-        i += 1;
-    }
-    false
+    cipher == 0 && (mac == 2 || mac == 3)
 }

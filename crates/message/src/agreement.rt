@@ -30,10 +30,8 @@ pub enum Disagreed {
 pub fn agree(m: &[u8], planted: &[u8], offer: Offer) -> Result<Plan, Disagreed>
     ensures { result ≡ agreement_of m.now planted.now offer }
 {
-    match server_hello::read(m) {
-        None => Err(Disagreed::Malformed),
-        Some(end) => judge(m, end, planted, offer),
-    }
+    let end = server_hello::read(m).ok_or(Disagreed::Malformed)?;
+    judge(m, end, planted, offer)
 }
 
 // Judges the values that stand in a ServerHello whose session identifier ends at a place.

@@ -1,5 +1,5 @@
 // Alerts (002 10.2): level, description, checksum.
-ghost use Rattle.std.specs.Prelude.{◌≡◌, ◌+◌, ◌*◌};
+ghost use Rattle.std.specs.Prelude.{◌≡◌};
 ghost use Rattle.message.specs.Alert.{level_number, level_of, description_number, sorted_of, alert_of, alert_bytes};
 
 #[derive(Clone, Copy)]
@@ -59,13 +59,9 @@ pub fn read(s: &[u8]) -> Option<Alert>
     if s.len() != 6 {
         return None;
     }
-    let Some(level) = grade(s[0]) else {
-        return None;
-    };
-    let Some(description) = sort(s[1]) else {
-        return None;
-    };
-    let checksum = word(s[2], s[3], s[4], s[5]);
+    let level = grade(s[0])?;
+    let description = sort(s[1])?;
+    let checksum = u32::from_be_bytes([s[2], s[3], s[4], s[5]]);
     Some(Alert {
         level,
         description,
@@ -77,17 +73,19 @@ pub fn read(s: &[u8]) -> Option<Alert>
 pub fn write(level: Level, description: Description, checksum: u32) -> [u8; 6]
     ensures { result ≡ alert_bytes level description checksum }
 {
+    let [a, b, c, d] = checksum.to_be_bytes();
     [
         level_number(level),
         description_number(description),
-        (checksum / 16777216) as u8,
-        (checksum / 65536 % 256) as u8,
-        (checksum / 256 % 256) as u8,
-        (checksum % 256) as u8,
+        a,
+        b,
+        c,
+        d,
     ]
 }
 
 // The level that a byte names.
+#[tactic(auto, unfolding(crate::specs::Alert::level_of))]
 pub fn grade(b: u8) -> Option<Level>
     ensures { result ≡ level_of b }
 {
@@ -108,13 +106,6 @@ pub fn level_number(level: Level) -> u8
         Level::Critical => 2,
         Level::Fatal => 3,
     }
-}
-
-// The number that four bytes spell.
-fn word(a: u8, b: u8, c: u8, d: u8) -> u32
-    ensures { result ≡ ((a * 256 + b) * 256 + c) * 256 + d }
-{
-    ((a as u32 * 256 + b as u32) * 256 + c as u32) * 256 + d as u32
 }
 
 // The description that a byte names, by the list of 10.2; the numbers between are unassigned.

@@ -6,6 +6,9 @@ ghost use Rattle.message.specs.Hello.{read_of, suites_end};
 
 use crate::{field, handshake, keys};
 
+// The most bytes of a ClientHello message, its header included.
+const SIZE_MOST: usize = 256;
+
 // Where the contents of a field stand in the message: from the first byte up to the end.
 #[derive(Clone, Copy)]
 pub struct Place {
@@ -63,7 +66,7 @@ pub fn read(m: &[u8]) -> Result<Hello, Field>
     if !handshake::fills_with(m, 1) {
         return Err(Field::Header);
     }
-    if 256 < m.len() {
+    if SIZE_MOST < m.len() {
         return Err(Field::Size);
     }
     let version = field::field_end(m, 3, 1).ok_or(Field::Version)?;

@@ -46,17 +46,9 @@ pub fn kinds_of(macs: &[u8]) -> Option<Kinds>
 pub fn is_offered(kinds: Kinds, mac: Mac) -> bool
     ensures { result ≡ offers kinds mac }
 {
-    match kinds {
-        Kinds::Sha80 => match mac {
-            Mac::Sha80 => true,
-            Mac::Sha => false,
-        },
-        Kinds::Sha => match mac {
-            Mac::Sha80 => false,
-            Mac::Sha => true,
-        },
-        Kinds::Sha80First => true,
-        Kinds::ShaFirst => true,
+    match (kinds, mac) {
+        (Kinds::Sha80, Mac::Sha) | (Kinds::Sha, Mac::Sha80) => false,
+        _ => true,
     }
 }
 

@@ -7,17 +7,10 @@ ghost use Rattle.std.specs.Prelude.{length, ◌≤◌};
 pub(crate) fn put(out: &mut [u8], at: usize, s: &[u8]) -> usize
     ensures { Puts s.now out.old at out.new result }
 {
-    if out.len() < at {
+    if out.len() < at || out.len() - at < s.len() {
         return at;
     }
-    if out.len() - at < s.len() {
-        return at;
-    }
-    let mut i: usize = 0;
-    while i < s.len() {
-        out[at + i] = s[i];
-        i += 1;
-    }
+    out[at..at + s.len()].copy_from_slice(s);
     at + s.len()
 }
 
@@ -40,7 +33,7 @@ pub(crate) fn put_long(out: &mut [u8], at: usize, s: &[u8]) -> usize
     if 65535 < s.len() {
         return at;
     }
-    let size = [(s.len() / 256) as u8, (s.len() % 256) as u8];
+    let size = (s.len() as u16).to_be_bytes();
     let next = put(out, at, &size);
     put(out, next, s)
 }

@@ -3,6 +3,7 @@ use native.Mathlib.Omega.{arith}
 use Rattle.digest.proofs.Picks.{if_eq, if_ne}
 use mathlib.Core.Path.{refl, sym}
 use Rattle.message.specs.Acceptance.{accepted_of}
+use Rattle.message.proofs.Accepting.{null_any}
 use Rattle.message.proofs.acceptance.accept.Goals as goal
 
 pub returns-then-version-ne1 : goal.returns-then-version-ne1
@@ -18,16 +19,17 @@ unfolding accepted_of
 returns-in_default c = rw (sym c.same_code.ensures.exact, c.if-not-same_code.false, sym c.first_fit.ensures, sym c.listed.ensures.exact, c.in_default.is)
     (if_eq _ c.args.version 1 (omega arith) refl)
 
-pub returns-then-not-has_null : goal.returns-then-not-has_null
+pub returns-then-not-contains : goal.returns-then-not-contains
 unfolding accepted_of
-returns-then-not-has_null c = rw (
+returns-then-not-contains c = rw (
   sym c.same_code.ensures.exact,
   c.if-not-same_code.false,
   sym c.first_fit.ensures,
   sym c.listed.ensures.exact,
-  c.in-Some.is,
-  sym c.has_null.ensures,
-  c.if-not-has_null.true,
+  c.in-Is.is,
+  sym (null_any c.args.methods.now),
+  sym c.contains.ensures.value,
+  c.if-not-contains.true,
 )
     (if_eq _ c.args.version 1 (omega arith) refl)
 
@@ -38,9 +40,10 @@ returns-then-numbering-ne2 c = rw (
   c.if-not-same_code.false,
   sym c.first_fit.ensures,
   sym c.listed.ensures.exact,
-  c.in-Some.is,
-  sym c.has_null.ensures,
-  c.if-not-has_null.false,
+  c.in-Is.is,
+  sym (null_any c.args.methods.now),
+  sym c.contains.ensures.value,
+  c.if-not-contains.false,
 )
     (if_eq _ c.args.version 1 (omega arith) (if_ne _ c.args.numbering 2 (λ z. omega arith) refl))
 
@@ -51,8 +54,9 @@ returns c = rw (
   c.if-not-same_code.false,
   sym c.first_fit.ensures,
   sym c.listed.ensures.exact,
-  c.in-Some.is,
-  sym c.has_null.ensures,
-  c.if-not-has_null.false,
+  c.in-Is.is,
+  sym (null_any c.args.methods.now),
+  sym c.contains.ensures.value,
+  c.if-not-contains.false,
 )
     (if_eq _ c.args.version 1 (omega arith) (if_eq _ c.args.numbering 2 (omega arith) refl))

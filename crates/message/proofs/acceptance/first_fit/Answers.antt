@@ -1,52 +1,24 @@
--- `message::acceptance::first_fit` meets its contract. The invariant: the first pair that fits is that of what is left.
--- The measure is what is left. Assumes nothing.
-use native.Mathlib.Omega.{arith}
-use mathlib.Core.Path.{refl, sym, ◌∙◌}
-use Rattle.message.proofs.Accepting.{fit_here, fit_later, fit_none, fit_odd}
+-- `message::acceptance::first_fit` meets its contract: of what is left, the pair at the front fits, or is left out.
+-- Assumes nothing.
+use Rattle.std.proofs.Common.{refl, sym, ◌∙◌, ap, length}
+use native.Mathlib.Nat.{le_refl}
+use Rattle.std.proofs.lemmas.Slice.{between_to_end}
+use Rattle.message.specs.Acceptance.{first_fit}
+use Rattle.message.proofs.Accepting.{fit_here, fit_later, fit_none}
 use Rattle.message.proofs.acceptance.first_fit.Goals as goal
 
-pub loop-at-init : goal.loop-at-init
-loop-at-init c = refl
-
-pub overflow_sub-suites : goal.overflow_sub-suites
-overflow_sub-suites c = omega arith
-
-pub returns-then-suites-at-lt2 : goal.returns-then-suites-at-lt2
-returns-then-suites-at-lt2 c = let s = c.args.suites.now in
-    sym (c.loop-at.invariant ∙ fit_odd s c.loop-at.at (omega arith))
-
-pub bounds-suites-at : goal.bounds-suites-at
-bounds-suites-at c = omega arith
-
-pub overflow_add-at : goal.overflow_add-at
-overflow_add-at c = omega arith
-
-pub bounds-suites-at-in-loop-at : goal.bounds-suites-at-in-loop-at
-bounds-suites-at-in-loop-at c = omega arith
-
-pub overflow_add-result : goal.overflow_add-result
-overflow_add-result c = omega arith
-
-pub bounds-suites-at-then-fits : goal.bounds-suites-at-then-fits
-bounds-suites-at-then-fits c = omega arith
+pub loop-rest-init : goal.loop-rest-init
+loop-rest-init c = refl
 
 pub returns-then-fits : goal.returns-then-fits
-returns-then-fits c = let s = c.args.suites.now in
-    sym
-    (c.loop-at.invariant
-    ∙ fit_here s c.loop-at.at (omega arith) (sym c.fits.ensures ∙ c.if-fits.true))
+returns-then-fits c =
+    sym (c.loop-rest.invariant ∙ fit_here c.loop-rest.rest.now c.in-len2-up.len_at_least (sym c.if-fits.ensures))
 
-pub overflow_add-at-in-loop-at : goal.overflow_add-at-in-loop-at
-overflow_add-at-in-loop-at c = omega arith
-
-pub loop-at-smaller : goal.loop-at-smaller
-loop-at-smaller c = omega arith
-
-pub loop-at-preserved : goal.loop-at-preserved
-loop-at-preserved c = let s = c.args.suites.now in
-    c.loop-at.invariant
-    ∙ fit_later s c.loop-at.at (omega arith) (sym c.fits.ensures ∙ c.if-fits.false)
+pub loop-rest-preserved : goal.loop-rest-preserved
+loop-rest-preserved c = let s = c.loop-rest.rest.now in
+    c.loop-rest.invariant
+    ∙ fit_later s c.in-len2-up.len_at_least (sym c.if-fits.ensures)
+    ∙ ap first_fit (sym (between_to_end s 2 (length s) (le_refl _)))
 
 pub returns : goal.returns
-returns c = let s = c.args.suites.now in
-    sym (c.loop-at.invariant ∙ fit_none s c.loop-at.at (omega arith))
+returns c = fit_none c.loop-rest.rest.now c.in_default.len_below ∙ sym c.loop-rest.invariant

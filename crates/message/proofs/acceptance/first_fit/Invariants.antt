@@ -1,13 +1,11 @@
 -- `message::acceptance::first_fit` meets its contract. The invariant: the first pair that fits is that of what is left.
 -- The measure is what is left. Assumes nothing.
-use mathlib.Core.Path.{◌≡◌}
-use Prim.Native.Nat.{◌-◌}
-use lib.ListN.{length, drop}
+use Rattle.std.proofs.Common.{◌≡◌, length}
 use Rattle.message.specs.Acceptance.{first_fit}
 use Rattle.message.proofs.acceptance.first_fit.Given as goal
 
-abbrev pub invariant-loop-at : goal.invariant-loop-at
-invariant-loop-at l = first_fit l.suites ≡ first_fit (drop l.at l.suites)
+abbrev pub invariant-loop-rest : goal.invariant-loop-rest
+invariant-loop-rest l = first_fit l.suites ≡ first_fit l.rest
 
-abbrev pub decreases-loop-at : goal.decreases-loop-at
-decreases-loop-at l = length l.suites - l.at
+abbrev pub decreases-loop-rest : goal.decreases-loop-rest
+decreases-loop-rest l = length l.rest
