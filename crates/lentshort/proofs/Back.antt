@@ -11,7 +11,6 @@ use borrow.Author.Tests.{eqb-true, eq-eqb}
 use Rattle.digest.specs.Pick.{pick}
 use Rattle.digest.specs.Mac.{same_bytes}
 use Rattle.digest.proofs.Same.{same_equal}
-use Rattle.gather.specs.declared.slot.Slot.{Slot}
 use Rattle.gather.specs.declared.gatherer.Gatherer.{Gatherer}
 use Rattle.lent.specs.Fields.{joined, bytes_in}
 use Rattle.lent.specs.Saved.{Bytes}

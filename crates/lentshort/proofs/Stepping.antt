@@ -8,12 +8,11 @@ use native.Mathlib.Omega.{arith}
 use lib.ListN.{length, get_or, take, drop, length-drop, take-append-drop, drop_of_length-le}
 use lib.Seq.{drop_at, length-take-le}
 use lib.Dec.{eqb, ltb, leb}
-use Rattle.digest.specs.Mac.{same_bytes}
 use borrow.Rule.Slice.PartMut.{put_mid}
 use Rattle.gather.specs.Header.{heading_of}
 use Rattle.gather.specs.Slot.{free, begun, count_of, below, sized}
 use Rattle.std.specs.Prelude.{Option, Some, None, Result, Ok, Err}
-use Rattle.gather.specs.Gatherer.{slot_at, with_slot, held_at, vacant_at, within, Left, leaves, again_of, add_of, join_by, step_by, step_of}
+use Rattle.gather.specs.Gatherer.{slot_at, with_slot, held_at, vacant_at, Left, leaves, again_of, add_of, join_by, step_by, step_of}
 use Rattle.gather.specs.declared.slot.Slot.{Slot}
 use Rattle.gather.specs.declared.header.Ports.{Ports}
 use Rattle.gather.specs.declared.header.Place.{Place}

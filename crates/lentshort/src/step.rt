@@ -8,11 +8,7 @@ use crate::load::gatherer_in;
 use crate::save::put_gatherer;
 use gather::{Answer, Refusal};
 
-pub(crate) fn stepped(
-    d: &mut [u8],
-    message: &[u8],
-    assembly: &mut [u8],
-) -> Result<Answer, Refusal>
+pub(crate) fn stepped(d: &mut [u8], message: &[u8], assembly: &mut [u8]) -> Result<Answer, Refusal>
     requires { length d.old ≡ gatherer_size }
     ensures value { result ≡ (step_of (gatherer_in d.old) (store_in d.old) message.now assembly.old).answer }
     ensures assembly_after { assembly.new ≡ (step_of (gatherer_in d.old) (store_in d.old) message.now assembly.old).assembly }

@@ -1,7 +1,6 @@
 -- `said::put_told`: all of the bytes.
 use mathlib.Core.Path.{refl, ap, ◌∙◌}
 use borrow.Author.Rules.{rules}
-use native.Mathlib.Omega.{arith}
 use Rattle.digest.specs.Bytes.{laid_within, bytes2}
 use Rattle.lentshort.proofs.Laying.{told_laid, low_bytes}
 use Rattle.lentshort.proofs.said.put_told.Goals as goal

@@ -1,5 +1,5 @@
 -- `save::put_slot`: the sizes before the i-th are laid behind the reference and the total.
-use Rattle.std.proofs.Common.{◌≡◌, ◌∷◌, length}
+use Rattle.std.proofs.Common.{◌≡◌, ◌∷◌}
 use mathlib.Core.List.{map}
 use lib.ListN.{take}
 use Rattle.digest.specs.Bytes.{bytes2, laid_over}
