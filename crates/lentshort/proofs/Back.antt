@@ -1,59 +1,47 @@
 -- Saving and loading a gatherer are one another's inverse.
 use mathlib.Core.Path.{◌≡◌, refl, sym, ◌∙◌, ap, ap₂, subst}
 use mathlib.Core.Bool.{Bool, true, false}
-use mathlib.Core.List.{List, [], ◌∷◌, ◌++◌, append_assoc}
-use Prim.Native.Nat.{ℕ, ◌+◌}
+use mathlib.Core.List.{List, ◌++◌, map}
+use Prim.Native.Nat.{ℕ, zero, suc, ◌+◌, ◌*◌, ◌<◌}
 use native.Mathlib.Omega.{arith}
-use lib.ListN.{length, take, drop, length-append, take-append-drop}
-use lib.Seq.{drop_at, drop-drop}
+use lib.ListN.{length, take, drop, get_or, length-append, take-append-drop}
+use lib.Seq.{drop_at, take-add}
 use lib.Dec.{eqb}
 use borrow.Author.Tests.{eqb-true, eq-eqb}
 use Rattle.digest.specs.Pick.{pick}
 use Rattle.digest.specs.Mac.{same_bytes}
 use Rattle.digest.proofs.Same.{same_equal}
-use Rattle.gather.specs.declared.slot.Slot.{Slot}
 use Rattle.gather.specs.declared.gatherer.Gatherer.{Gatherer}
-use Rattle.lent.specs.Fields.{joined}
+use Rattle.lent.specs.Fields.{joined, bytes_in}
 use Rattle.lent.specs.Saved.{Bytes}
 use Rattle.lent.proofs.Calling.{both_true}
-use Rattle.lent.proofs.Back.{cuts, total, cut_joined}
-use Rattle.lent.proofs.Laying.{joined_size, joined_none}
-use Rattle.lentshort.specs.Saved.{gatherer_size, store_at, mark, slot_bytes, head_fields, saved_gatherer, is_gatherer, slot_in, gatherer_in, store_in, Is, No, loaded_gatherer, SlotRanged, Ranged}
-use Rattle.lentshort.proofs.Spelling.{slot_back, slot_size, slot_there, slot_ranged}
+use Rattle.gather.specs.Slot.{free}
+use Rattle.lentshort.specs.Saved.{gatherer_size, store_at, mark, row_in, slot_bytes, head_fields, saved_gatherer, is_gatherer, slot_in, gatherer_in, store_in, Is, No, loaded_gatherer, SlotRanged, Ranged}
+use Rattle.lentshort.proofs.Rows.{row_size, row_back, row_there}
+use Rattle.lentshort.proofs.Spelling.{slot_back, slot_size, slot_there, slot_ranged, many_in}
 
 -- ---- loading what was saved
 
-pub head_size : (g : Gatherer) → Ranged g → length (joined (head_fields g)) ≡ store_at
-head_size g r =
-    joined_size mark _ 4 96 refl
-    (joined_size (slot_bytes g.first) _ 24 72 (slot_size g.first r.first)
-    (joined_size (slot_bytes g.second) _ 24 48 (slot_size g.second r.second)
-    (joined_size (slot_bytes g.third) _ 24 24 (slot_size g.third r.third)
-    (joined_size (slot_bytes g.fourth) [] 24 0 (slot_size g.fourth r.fourth) joined_none))))
+-- the slots are a row of 24 bytes each
+pub each_slot : (g : Gatherer) → Ranged g → (i : ℕ) → i < length g.slots → SlotRanged (get_or g.slots i free)
+each_slot g r i h = r.slot i (omega (arith, r.four))
 
--- what stands behind a slot
-behind : (s : Slot) (b : List ℕ) (at : ℕ) (rest : List ℕ) → SlotRanged s → drop at b ≡ slot_bytes s ++ rest → drop (at + 24) b ≡ rest
-behind s b at rest r e = sym (drop-drop 24 at b) ∙ ap (drop 24) e ∙ drop_at (slot_bytes s) rest 24 (slot_size s r)
+slots_size : (g : Gatherer) → Ranged g → length (joined (map slot_bytes g.slots)) ≡ 96
+slots_size g r = row_size free slot_in slot_bytes SlotRanged 24 slot_size g.slots (each_slot g r) ∙ ap (λ n. 24 * n) r.four
+
+pub head_size : (g : Gatherer) → Ranged g → length (joined (head_fields g)) ≡ store_at
+unfolding joined
+head_size g r = omega (arith, length-append mark (joined (map slot_bytes g.slots)), slots_size g r)
 
 pub gatherer_back : (g : Gatherer) (store : List ℕ) → Ranged g → gatherer_in (saved_gatherer g store) ≡ g
-unfolding saved_gatherer gatherer_in joined
+unfolding saved_gatherer joined
 gatherer_back g store r =
     let b = saved_gatherer g store in
-    let four = slot_bytes g.fourth ++ [] in
-    let three = slot_bytes g.third ++ four in
-    let two = slot_bytes g.second ++ three in
-    let at1 : drop 4 b ≡ slot_bytes g.first ++ (two ++ store) = append_assoc (slot_bytes g.first) two store in
-    let at2 : drop 28 b ≡ slot_bytes g.second ++ (three ++ store)
-    = behind g.first b 4 (two ++ store) r.first at1 ∙ append_assoc (slot_bytes g.second) three store in
-    let at3 : drop 52 b ≡ slot_bytes g.third ++ (four ++ store)
-    = behind g.second b 28 (three ++ store) r.second at2 ∙ append_assoc (slot_bytes g.third) four store in
-    let at4 : drop 76 b ≡ slot_bytes g.fourth ++ ([] ++ store)
-    = behind g.third b 52 (four ++ store) r.third at3 ∙ append_assoc (slot_bytes g.fourth) [] store in
     λ i. record {
-      first = slot_back g.first b 4 (two ++ store) r.first at1 i;
-      second = slot_back g.second b 28 (three ++ store) r.second at2 i;
-      third = slot_back g.third b 52 (four ++ store) r.third at3 i;
-      fourth = slot_back g.fourth b 76 ([] ++ store) r.fourth at4 i;
+      slots =
+          (ap (λ n. row_in slot_in 24 n b 4) (sym r.four)
+          ∙ row_back free slot_in slot_bytes SlotRanged 24 slot_size slot_back g.slots b 4 store (each_slot g r) refl)
+          i;
     }
 
 pub store_back : (g : Gatherer) (store : List ℕ) → Ranged g → store_in (saved_gatherer g store) ≡ store
@@ -90,17 +78,14 @@ pub gatherer_size_lem : (b : List ℕ) → is_gatherer b ≡ true → length b �
 gatherer_size_lem b h = (tested b h).0
 
 pub gatherer_there : (b : List ℕ) → Bytes b → is_gatherer b ≡ true → saved_gatherer (gatherer_in b) (store_in b) ≡ b
-unfolding saved_gatherer gatherer_in cuts total
+unfolding saved_gatherer joined
 gatherer_there b all h =
     let t = tested b h in
     let room : length b ≡ gatherer_size = t.0 in
-    let fields : ◌≡◌ {A = List (List ℕ)}
-    (mark ∷ slot_bytes (slot_in b 4) ∷ slot_bytes (slot_in b 28) ∷ slot_bytes (slot_in b 52) ∷ slot_bytes (slot_in b 76) ∷ [])
-    (cuts (4 ∷ 24 ∷ 24 ∷ 24 ∷ 24 ∷ []) 0 b)
-    = λ i. sym t.1 i ∷ slot_there b 4 all (omega arith) i ∷ slot_there b 28 all (omega arith) i ∷ slot_there b 52 all (omega arith) i
-    ∷ slot_there b 76 all (omega arith) i ∷ [] in
-    ap (λ x. joined x ++ drop store_at b) fields
-    ∙ ap (λ x. x ++ drop store_at b) (cut_joined (4 ∷ 24 ∷ 24 ∷ 24 ∷ 24 ∷ []) 0 b)
+    let slots : joined (map slot_bytes (row_in slot_in 24 4 b 4)) ≡ bytes_in b 4 96
+    = row_there free slot_in slot_bytes SlotRanged 24 slot_there 4 b 4 all (omega arith) in
+    (λ i. sym t.1 i ++ slots i ++ drop store_at b)
+    ∙ ap (λ x. x ++ drop store_at b) (sym (take-add 4 96 b))
     ∙ take-append-drop store_at b
 
 is_loaded : (b : List ℕ) (g : Gatherer) (store : List ℕ) → loaded_gatherer b ≡ Is g store
@@ -118,10 +103,13 @@ loads_saved b g store all e =
     let is = is_loaded b g store e in
     (λ i. saved_gatherer (sym is.1.0 i) (sym is.1.1 i)) ∙ gatherer_there b all is.0
 
+ranged_in : (n : ℕ) (b : List ℕ) (at : ℕ) → Bytes b → (k : ℕ) → k < n → SlotRanged (get_or (row_in slot_in 24 n b at) k free)
+unfolding row_in
+ranged_in zero b at all k h = absurd (omega arith)
+ranged_in (suc n) b at all zero h = slot_ranged b at all
+ranged_in (suc n) b at all (suc k) h = ranged_in n b (at + 24) all k (omega arith)
+
 -- What loads is in range.
 pub loads_ranged : (b : List ℕ) (g : Gatherer) (store : List ℕ) → Bytes b → loaded_gatherer b ≡ Is g store → Ranged g
-unfolding gatherer_in
 loads_ranged b g store all e =
-    let is = is_loaded b g store e in
-    subst Ranged is.1.0
-    (record { first = slot_ranged b 4 all; second = slot_ranged b 28 all; third = slot_ranged b 52 all; fourth = slot_ranged b 76 all })
+    let is = is_loaded b g store e in subst Ranged is.1.0 (record { four = many_in slot_in 24 4 b 4; slot = ranged_in 4 b 4 all })

@@ -9,6 +9,8 @@ use lib.Dec.{eqb}
 use borrow.Author.Tests.{eq-eqb, ne_eqb, lt-ltb, le-ltb, eqb-true}
 use Rattle.digest.specs.Pick.{pick}
 use Rattle.gather.specs.Gatherer.{Left, fresh_of, drop_of, step_of, datagram_of}
+use Rattle.std.specs.Prelude.{Result}
+use Rattle.gather.specs.declared.refusal.Refusal.{Refusal}
 use Rattle.gather.specs.declared.gatherer.Answer.{Answer}
 use Rattle.short.specs.Message.{is_shown, gathered_of}
 use Rattle.lent.specs.Saved as C
@@ -117,7 +119,7 @@ module _ (gatherer message assembly said : List ℕ) where
   unfolding gather_keeps gather_loads
   gather_unlent r t s h e = (rw (sym s ∙ h) (ap (λ x. keeps x gatherer assembly said) e), rw (sym s ∙ h) refl)
 
-  pub gather_on : (t : Bool) (answer : Answer) (r n : ℕ) (gatherer' assembly' said' : List ℕ)
+  pub gather_on : (t : Bool) (answer : Result Answer Refusal) (r n : ℕ) (gatherer' assembly' said' : List ℕ)
       → t ≡ lent_to_gather gatherer (length said) → t ≡ true
       → answer ≡ stepping.answer → assembly' ≡ stepping.assembly → gatherer' ≡ gatherer_after gatherer stepping
       → loaded_gatherer gatherer' ≡ gatherer_then gatherer stepping → said' ≡ saying_of answer said
@@ -132,7 +134,7 @@ module _ (gatherer message assembly said : List ℕ) where
 
 -- ---- the datagram
 
-module _ (answer : Answer) (state tally d random out answers : List ℕ) where
+module _ (answer : Result Answer Refusal) (state tally d random out answers : List ℕ) where
   -- one is shown, and x is it
   pub heard_shown : (x : List ℕ) (r : ℕ) (s t o a : List ℕ) → is_shown answer ≡ true → x ≡ d
       → r ≡ receive_result state tally answers x random (length out)
@@ -213,7 +215,7 @@ module _ (state tally gatherer message assembly random said out answers : List �
       )
 
   -- what the step left, and what was heard of the datagram that it shows
-  pub message_on : (t : Bool) (answer : Answer) (r : ℕ) (state' tally' gatherer' assembly' said' out' answers' : List ℕ)
+  pub message_on : (t : Bool) (answer : Result Answer Refusal) (r : ℕ) (state' tally' gatherer' assembly' said' out' answers' : List ℕ)
       → t ≡ lent_to state (length tally) (length answers) gatherer (length said) → t ≡ true
       → length random ≡ 16 → 128 ≤ length out
       → answer ≡ (step_of (gatherer_in gatherer) (store_in gatherer) message assembly).answer

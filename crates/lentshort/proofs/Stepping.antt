@@ -8,21 +8,21 @@ use native.Mathlib.Omega.{arith}
 use lib.ListN.{length, get_or, take, drop, length-drop, take-append-drop, drop_of_length-le}
 use lib.Seq.{drop_at, length-take-le}
 use lib.Dec.{eqb, ltb, leb}
-use Rattle.digest.specs.Mac.{same_bytes}
 use borrow.Rule.Slice.PartMut.{put_mid}
 use Rattle.gather.specs.Header.{heading_of}
 use Rattle.gather.specs.Slot.{free, begun, count_of, below, sized}
-use Rattle.gather.specs.Gatherer.{slot_at, with_slot, held_at, vacant_at, within, Left, leaves, said, again_of, add_of, join_of, step_by, step_of}
+use Rattle.std.specs.Prelude.{Option, Some, None, Result, Ok, Err}
+use Rattle.gather.specs.Gatherer.{slot_at, with_slot, held_at, vacant_at, Left, leaves, again_of, add_of, join_by, step_by, step_of}
 use Rattle.gather.specs.declared.slot.Slot.{Slot}
 use Rattle.gather.specs.declared.header.Ports.{Ports}
 use Rattle.gather.specs.declared.header.Place.{Place}
 use Rattle.gather.specs.declared.header.Heading.{Heading}
 use Rattle.gather.specs.declared.header.Heading.TheVariants as H
+use Rattle.gather.specs.declared.refusal.Refusal.{Refusal}
 use Rattle.gather.specs.declared.refusal.Refusal.TheVariants as R
 use Rattle.gather.specs.declared.gatherer.Gatherer.{Gatherer}
 use Rattle.gather.specs.declared.gatherer.Answer.{Answer}
-use Rattle.gather.specs.declared.gatherer.Answer.TheVariants.{Refused, Waiting, Received, Gathered}
-use Rattle.gather.specs.declared.gatherer.Step.{Step}
+use Rattle.gather.specs.declared.gatherer.Answer.TheVariants.{Waiting, Received, Gathered}
 use Rattle.gather.proofs.Always.{either_way}
 use Rattle.gather.proofs.Laying.{rest_of}
 use Rattle.lentshort.specs.Saved.{gatherer_size, store_at, saved_gatherer, gatherer_in, store_in, Is, loaded_gatherer}
@@ -35,50 +35,41 @@ pub record Still (g : Gatherer) (store : List ℕ) (l : Left) : Type 0 where
   pub bytes : touches l.answer ≡ false → l.store ≡ store
 
 module _ (g : Gatherer) (store assembly : List ℕ) where
-  as_it_was : (answer : Answer) → Still g store (said g answer store assembly)
+  as_it_was : (answer : Result Answer Refusal) → Still g store (leaves g answer store assembly)
   as_it_was answer = record { slots = λ e. refl; bytes = λ e. refl }
 
-  touched : (h : Gatherer) (answer : Answer) (d a : List ℕ) → touches answer ≡ true → Still g store (said h answer d a)
-  touched h answer d a t =
-      record {
-        slots = λ e. absurd (let z : ◌≡◌ {A = Bool} true false = sym t ∙ e in let n : ◌≡◌ {A = ℕ} 0 1 = cc in omega arith);
-        bytes = λ e. absurd (let z : ◌≡◌ {A = Bool} true false = sym t ∙ e in let n : ◌≡◌ {A = ℕ} 0 1 = cc in omega arith);
-      }
+  touched : (h : Gatherer) (answer : Result Answer Refusal) (d a : List ℕ) → touches answer ≡ true → Still g store (leaves h answer d a)
+  touched h answer d a t = record { slots = λ e. absurd (let n : ⊥ = cc in n); bytes = λ e. absurd (let n : ⊥ = cc in n) }
 
   add_still : (k : ℕ) (s : Slot) (i : ℕ) (part : List ℕ) (ports : Ports) → Still g store (add_of g k s i store part ports assembly)
-  unfolding add_of again_of
+  unfolding add_of
   add_still k s i part ports =
       either_way Left (Still g store) (eqb (get_or s.sizes i 0) 0) _ _
       (either_way Left (Still g store) (ltb (1400 - below s 11) (length part)) _ _
-      (touched (with_slot g k free) (Refused R.Long) _ _ refl)
+      (touched (with_slot g k free) (Err R.Long) _ _ refl)
       (either_way Left (Still g store) (leb s.total (count_of s.sizes + 1)) _ _
-      (touched (with_slot g k free) (Gathered ports (below s 11 + length part)) _ _ refl)
-      (touched (with_slot g k (sized s i (length part))) (Waiting ports s.reference (count_of s.sizes + 1) s.total) _ _ refl)))
-      (either_way Step (λ x. Still g store (leaves x store assembly)) (same_bytes (within store k s i) part) _ _
-      (as_it_was (Waiting ports s.reference (count_of s.sizes) s.total))
-      (as_it_was (Refused R.Differs)))
+      (touched (with_slot g k free) (Ok (Gathered ports (below s 11 + length part))) _ _ refl)
+      (touched (with_slot g k (sized s i (length part))) (Ok (Waiting ports s.reference (count_of s.sizes + 1) s.total)) _ _ refl)))
+      (as_it_was (again_of k s i store part ports))
 
-  join_still : (part : List ℕ) (ports : Ports) (p : Place) → Still g store (join_of g store part ports p assembly)
-  unfolding join_of
-  join_still part ports p =
-      either_way Left (Still g store) (ltb (held_at g p.reference) 4) _ _
-      (either_way Left (Still g store) (eqb (slot_at g (held_at g p.reference)).total p.total) _ _
-      (add_still (held_at g p.reference) (slot_at g (held_at g p.reference)) (p.place - 1) part ports)
-      (as_it_was (Refused R.Differs)))
-      (either_way Left (Still g store) (eqb (vacant_at g) 4) _ _ (as_it_was (Refused R.Full))
-      (add_still (vacant_at g) (begun p.reference p.total) (p.place - 1) part ports))
+  join_still : (part : List ℕ) (ports : Ports) (p : Place) (found room : Option ℕ) → Still g store (join_by g store part ports p assembly found room)
+  join_still part ports p (Some k) room =
+      either_way Left (Still g store) (eqb (slot_at g k).total p.total) _ _ (add_still k (slot_at g k) (p.place - 1) part ports)
+      (as_it_was (Err R.Differs))
+  join_still part ports p None (Some k) = add_still k (begun p.reference p.total) (p.place - 1) part ports
+  join_still part ports p None None = as_it_was (Err R.Full)
 
-  by_still : (message : List ℕ) (h : Heading) → Still g store (step_by g store message assembly h)
-  by_still message H.Refused = as_it_was (Refused R.Header)
-  by_still message (H.Alone ports start) = as_it_was (Received ports start)
-  by_still message (H.Part ports start p) = join_still (drop start message) ports p
+  by_still : (message : List ℕ) (h : Result Heading Refusal) → Still g store (step_by g store message assembly h)
+  by_still message (Err refusal) = as_it_was (Err refusal)
+  by_still message (Ok (H.Alone ports start)) = as_it_was (Ok (Received ports start))
+  by_still message (Ok (H.Part ports start p)) = join_still (drop start message) ports p (held_at g p.reference) (vacant_at g)
 
   -- an answer that touches nothing leaves the slots and the store as they were
   pub step_still : (message : List ℕ) → Still g store (step_of g store message assembly)
   unfolding step_of
   step_still message =
-      either_way Left (Still g store) (ltb (length store) 5600) _ _ (as_it_was (Refused R.Argument))
-      (either_way Left (Still g store) (ltb (length assembly) 1400) _ _ (as_it_was (Refused R.Room))
+      either_way Left (Still g store) (ltb (length store) 5600) _ _ (as_it_was (Err R.Argument))
+      (either_way Left (Still g store) (ltb (length assembly) 1400) _ _ (as_it_was (Err R.Room))
       (by_still message (heading_of message)))
 
 -- ---- the store in its place
@@ -126,17 +117,17 @@ module _ (d ys : List ℕ) (size : length d ≡ gatherer_size) where
 
 -- ---- the step
 
-module _ (d message assembly ys assembly' : List ℕ) (g : Gatherer) (step : Step) (size : length d ≡ gatherer_size)
+module _ (d message assembly ys assembly' : List ℕ) (g h : Gatherer) (answer : Result Answer Refusal) (size : length d ≡ gatherer_size)
     (is : g ≡ gatherer_in d)
-    (made : leaves step ys assembly' ≡ step_of g (take (length d - store_at) (drop store_at d)) message assembly)
+    (made : leaves h answer ys assembly' ≡ step_of g (take (length d - store_at) (drop store_at d)) message assembly)
   where
     abbrev whole : Left
     whole = step_of (gatherer_in d) (store_in d) message assembly
 
-    left : leaves step ys assembly' ≡ whole
+    left : leaves h answer ys assembly' ≡ whole
     left = made ∙ (λ i. step_of (is i) (store_lent d i) message assembly)
 
-    pub step_answer : step.answer ≡ whole.answer
+    pub step_answer : answer ≡ whole.answer
     step_answer = ap (λ (l : Left). l.answer) left
 
     pub step_assembly : assembly' ≡ whole.assembly
@@ -145,27 +136,27 @@ module _ (d message assembly ys assembly' : List ℕ) (g : Gatherer) (step : Ste
     step_store : ys ≡ whole.store
     step_store = ap (λ (l : Left). l.store) left
 
-    step_slots : step.gatherer ≡ whole.gatherer
+    step_slots : h ≡ whole.gatherer
     step_slots = ap (λ (l : Left). l.gatherer) left
 
     -- it touches the gathering, and that is saved
-    pub step_saved : (t : Bool) (e : List ℕ) → t ≡ touches step.answer → t ≡ true
-        → e ≡ saved_gatherer step.gatherer (store_in (put_mid store_at (length d - store_at) d ys))
-        → loaded_gatherer e ≡ Is step.gatherer (store_in (put_mid store_at (length d - store_at) d ys))
+    pub step_saved : (t : Bool) (e : List ℕ) → t ≡ touches answer → t ≡ true
+        → e ≡ saved_gatherer h (store_in (put_mid store_at (length d - store_at) d ys))
+        → loaded_gatherer e ≡ Is h (store_in (put_mid store_at (length d - store_at) d ys))
         → (e ≡ gatherer_after d whole) × (loaded_gatherer e ≡ gatherer_then d whole)
-    step_saved t e s h a b =
-        let is-touched : touches whole.answer ≡ true = ap touches (sym step_answer) ∙ sym s ∙ h in
+    step_saved t e s h' a b =
+        let is-touched : touches whole.answer ≡ true = ap touches (sym step_answer) ∙ sym s ∙ h' in
         let put = put_mid store_at (length d - store_at) d ys in (
           after_touch d ys size whole e is-touched step_store (a ∙ ap (λ x. saved_gatherer x (store_in put)) step_slots),
           then_touch d ys size whole e is-touched step_store (b ∙ ap (λ x. Is x (store_in put)) step_slots),
         )
 
     -- it does not, and every byte is what it was
-    pub step_left : (t : Bool) → t ≡ touches step.answer → t ≡ false
+    pub step_left : (t : Bool) → t ≡ touches answer → t ≡ false
         → (put_mid store_at (length d - store_at) d ys ≡ gatherer_after d whole)
         × (loaded_gatherer (put_mid store_at (length d - store_at) d ys) ≡ gatherer_then d whole)
-    step_left t s h =
-        let untouched : touches whole.answer ≡ false = ap touches (sym step_answer) ∙ sym s ∙ h in
+    step_left t s h' =
+        let untouched : touches whole.answer ≡ false = ap touches (sym step_answer) ∙ sym s ∙ h' in
         let still = step_still (gatherer_in d) (store_in d) assembly message in (
           after_still d ys size whole (gatherer_in d) still untouched step_store,
           then_still d ys size whole (gatherer_in d) still untouched step_store,

@@ -1,5 +1,5 @@
 -- A short message gathered on lent bytes (02, P2): the gatherer's step on the gatherer that the bytes hold.
-use Rattle.std.specs.Prelude.{Bool, true, false, List, ℕ, length, eqb}
+use Rattle.std.specs.Prelude.{Bool, true, false, List, ℕ, length, eqb, Result, Ok, Err}
 use Rattle.digest.specs.Pick.{pick}
 use Rattle.gather.specs.Refusal.{refusal_number}
 use Rattle.gather.specs.Gatherer.{Left, step_of}
@@ -25,11 +25,11 @@ drops R.Differs = false
 drops R.Full = false
 drops R.Long = true
 
-abbrev pub touches : Answer → Bool
-touches (A.Refused refusal) = drops refusal
-touches (A.Waiting ports reference have total) = true
-touches (A.Received ports start) = false
-touches (A.Gathered ports size) = true
+abbrev pub touches : Result Answer Refusal → Bool
+touches (Err refusal) = drops refusal
+touches (Ok (A.Waiting ports reference have total)) = true
+touches (Ok (A.Received ports start)) = false
+touches (Ok (A.Gathered ports size)) = true
 
 -- the lent gatherer after what its gatherer made of a message
 unfoldable pub gatherer_after : List ℕ → Left → List ℕ
@@ -39,11 +39,9 @@ unfoldable pub gatherer_then : List ℕ → Left → Loaded
 gatherer_then b l = pick (touches l.answer) (Is l.gatherer l.store) (loaded_gatherer b)
 
 -- the refusal's number of an answer that shows no datagram; 0 where it waits
-abbrev pub unshown_number : Answer → ℕ
-unshown_number (A.Refused refusal) = refusal_number refusal
-unshown_number (A.Waiting ports reference have total) = 0
-unshown_number (A.Received ports start) = 0
-unshown_number (A.Gathered ports size) = 0
+abbrev pub unshown_number : Result Answer Refusal → ℕ
+unshown_number (Err refusal) = refusal_number refusal
+unshown_number (Ok answer) = 0
 
 -- what a gathering leaves: its answer, and every byte that was lent to it
 pub record Keeps : Type 0 where

@@ -1,8 +1,9 @@
 -- A short message taken on lent bytes (02, P2): what the gatherer that the bytes hold makes of it, by `short`'s own definition, and
 -- then `lent`'s receive on the datagram that it shows.
-use Rattle.std.specs.Prelude.{Bool, false, List, ℕ, length}
+use Rattle.std.specs.Prelude.{Bool, false, List, ℕ, length, Result}
 use Rattle.digest.specs.Pick.{pick}
 use Rattle.gather.specs.Gatherer.{Left, datagram_of}
+use Rattle.gather.specs.declared.refusal.Refusal.{Refusal}
 use Rattle.gather.specs.declared.gatherer.Answer.{Answer}
 use Rattle.short.specs.Message.{is_shown, gathered_of}
 use Rattle.lent.specs.Saved as C
@@ -27,7 +28,7 @@ abbrev pub hears : ℕ → List ℕ → List ℕ → List ℕ → List ℕ → H
 hears result state tally out answers = record { result = result; state = state; tally = tally; out = out; answers = answers }
 
 -- receive on the datagram d where one is shown; else nothing but the refusal of the message, or 0
-unfoldable pub heard_of : Answer → List ℕ → List ℕ → List ℕ → List ℕ → List ℕ → List ℕ → Heard
+unfoldable pub heard_of : Result Answer Refusal → List ℕ → List ℕ → List ℕ → List ℕ → List ℕ → List ℕ → Heard
 heard_of answer state tally d random out answers =
     pick (is_shown answer)
     (record {
@@ -39,7 +40,7 @@ heard_of answer state tally d random out answers =
     })
     (hears (result_of (unshown_number answer) 0 0) state tally out answers)
 
-unfoldable pub heard_loads : Answer → List ℕ → List ℕ → List ℕ → List ℕ → ℕ → List ℕ → C.Loaded
+unfoldable pub heard_loads : Result Answer Refusal → List ℕ → List ℕ → List ℕ → List ℕ → ℕ → List ℕ → C.Loaded
 heard_loads answer state tally d random room answers =
     pick (is_shown answer) (receive_loads state tally answers d random room) (C.loaded state)
 

@@ -14,10 +14,11 @@
 --         0      1  the reference
 --         1      1  the total; 0: the slot is free
 --         2     22  the sizes of the eleven places, two bytes each: 0 where the part has not come, else its bytes and one more
-use Rattle.std.specs.Prelude.{Bool, false, List, [], ◌∷◌, ◌++◌, ◌≡◌, ℕ, zero, suc, ◌+◌, ◌<◌, length, get_or, take, drop, eqb}
+use Rattle.std.specs.Prelude.{Bool, false, List, [], ◌∷◌, ◌++◌, ◌≡◌, ℕ, zero, suc, ◌+◌, ◌<◌, length, get_or, map, take, drop, eqb}
 use Rattle.digest.specs.Pick.{pick}
 use Rattle.digest.specs.Bytes.{bytes2}
 use Rattle.digest.specs.Mac.{same_bytes}
+use Rattle.gather.specs.Slot.{free}
 use Rattle.gather.specs.declared.slot.Slot.{Slot}
 use Rattle.gather.specs.declared.gatherer.Gatherer.{Gatherer}
 use Rattle.lent.specs.Fields.{joined, two_in}
@@ -33,23 +34,21 @@ store_at = 100
 abbrev pub mark : List ℕ
 mark = 0x57 ∷ 0x54 ∷ 0x53 ∷ 1 ∷ []
 
--- numbers in two bytes each, one behind the other
-unfoldable pub spelled : List ℕ → List ℕ
-spelled [] = []
-spelled (n ∷ ns) = bytes2 n ++ spelled ns
+-- n things read from a place on, each so many bytes behind the other
+unfoldable pub row_in : {A : Type 0} → (List ℕ → ℕ → A) → ℕ → ℕ → List ℕ → ℕ → List A
+row_in read step zero b at = []
+row_in read step (suc n) b at = read b at ∷ row_in read step n b (at + step)
 
--- n of them read from a place on
-unfoldable pub spelled_in : ℕ → List ℕ → ℕ → List ℕ
-spelled_in zero b at = []
-spelled_in (suc n) b at = two_in b at ∷ spelled_in n b (at + 2)
+-- numbers in two bytes each, one behind the other
+abbrev pub spelled : List ℕ → List ℕ
+spelled ns = joined (map bytes2 ns)
 
 unfoldable pub slot_bytes : Slot → List ℕ
 slot_bytes s = s.reference ∷ s.total ∷ spelled s.sizes
 
 -- the bytes before the store
 abbrev pub head_fields : Gatherer → List (List ℕ)
-head_fields g =
-    mark ∷ slot_bytes g.first ∷ slot_bytes g.second ∷ slot_bytes g.third ∷ slot_bytes g.fourth ∷ []
+head_fields g = mark ∷ map slot_bytes g.slots
 
 -- the bytes of a gatherer and its store
 unfoldable pub saved_gatherer : Gatherer → List ℕ → List ℕ
@@ -61,10 +60,10 @@ is_gatherer b = pick (eqb (length b) gatherer_size) (same_bytes (take 4 b) mark)
 
 -- The gatherer of bytes and its store, read from the same places.
 unfoldable pub slot_in : List ℕ → ℕ → Slot
-slot_in b at = record { reference = get_or b at 0; total = get_or b (at + 1) 0; sizes = spelled_in 11 b (at + 2) }
+slot_in b at = record { reference = get_or b at 0; total = get_or b (at + 1) 0; sizes = row_in two_in 2 11 b (at + 2) }
 
-unfoldable pub gatherer_in : List ℕ → Gatherer
-gatherer_in b = record { first = slot_in b 4; second = slot_in b 28; third = slot_in b 52; fourth = slot_in b 76 }
+abbrev pub gatherer_in : List ℕ → Gatherer
+gatherer_in b = record { slots = row_in slot_in 24 4 b 4 }
 
 abbrev pub store_in : List ℕ → List ℕ
 store_in b = drop store_at b
@@ -77,7 +76,7 @@ pub data Loaded : Type 0 where
 unfoldable pub loaded_gatherer : List ℕ → Loaded
 loaded_gatherer b = pick (is_gatherer b) (Is (gatherer_in b) (store_in b)) No
 
--- A gatherer is what its types say: bytes, and eleven sizes of sixteen bits.
+-- A gatherer is what its types say: four slots, bytes, and eleven sizes of sixteen bits.
 pub record SlotRanged (s : Slot) : Type 0 where
   pub reference : s.reference < 256
   pub total : s.total < 256
@@ -85,7 +84,5 @@ pub record SlotRanged (s : Slot) : Type 0 where
   pub size : (i : ℕ) → get_or s.sizes i 0 < 65536
 
 pub record Ranged (g : Gatherer) : Type 0 where
-  pub first : SlotRanged g.first
-  pub second : SlotRanged g.second
-  pub third : SlotRanged g.third
-  pub fourth : SlotRanged g.fourth
+  pub four : length g.slots ≡ 4
+  pub slot : (k : ℕ) → k < 4 → SlotRanged (get_or g.slots k free)

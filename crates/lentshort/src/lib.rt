@@ -16,7 +16,7 @@ mod save;
 mod step;
 mod taken;
 
-use gather::{Gatherer, held_places};
+use gather::Gatherer;
 use lent::result_of;
 use load::{gatherer_in, is_gatherer, lent_to, lent_to_gather, slot_in};
 use said::put_said;
@@ -47,8 +47,9 @@ pub fn drop_reference(gatherer: &mut [u8], reference: u32) -> u64
         return result_of(16, 0, 0);
     }
     if is_gatherer(gatherer) {
-        let g = gatherer_in(gatherer);
-        put_gatherer(gatherer, g.drop(reference as u8));
+        let mut g = gatherer_in(gatherer);
+        g.drop(reference as u8);
+        put_gatherer(gatherer, g);
         return result_of(0, 0, 0);
     }
     result_of(16, 0, 0)
@@ -65,7 +66,7 @@ pub fn held(gatherer: &[u8], slot: u32) -> u64
         let s = slot_in(gatherer, 4 + 24 * (slot as usize));
         let total = s.total as usize;
         let reference = s.reference as usize;
-        return result_of(0, held_places(s), total * 256 + reference);
+        return result_of(0, s.held_places(), total * 256 + reference);
     }
     result_of(16, 0, 0)
 }

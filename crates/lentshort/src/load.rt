@@ -9,6 +9,7 @@ use crate::said::SAID;
 use crate::save::{SIZE, mark};
 use gather::{Gatherer, Slot};
 use lent::lent_for;
+use std::array;
 
 // Whether bytes are a saved gatherer: the size and the mark. Nothing else in them can be wrong.
 pub(crate) fn is_gatherer(b: &[u8]) -> bool
@@ -52,10 +53,7 @@ pub(crate) fn gatherer_in(b: &[u8]) -> Gatherer
     ensures { result ≡ gatherer_in b.now }
 {
     Gatherer {
-        first: slot_in(b, 4),
-        second: slot_in(b, 28),
-        third: slot_in(b, 52),
-        fourth: slot_in(b, 76),
+        slots: array::from_fn(|k| slot_in(b, 4 + 24 * k)),
     }
 }
 
@@ -64,23 +62,10 @@ pub(crate) fn slot_in(b: &[u8], at: usize) -> Slot
     requires { at + 24 ≤ length b.now }
     ensures { result ≡ slot_in b.now at }
 {
-    let sizes = [
-        size_in(b, at + 2),
-        size_in(b, at + 4),
-        size_in(b, at + 6),
-        size_in(b, at + 8),
-        size_in(b, at + 10),
-        size_in(b, at + 12),
-        size_in(b, at + 14),
-        size_in(b, at + 16),
-        size_in(b, at + 18),
-        size_in(b, at + 20),
-        size_in(b, at + 22),
-    ];
     Slot {
         reference: b[at],
         total: b[at + 1],
-        sizes,
+        sizes: array::from_fn(|i| size_in(b, at + 2 + 2 * i)),
     }
 }
 
@@ -88,12 +73,5 @@ fn size_in(b: &[u8], at: usize) -> u16
     requires { at + 2 ≤ length b.now }
     ensures { result ≡ two_in b.now at }
 {
-    wide16(b[at]) * 256 + wide16(b[at + 1])
-}
-
-fn wide16(x: u8) -> u16
-    ensures value { result ≡ x }
-    ensures upper_bound { result ≤ 255 }
-{
-    x as u16
+    u16::from_be_bytes([b[at], b[at + 1]])
 }

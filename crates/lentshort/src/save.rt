@@ -23,12 +23,10 @@ pub(crate) fn put_gatherer(d: &mut [u8], g: Gatherer)
     ensures d_after { d.new ≡ saved_gatherer g (store_in d.old) }
     ensures d_after_2 { loaded_gatherer d.new ≡ Is g (store_in d.old) }
 {
-    let head = mark();
-    put(d, 0, &head);
-    put_slot(d, 4, g.first);
-    put_slot(d, 28, g.second);
-    put_slot(d, 52, g.third);
-    put_slot(d, 76, g.fourth);
+    put(d, 0, &mark());
+    for (k, slot) in g.slots.iter().enumerate() {
+        put_slot(d, 4 + 24 * k, *slot);
+    }
 }
 
 fn put_slot(d: &mut [u8], at: usize, s: Slot)
@@ -36,32 +34,8 @@ fn put_slot(d: &mut [u8], at: usize, s: Slot)
     ensures d_after { d.new ≡ laid_over d.old at (slot_bytes s) }
     ensures slot_ranged { SlotRanged s }
 {
-    let sizes = s.sizes;
-    let bytes = [
-        s.reference,
-        s.total,
-        (sizes[0] / 256 % 256) as u8,
-        (sizes[0] % 256) as u8,
-        (sizes[1] / 256 % 256) as u8,
-        (sizes[1] % 256) as u8,
-        (sizes[2] / 256 % 256) as u8,
-        (sizes[2] % 256) as u8,
-        (sizes[3] / 256 % 256) as u8,
-        (sizes[3] % 256) as u8,
-        (sizes[4] / 256 % 256) as u8,
-        (sizes[4] % 256) as u8,
-        (sizes[5] / 256 % 256) as u8,
-        (sizes[5] % 256) as u8,
-        (sizes[6] / 256 % 256) as u8,
-        (sizes[6] % 256) as u8,
-        (sizes[7] / 256 % 256) as u8,
-        (sizes[7] % 256) as u8,
-        (sizes[8] / 256 % 256) as u8,
-        (sizes[8] % 256) as u8,
-        (sizes[9] / 256 % 256) as u8,
-        (sizes[9] % 256) as u8,
-        (sizes[10] / 256 % 256) as u8,
-        (sizes[10] % 256) as u8,
-    ];
-    put(d, at, &bytes);
+    put(d, at, &[s.reference, s.total]);
+    for (i, size) in s.sizes.iter().enumerate() {
+        put(d, at + 2 + 2 * i, &size.to_be_bytes());
+    }
 }

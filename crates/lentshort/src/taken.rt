@@ -5,12 +5,12 @@ ghost use Rattle.lent.specs.Saved.{loaded};
 ghost use Rattle.lentshort.specs.Gathered.{unshown_number};
 ghost use Rattle.lentshort.specs.Message.{hears, heard_of, heard_loads};
 
-use gather::{Answer, datagram, refusal_number};
+use gather::{Answer, Refusal, datagram};
 use lent::{receive, result_of};
 use short::shows;
 
 pub(crate) fn take<'a>(
-    answer: Answer,
+    answer: Result<Answer, Refusal>,
     state: &mut [u8],
     tally: &mut [u8],
     bytes: &'a [u8],
@@ -40,13 +40,11 @@ pub(crate) fn take<'a>(
 }
 
 // The refusal's number of an answer that shows no datagram; 0 where it waits.
-pub(crate) fn unshown(answer: Answer) -> u8
+pub(crate) fn unshown(answer: Result<Answer, Refusal>) -> u8
     ensures { result ≡ unshown_number answer }
 {
     match answer {
-        Answer::Refused(refusal) => refusal_number(refusal),
-        Answer::Waiting(_, _, _, _) => 0,
-        Answer::Received(_, _) => 0,
-        Answer::Gathered(_, _) => 0,
+        Err(refusal) => u8::from(refusal),
+        Ok(_) => 0,
     }
 }

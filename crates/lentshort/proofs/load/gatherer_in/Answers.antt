@@ -1,9 +1,12 @@
 -- `load::gatherer_in`: slot by slot.
--- src/load.rt:58:16
-use Rattle.lentshort.specs.Saved.{gatherer_in}
+use mathlib.Core.Path.{ap}
+use Rattle.std.proofs.Common.{rules, tests}
+use Rattle.gather.specs.Slot.{free}
+use Rattle.lentshort.specs.Saved.{slot_in, slot_bytes, SlotRanged}
+use Rattle.lentshort.proofs.Rows.{row_made}
 use Rattle.lentshort.proofs.load.gatherer_in.Goals as goal
 
--- src/load.rt:53:1
 pub returns : goal.returns
-unfolding gatherer_in
-returns c = λ i. record { first = c.slot_in.ensures i; second = c.slot_in-2.ensures i; third = c.slot_in-3.ensures i; fourth = c.slot_in-4.ensures i }
+returns c =
+    ap (λ slots. record { slots = slots })
+    (row_made free slot_in slot_bytes SlotRanged 24 4 c.args.b.now 4 c.from_fn.ensures.items (λ k y q w. search (rules, tests)))

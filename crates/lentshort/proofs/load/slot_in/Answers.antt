@@ -1,19 +1,18 @@
 -- `load::slot_in`: two bytes and eleven sizes.
--- src/load.rt:71:20
-use Prim.Native.Nat.{◌+◌}
+use mathlib.Core.Path.{ap}
+use Rattle.std.proofs.Common.{rules, tests, ◌+◌}
 use lib.ListN.{get_or}
+use Rattle.digest.specs.Bytes.{bytes2}
+use Rattle.lent.specs.Fields.{two_in}
 use Rattle.lentshort.specs.Saved.{slot_in}
-use Rattle.lentshort.proofs.Spelling.{sizes_in}
+use Rattle.lentshort.proofs.Rows.{row_made}
+use Rattle.lentshort.proofs.Spelling.{Small}
 use Rattle.lentshort.proofs.load.slot_in.Goals as goal
 
--- src/load.rt:66:1
 pub returns : goal.returns
 unfolding slot_in
-returns c = let b = c.args.b.now in
+returns c =
+    let b = c.args.b.now in
     let at = c.args.at in
-    λ i. record {
-      reference = get_or b at 0;
-      total = get_or b (at + 1) 0;
-      sizes =
-          sizes_in b at _ _ _ _ _ _ _ _ _ _ _ c.size_in.ensures c.size_in-2.ensures c.size_in-3.ensures c.size_in-4.ensures c.size_in-5.ensures c.size_in-6.ensures c.size_in-7.ensures c.size_in-8.ensures c.size_in-9.ensures c.size_in-10.ensures c.size_in-11.ensures i;
-    }
+    ap (λ sizes. record { reference = get_or b at 0; total = get_or b (at + 1) 0; sizes = sizes })
+    (row_made 0 two_in bytes2 Small 2 11 b (at + 2) c.from_fn.ensures.items (λ k y q w. search (rules, tests)))

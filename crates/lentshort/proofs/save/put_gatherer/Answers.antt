@@ -1,14 +1,22 @@
 -- `save::put_gatherer`: the mark, then slot by slot.
--- src/save.rt:28:16
-use Rattle.lentshort.specs.Saved.{Ranged}
-use Rattle.lentshort.proofs.Laying.{gatherer_laid, gatherer_loads_lem}
+use mathlib.Core.Path.{◌≡◌, subst}
+use native.Mathlib.Omega.{arith}
+use borrow.Author.Rules.{rules}
+use Rattle.lentshort.proofs.Laying.{SlotsLaid, mark_laid, slot_laid, gatherer_laid, gatherer_loads_lem}
 use Rattle.lentshort.proofs.save.put_gatherer.Goals as goal
 
--- src/save.rt:23:1
-pub returns : goal.returns
-returns c = let r : Ranged c.args.g = record {
-  first = c.put_slot.ensures.slot_ranged;
-  second = c.put_slot-2.ensures.slot_ranged;
-  third = c.put_slot-3.ensures.slot_ranged;
-  fourth = c.put_slot-4.ensures.slot_ranged;
-} in record { d_after = gatherer_laid _ _ _ _ _ _ _ _ c.requires r c.mark-head.ensures c.put.ensures.exact c.put_slot.ensures.d_after c.put_slot-2.ensures.d_after c.put_slot-3.ensures.d_after c.put_slot-4.ensures.d_after; d_after_2 = gatherer_loads_lem _ _ _ _ _ _ _ _ c.requires r c.mark-head.ensures c.put.ensures.exact c.put_slot.ensures.d_after c.put_slot-2.ensures.d_after c.put_slot-3.ensures.d_after c.put_slot-4.ensures.d_after }
+pub loop-k-init : goal.loop-k-init
+loop-k-init c = mark_laid _ _ (search rules) _ _ c.requires c.mark.ensures c.put.ensures.exact
+
+pub loop-k-preserved : goal.loop-k-preserved
+loop-k-preserved c = slot_laid _ _ (search rules) _ _ _ _ c.loop-k.invariant (search rules) c.put_slot.ensures.d_after c.put_slot.ensures.slot_ranged
+
+pub returns-clause-d_after : goal.returns-clause-d_after
+returns-clause-d_after c =
+    let all : c.loop-k.k ≡ 4 = omega arith in
+    gatherer_laid c.args.g c.args.d.now c.loop-k.d (search rules) (subst (SlotsLaid c.args.d.now c.args.g.slots c.loop-k.d) all c.loop-k.invariant)
+
+pub returns-clause-d_after_2 : goal.returns-clause-d_after_2
+returns-clause-d_after_2 c =
+    let all : c.loop-k.k ≡ 4 = omega arith in
+    gatherer_loads_lem c.args.g c.args.d.now c.loop-k.d (search rules) (subst (SlotsLaid c.args.d.now c.args.g.slots c.loop-k.d) all c.loop-k.invariant)
