@@ -1,17 +1,41 @@
 -- The laws of blocks absorbed in a row: a message may be cut anywhere.
-use Rattle.std.proofs.Common.{◌≡◌, ℕ, zero, suc, ◌+◌, ◌-◌, ◌*◌, ◌/◌, ◌≤◌, List, ◌++◌, length, take, drop, sym, refl, ap, ◌∙◌, ap₂, add-zero, add-suc, add-one, arith, length-append, length-drop, drop-drop}
+use Rattle.std.specs.Simd.{first_chunks}
+use Rattle.std.proofs.Common.{◌≡◌, ℕ, zero, suc, ◌+◌, ◌-◌, ◌*◌, ◌/◌, ◌<◌, ◌≤◌, List, [], ◌++◌, length, get_or, take, drop, sym, refl, ap, ◌∙◌, ap₂, add-zero, add-suc, add-one, arith, length-append, length-drop, length-take-le, take_all, drop-drop}
 use lib.Seq.{take-append-le, drop-append-le}
 use Rattle.digest.specs.Sha1.{compress, absorb, blocks_of}
 use Rattle.digest.specs.declared.block.State.{State}
 
--- One block more, as a loop counts it.
-pub absorb_more : (s : List ℕ) (from i : ℕ) (h g r : State)
-    → r ≡ compress (take 64 (drop (from + 64 * i) s)) g → g ≡ absorb (drop from s) i h → r ≡ absorb (drop from s) (i + 1) h
+-- One block absorbed.
+pub absorb_one : (b : List ℕ) (g : State) → length b ≡ 64 → absorb b 1 g ≡ compress b g
 unfolding absorb
-absorb_more s from i h g r e p =
+absorb_one b g l = ap (λ x. compress x g) (take_all 64 b (omega arith))
+
+pub absorb_block : (b : List ℕ) (g : State) → length b ≡ 64 → absorb b (blocks_of b) g ≡ compress b g
+absorb_block b g l = ap (λ n. absorb b (n / 64) g) l ∙ absorb_one b g l
+
+-- The blocks of s, cut off one by one.
+chunk_at : (n i : ℕ) (s d : List ℕ) → i < n → get_or (first_chunks 64 n s) i d ≡ take 64 (drop (64 * i) s)
+chunk_at zero i s d h = absurd (omega arith)
+chunk_at (suc n) zero s d h = refl
+chunk_at (suc n) (suc i) s d h =
+    chunk_at n i (drop 64 s) d (omega arith)
+    ∙ ap (take 64) (drop-drop (64 * i) 64 s ∙ ap (λ k. drop k s) (omega arith))
+
+pub chunk_long : (n i : ℕ) (s : List ℕ) (blocks : List (List ℕ)) → blocks ≡ first_chunks 64 n s → n ≡ blocks_of s → i < length blocks
+    → length blocks ≡ n → length (get_or blocks i []) ≡ 64
+chunk_long n i s blocks cut count b l =
+    ap (λ x. length (get_or x i [])) cut
+    ∙ ap length (chunk_at n i s [] (omega arith))
+    ∙ length-take-le 64 (drop (64 * i) s) (omega (arith, length-drop (64 * i) s))
+
+-- One block more, as a loop takes it.
+pub absorb_more : (s : List ℕ) (i n : ℕ) (h g r : State) (blocks : List (List ℕ)) → blocks ≡ first_chunks 64 n s → i < n
+    → r ≡ compress (get_or blocks i []) g → g ≡ absorb s i h → r ≡ absorb s (i + 1) h
+unfolding absorb
+absorb_more s i n h g r blocks cut b e p =
     e
-    ∙ ap₂ (λ l k. compress (take 64 l) k) (sym (drop-drop (64 * i) from s)) p
-    ∙ sym (ap (λ n. absorb (drop from s) n h) (add-one i))
+    ∙ ap₂ compress (ap (λ l. get_or l i []) cut ∙ chunk_at n i s [] b) p
+    ∙ sym (ap (λ n. absorb s n h) (add-one i))
 
 -- Some blocks, and then others.
 pub absorb_add : (s : List ℕ) (n k : ℕ) (h : State) → absorb s (n + k) h ≡ absorb (drop (64 * n) s) k (absorb s n h)

@@ -7,7 +7,7 @@ use lib.Seq.{drop-length}
 use lib.Bits.{bit_xor}
 use Rattle.digest.proofs.Rounds.{fill_step}
 use Rattle.digest.proofs.Lay.{drop_replicate, length_laid}
-use Rattle.digest.proofs.Absorb.{absorb_cut}
+use Rattle.digest.proofs.Absorb.{absorb_one, absorb_cut}
 use Rattle.digest.proofs.Hashing.{absorbed_more, finished_from}
 use Rattle.digest.proofs.Picks.{pick_yes, pick_no}
 use Rattle.digest.specs.Bytes.{laid_over}
@@ -79,11 +79,6 @@ length_masked x b = length-map b (λ v. bit_xor v x)
 pub masked_whole : (x n : ℕ) (b d : List ℕ) → length b ≡ n → length d ≡ n → take n d ≡ masked x (take n b) → d ≡ masked x b
 masked_whole x n b d lb ld e =
     sym (take_all n d (omega arith)) ∙ e ∙ ap (masked x) (take_all n b (omega arith))
-
--- One block absorbed.
-pub absorb_one : (b : List ℕ) (g : State) → length b ≡ 64 → absorb b 1 g ≡ compress b g
-unfolding absorb
-absorb_one b g l = ap (λ x. compress x g) (take_all 64 b (omega arith))
 
 -- A digest behind one block.
 pub sha1_behind : (b m : List ℕ) → length b ≡ 64 → sha1 (b ++ m) ≡ digest_from (compress b initial_state) 64 m

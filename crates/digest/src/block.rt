@@ -3,10 +3,10 @@
 // Each word is made just before its round: the first sixteen are read from the block, and a later one takes the place
 // of the word sixteen rounds before (section 8). Small loops with run-time ends, each called with constants: the
 // compiler then unrolls each whole, every place is a constant, and the words live in registers (docs/SPEED.md).
-ghost use Rattle.std.specs.Prelude.{◌≡◌, ℕ, ◌+◌, ◌*◌, ◌<◌, ◌≤◌, ◌⊎◌, List, length, take, drop};
+ghost use Rattle.std.specs.Prelude.{◌≡◌, ℕ, ◌+◌, ◌*◌, ◌<◌, ◌≤◌, ◌⊎◌, List, length};
 ghost use Rattle.digest.specs.Bytes.{word_at};
 ghost use Rattle.digest.specs.Midway.{turned_over, Reached};
-ghost use Rattle.digest.specs.Sha1.{f, k, initial_state, words, round, joined, compress, absorb};
+ghost use Rattle.digest.specs.Sha1.{f, k, initial_state, words, round, joined, compress, absorb, blocks_of};
 
 // The five words of FIPS 180-1 section 7.
 #[derive(Clone, Copy)]
@@ -47,28 +47,28 @@ pub(crate) fn initial() -> State
     }
 }
 
-// The state after the `blocks` blocks of s that stand from `from` on.
-pub(crate) fn absorbed(h: State, s: &[u8], from: usize, blocks: usize) -> State
-    requires { from + 64 * blocks ≤ length s.now }
-    ensures { result ≡ absorb (drop from s.now) blocks h }
+// The state after the whole blocks of s.
+pub(crate) fn absorbed(h: State, s: &[u8]) -> State
+    ensures { result ≡ absorb s.now (blocks_of s.now) h }
 {
+    let (blocks, _) = s.as_chunks::<64>();
     let mut g = h;
-    for i in 0..blocks {
-        g = compressed(g, s, from + 64 * i);
+    for block in blocks {
+        g = compressed(g, block);
     }
     g
 }
 
-// The state after the block that stands at `at` (section 7, steps a to e).
-fn compressed(h: State, s: &[u8], at: usize) -> State
-    requires { at + 64 ≤ length s.now }
-    ensures { result ≡ compress (take 64 (drop at s.now)) h }
+// The state after a block (section 7, steps a to e).
+fn compressed(h: State, block: &[u8; 64]) -> State
+    requires { length block.now ≡ 64 }
+    ensures { result ≡ compress block.now h }
 {
     let start = Midway {
         state: h,
         words: [0; 16],
     };
-    let early = first(first(start, s, at, 0, 8), s, at, 8, 16);
+    let early = first(first(start, block, 0, 8), block, 8, 16);
     let one = late(early, 16, 20, choice, FIRST);
     let two = late(late(one, 20, 30, parity, SECOND), 30, 40, parity, SECOND);
     let three = late(late(two, 40, 50, majority, THIRD), 50, 60, majority, THIRD);
@@ -100,16 +100,16 @@ fn word(s: &[u8], at: usize) -> u32
         + u32::from(s[at + 3])
 }
 
-// Step a: rounds of the first sixteen, each with its word of the block that stands at `at`. (In one function with `late` each call
+// Step a: rounds of the first sixteen, each with its word of the block. (In one function with `late` each call
 // would say, beside what it says of f, what a closure gives for the word: longer than both loops.)
-fn first(p: Midway, s: &[u8], at: usize, from: usize, end: usize) -> Midway
-    requires { (at + 64 ≤ length s.now) × (from ≤ end) × (end ≤ 16) }
-    ensures { (h : State) → Reached (words (take 64 (drop at s.now)) 16) h from p → Reached (words (take 64 (drop at s.now)) 16) h end result }
+fn first(p: Midway, block: &[u8; 64], from: usize, end: usize) -> Midway
+    requires { (length block.now ≡ 64) × (from ≤ end) × (end ≤ 16) }
+    ensures { (h : State) → Reached (words block.now 16) h from p → Reached (words block.now 16) h end result }
 {
     let mut g = p.state;
     let mut w = p.words;
     for t in from..end {
-        let x = word(s, at + 4 * t);
+        let x = word(block, 4 * t);
         w[t % 16] = x;
         g = turned(g, choice(g.b, g.c, g.d), x, FIRST);
     }

@@ -181,7 +181,7 @@ fn padded(block: [u8; 64], x: u8) -> State
     ensures { result ≡ compress (Hmac.masked x block) initial_state }
 {
     let pad = masked(block, x);
-    absorbed(initial(), &pad, 0, 1)
+    absorbed(initial(), &pad)
 }
 
 // Each byte of the block XOR x.

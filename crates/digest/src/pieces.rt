@@ -44,10 +44,9 @@ impl Hasher {
             return Hasher { state, rest, count };
         }
         let need = (64 - fill) % 64;
-        let blocks = (s.len() - need) / 64;
-        let done = need + 64 * blocks;
+        let done = need + 64 * ((s.len() - need) / 64);
         let front = topped(state, rest, fill, s);
-        let all = absorbed(front, s, need, blocks);
+        let all = absorbed(front, &s[need..]);
         lay(&mut rest, 0, &s[done..]);
         Hasher {
             state: all,
@@ -74,7 +73,7 @@ pub fn sha1(s: &[u8]) -> [u8; 20]
     ensures exact { result ≡ Sha1.sha1 s.now }
 {
     let done = 64 * (s.len() / 64);
-    let state = absorbed(initial(), s, 0, s.len() / 64);
+    let state = absorbed(initial(), s);
     ending(state, &s[done..], s.len() as u64)
 }
 
@@ -88,7 +87,7 @@ fn topped(h: State, rest: [u8; 64], fill: usize, s: &[u8]) -> State
     }
     let mut block = rest;
     lay(&mut block, fill, &s[..64 - fill]);
-    absorbed(h, &block, 0, 1)
+    absorbed(h, &block)
 }
 
 // The digest from the state h on, with the bytes s left of `count` in all.
@@ -109,12 +108,11 @@ pub(crate) fn closed(h: State, d: &mut [u8], fill: usize, count: u64) -> State
     ensures { (m : List ℕ) → length m ≡ fill → d.old ≡ laid_over (replicate 128 0) 0 m → result ≡ absorb (m ++ padding count) (blocks_of (m ++ padding count)) h }
 {
     d[fill] = 128;
-    let blocks = (fill + 72) / 64;
-    let end = 64 * blocks;
+    let end = 64 * ((fill + 72) / 64);
     let bits = count << 3;
     put_word(d, end - 8, (bits / 4294967296) as u32);
     put_word(d, end - 4, (bits % 4294967296) as u32);
-    absorbed(h, d, 0, blocks)
+    absorbed(h, &d[..end])
 }
 
 // The five words, each as four bytes.

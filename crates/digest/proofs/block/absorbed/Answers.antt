@@ -1,15 +1,21 @@
 -- `block::absorbed`: after i turns the state has absorbed i blocks.
-use Rattle.std.proofs.Common.{◌≡◌, refl, arith}
-use Rattle.digest.specs.Sha1.{absorb}
-use Rattle.digest.proofs.Absorb.{absorb_more}
+use Rattle.std.proofs.Common.{◌≡◌, refl, arith, length}
+use Rattle.digest.specs.Sha1.{absorb, blocks_of}
+use Rattle.digest.proofs.Absorb.{absorb_more, chunk_long}
 use Rattle.digest.proofs.block.absorbed.Goals as goal
 
-pub loop-i-init : goal.loop-i-init
+pub loop-block-init : goal.loop-block-init
 unfolding absorb
-loop-i-init c = refl
+loop-block-init c = refl
 
-pub loop-i-preserved : goal.loop-i-preserved
-loop-i-preserved c = let at = c.loop-i in absorb_more _ _ at.i _ at.g c.compressed-g.result c.compressed-g.ensures at.invariant
+pub compressed-g-requires : goal.compressed-g-requires
+compressed-g-requires c = let cut = c.as_chunks.ensures in
+    chunk_long (blocks_of c.args.s.now) c.loop-block.block-index c.args.s.now _ cut.front refl c.loop-block-test.true cut.front_len
+
+pub loop-block-preserved : goal.loop-block-preserved
+loop-block-preserved c = let at = c.loop-block in
+    absorb_more c.args.s.now at.block-index (blocks_of c.args.s.now) c.args.h at.g c.compressed-g.result _
+    c.as_chunks.ensures.front (omega arith) c.compressed-g.ensures at.invariant
 
 pub returns : goal.returns
-returns c = let last : c.loop-i.i ≡ c.args.blocks = omega arith in rw last at c.loop-i.invariant
+returns c = let last : c.loop-block.block-index ≡ blocks_of c.args.s.now = omega arith in rw last at c.loop-block.invariant

@@ -1,5 +1,5 @@
 -- `block::compressed`: word by word and round by round the eighty rounds.
-use Rattle.std.proofs.Common.{take, drop, ap, ◌∙◌, arith}
+use Rattle.std.proofs.Common.{ap, ◌∙◌, arith}
 use Rattle.digest.specs.Sha1.{compress, words, joined}
 use Rattle.digest.proofs.Rounds.{none_reached, length_words, k_first, k_second, k_third, k_fourth}
 use Rattle.digest.proofs.block.compressed.Goals as goal
@@ -29,7 +29,7 @@ pub returns : goal.returns
 unfolding compress
 returns c = let args = c.args in
     let h = args.h in
-    let block = take 64 (drop args.at args.s.now) in
+    let block = args.block.now in
     let m = words block 16 in
     let l = length_words block 16 in
     let p₈ = c.first.ensures h (none_reached m _ h) in

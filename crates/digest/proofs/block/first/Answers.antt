@@ -12,7 +12,7 @@ loop-t-preserved c = let at = c.loop-t in
       length-set at.w (at.t % 16) x.result ∙ at.invariant.0,
       λ h p.
           round_more _ at.w at.t x.result h at.g c.turned-g.result at.invariant.0 (at.invariant.1 h p)
-          (block_word _ _ at.t x.result (omega arith) x.ensures)
+          (block_word _ at.t x.result (omega arith) x.ensures)
           (c.turned-g.ensures at.t (c.choice.ensures at.t (omega arith)) (k_first at.t (omega arith))),
     )
 
