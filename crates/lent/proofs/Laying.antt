@@ -114,6 +114,13 @@ laid_block {d} {e} {at} {n} {fs} place k gs e' laid p l room made =
       same = ap length made ∙ length_laid e place (joined gs) fits ∙ laid.same;
     }
 
+-- several fields more, as bytes of their own
+pub laid_part : {d e : List ℕ} {at n : ℕ} {fs : List (List ℕ)} (place k : ℕ) (gs : List (List ℕ)) (f e' : List ℕ) → Laid d at fs e n
+    → place ≡ at + n → f ≡ joined gs → length (joined gs) ≡ k → place + k ≤ length d → e' ≡ laid_within e place f → Laid d at (fs ++ gs) e' (n + k)
+laid_part {d} {e} {at} {n} {fs} place k gs f e' laid p is l room made =
+    let lf : length f ≡ k = ap length is ∙ l in
+    laid_block place k gs e' laid p l room (within e place f e' (omega (arith, laid.same, lf)) made ∙ ap (laid_over e place) is)
+
 -- a part that was lent is laid where it stood
 pub part_laid : (d s : List ℕ) (at k : ℕ) → length s ≡ k → put_mid at k d s ≡ laid_over d at s
 unfolding laid_over

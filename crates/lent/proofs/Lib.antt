@@ -4,6 +4,7 @@ pub mod Reading
 pub mod Calling
 pub mod Numbers
 pub mod Within
+pub mod PartsOf
 pub mod Sums
 pub mod Back
 pub mod TallyHolds

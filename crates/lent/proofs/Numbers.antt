@@ -7,11 +7,35 @@ use native.Mathlib.Nat.{div-add-mod', div-div-eq-div-mul, add-zero}
 use native.Mathlib.Numerals.{add-one}
 use lib.ListN.{length, take, drop, get_or}
 use lib.Seq.{drop-cons, get_or-take, get_or-drop, take-add, drop-drop}
+use Rattle.std.specs.Int.{w64, to_be_bytes}
 use Rattle.digest.specs.Bytes.{word_at, bytes2, bytes4, bytes8}
 use Rattle.digest.proofs.Rounds.{word_part}
 use Rattle.message.proofs.AlertLaws.{word_back}
 use Rattle.lent.specs.Fields.{bytes_in, two_in, eight_in}
 use Rattle.lent.specs.Saved.{Bytes}
+
+-- ---- eight bytes are four of each half
+
+pub eight_bytes : (n : ℕ) → to_be_bytes w64 n ≡ bytes8 n
+unfolding bytes8
+eight_bytes n = λ i.
+    high n 16777216 i % 256 ∷ high n 65536 i % 256 ∷ high n 256 i % 256 ∷ n / 4294967296 % 256
+    ∷ low n i ∷ middle n i ∷ second n i ∷ first n i ∷ []
+  where
+    high : (n k : ℕ) → n / (4294967296 * k) ≡ n / 4294967296 / k
+    high n k = sym (div-div-eq-div-mul n 4294967296 k)
+
+    low : (n : ℕ) → n / 16777216 % 256 ≡ n % 4294967296 / 16777216 % 256
+    low n = omega arith
+
+    middle : (n : ℕ) → n / 65536 % 256 ≡ n % 4294967296 / 65536 % 256
+    middle n = omega arith
+
+    second : (n : ℕ) → n / 256 % 256 ≡ n % 4294967296 / 256 % 256
+    second n = omega arith
+
+    first : (n : ℕ) → n % 256 ≡ n % 4294967296 % 256
+    first n = omega arith
 
 -- ---- numbers, from where they were spelled
 

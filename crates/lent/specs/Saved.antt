@@ -152,6 +152,26 @@ state_numbered n =
 unfoldable pub mac_numbered : ℕ → Mac
 mac_numbered n = pick (eqb n 2) Sha80 Sha
 
+-- The parts that a handshake and a saved unit have alike, each in bytes of its own: the keys, the window, and the protection of its
+-- keys and of what stands of it.
+unfoldable pub keys_of : List ℕ → Keys
+keys_of k =
+    record {
+      secret = bytes_in k 0 20;
+      server = bytes_in k 20 16;
+      client = bytes_in k 36 16;
+      mac = mac_numbered (get_or k 52 0);
+      refresh = get_or k 53 0;
+    }
+
+unfoldable pub window_of : List ℕ → Window
+window_of w = record { width = get_or w 0 0; highest = two_in w 1; marks = eight_in w 3 }
+
+unfoldable pub protection_of : List ℕ → List ℕ → Protection
+protection_of k s =
+    record { keys = keys_of k; window = window_of (bytes_in s 0 11); protected = word_at s 11; clear = word_at s 15 }
+
+-- A handshake of its bytes.
 unfoldable pub keys_in : List ℕ → Keys
 keys_in s =
     record {

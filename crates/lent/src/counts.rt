@@ -2,7 +2,7 @@
 ghost use Rattle.std.specs.Prelude.{◌≡◌, length};
 ghost use Rattle.lent.specs.Counts.{tally_bytes, tally_in, tally_within, tally_laid};
 
-use crate::bytes::{four, four_in};
+use crate::bytes::{four, four_within};
 use connection::tally::Tally;
 use digest::put;
 
@@ -31,10 +31,10 @@ pub(crate) fn tally_in(b: &[u8]) -> Tally
     ensures { result ≡ tally_in b.now }
 {
     Tally {
-        handed: four_in(b, 0),
-        forged: four_in(b, 4),
-        old: four_in(b, 8),
-        repeated: four_in(b, 12),
+        handed: four_within(b, 0),
+        forged: four_within(b, 4),
+        old: four_within(b, 8),
+        repeated: four_within(b, 12),
     }
 }
 

@@ -17,11 +17,12 @@ mod counts;
 mod leave;
 mod load;
 mod macs;
+mod parts;
 mod report;
 mod result;
 mod save;
 
-pub use bytes::{eight, eight_within, four, four_within, two, two_within};
+pub use bytes::{bytes_within, eight, eight_within, four, four_within, two, two_within};
 use connection::{calls, receive, send};
 pub use counts::{lay_tally, tally_within};
 use digest::mac_named;
@@ -29,9 +30,9 @@ use leave::{leave_called, leave_received, leave_sent};
 use load::{connection_in, open_window};
 pub use load::{connection_within, is_saved, lent_for, sent_within};
 use macs::leave_named;
+pub use parts::{agreed_bytes, mac_numbered, protection_in, session_bytes, standing_bytes, window_in, words};
 pub use report::{Entry, lay_entry};
-use result::not_taken;
-pub use result::result_of;
+pub use result::{not_taken, result_of};
 use save::SIZE;
 pub use save::{lay_sent, state_number};
 

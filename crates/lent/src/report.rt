@@ -20,17 +20,35 @@ pub struct Entry {
     pub size: usize,
 }
 
+impl Entry {
+    pub fn new(
+        kind: u8,
+        refusal: u8,
+        description: u8,
+        number: u16,
+        start: usize,
+        size: usize,
+    ) -> Entry
+        ensures exact { result ≡ entry kind refusal description number start size }
+    {
+        Entry {
+            kind,
+            refusal,
+            description,
+            number,
+            start,
+            size,
+        }
+    }
+}
+
 // All eight answers, over all the bytes.
 pub(crate) fn put_answers(d: &mut [u8], answers: [Slot; 8])
     requires { length d.old ≡ 192 }
     ensures { d.new ≡ report_of answers }
 {
-    let mut i: usize = 0;
-    while i < 8 {
-        let slot = answers[i];
-        let answer = slot.answer;
-        put_entry(d, 24 * i, entry_of(answer));
-        i += 1;
+    for (i, slot) in answers.iter().enumerate() {
+        put_entry(d, 24 * i, entry_of(slot.answer));
     }
 }
 
@@ -38,13 +56,9 @@ pub(crate) fn put_answers(d: &mut [u8], answers: [Slot; 8])
 pub fn lay_entry(d: &mut [u8], at: usize, e: Entry)
     ensures exact { d.new ≡ entry_laid d.old at e }
 {
-    if d.len() < 24 {
-        return;
+    if 24 <= d.len() && at <= d.len() - 24 {
+        put_entry(d, at, e);
     }
-    if d.len() - 24 < at {
-        return;
-    }
-    put_entry(d, at, e);
 }
 
 fn put_entry(d: &mut [u8], at: usize, e: Entry)
@@ -65,34 +79,21 @@ fn entry_of(answer: Answer) -> Entry
     ensures { result ≡ entry_of answer }
 {
     match answer {
-        Answer::Nothing => made(0, 0, 0, 0, 0, 0),
-        Answer::Reply(size) => made(1, 0, 0, 0, 0, size),
-        Answer::Resent(size) => made(2, 0, 0, 0, 0, size),
-        Answer::Spec => made(3, 0, 0, 0, 0, 0),
-        Answer::Open => made(4, 0, 0, 0, 0, 0),
-        Answer::Again => made(5, 0, 0, 0, 0, 0),
+        Answer::Nothing => Entry::new(0, 0, 0, 0, 0, 0),
+        Answer::Reply(size) => Entry::new(1, 0, 0, 0, 0, size),
+        Answer::Resent(size) => Entry::new(2, 0, 0, 0, 0, size),
+        Answer::Spec => Entry::new(3, 0, 0, 0, 0, 0),
+        Answer::Open => Entry::new(4, 0, 0, 0, 0, 0),
+        Answer::Again => Entry::new(5, 0, 0, 0, 0, 0),
         Answer::Data {
             number,
             start,
             size,
-        } => made(6, 0, 0, number, start, size),
-        Answer::Warning(description) => made(7, 0, description_number(description), 0, 0, 0),
-        Answer::Critical(description) => made(8, 0, description_number(description), 0, 0, 0),
-        Answer::Fatal(description) => made(9, 0, description_number(description), 0, 0, 0),
-        Answer::Barred(description) => made(10, 0, description_number(description), 0, 0, 0),
-        Answer::Refused(refused) => made(11, refusal::number(refused), 0, 0, 0, 0),
-    }
-}
-
-fn made(kind: u8, refusal: u8, description: u8, number: u16, start: usize, size: usize) -> Entry
-    ensures { result ≡ entry kind refusal description number start size }
-{
-    Entry {
-        kind,
-        refusal,
-        description,
-        number,
-        start,
-        size,
+        } => Entry::new(6, 0, 0, number, start, size),
+        Answer::Warning(description) => Entry::new(7, 0, description_number(description), 0, 0, 0),
+        Answer::Critical(description) => Entry::new(8, 0, description_number(description), 0, 0, 0),
+        Answer::Fatal(description) => Entry::new(9, 0, description_number(description), 0, 0, 0),
+        Answer::Barred(description) => Entry::new(10, 0, description_number(description), 0, 0, 0),
+        Answer::Refused(refused) => Entry::new(11, refusal::number(refused), 0, 0, 0, 0),
     }
 }

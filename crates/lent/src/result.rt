@@ -11,7 +11,7 @@ pub fn result_of(refusal: u8, written: usize, count: usize) -> u64
 }
 
 // 16: what is lent is out of range.
-pub(crate) fn not_taken() -> u64
+pub fn not_taken() -> u64
     ensures { result ≡ not_taken }
 {
     result_of(16, 0, 0)

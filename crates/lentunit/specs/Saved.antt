@@ -93,15 +93,14 @@ unit_fields u =
 unfoldable pub saved_of : Unit → List ℕ
 saved_of u = joined (unit_fields u)
 
--- which bytes are a saved unit: the size, the mark, a state, a MAC kind, and kinds offered
+-- which bytes are a saved unit: the size, the mark, a state, kinds offered, and a MAC kind
+abbrev pub is_unit : List ℕ → Bool
+is_unit b =
+    pick (ltb 7 (get_or b state_place 0)) false
+    (pick (ltb 3 (get_or b 115 0)) false (pick (eqb (get_or b 101 0) 2) true (eqb (get_or b 101 0) 3)))
+
 unfoldable pub is_saved : List ℕ → Bool
-is_saved b =
-    pick (eqb (length b) unit_size)
-    (pick (eqb (word_at b 0) mark)
-    (pick (ltb 7 (get_or b state_place 0)) false
-    (pick (ltb 3 (get_or b 115 0)) false (pick (eqb (get_or b 101 0) 2) true (eqb (get_or b 101 0) 3))))
-    false)
-    false
+is_saved b = pick (eqb (length b) unit_size) (pick (eqb (word_at b 0) mark) (is_unit b) false) false
 
 -- The unit of bytes, read from the same places.
 unfoldable pub state_numbered : ℕ → State

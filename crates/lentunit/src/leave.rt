@@ -1,6 +1,6 @@
 // What a call leaves in the lent bytes: the unit, the tally and the answers where it is done, nothing where it is refused.
 ghost use Rattle.std.specs.Prelude.{◌≡◌, length};
-ghost use Rattle.lent.specs.Calls.{result_of, not_taken, refusal_in, taken_result, where_taken};
+ghost use Rattle.lent.specs.Calls.{result_of, refusal_in, taken_result, where_taken};
 ghost use Rattle.lent.specs.Counts.{tally_bytes, tally_in};
 ghost use Rattle.unit.specs.Tally.{counted_of};
 ghost use Rattle.lentunit.specs.Saved.{saved_of, loaded, unit_size, Is};
@@ -16,13 +16,6 @@ use unit::calls::Called;
 use unit::receive::Received;
 use unit::send::Sent;
 use unit::tally::counted;
-
-// 16: what is lent is out of range.
-pub(crate) fn not_taken() -> u64
-    ensures { result ≡ not_taken }
-{
-    result_of(16, 0, 0)
-}
 
 pub(crate) fn leave_called(called: Called, state: &mut [u8]) -> u64
     requires { length state.old ≡ unit_size }

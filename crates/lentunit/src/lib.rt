@@ -17,8 +17,8 @@ mod load;
 mod report;
 mod save;
 
-use leave::{leave_called, leave_received, leave_sent, not_taken, said};
-use lent::result_of;
+use leave::{leave_called, leave_received, leave_sent, said};
+use lent::{not_taken, result_of};
 use load::{is_saved, lent_for, unit_in, window_in};
 use save::SIZE;
 use unit::{calls, hello, receive, send};

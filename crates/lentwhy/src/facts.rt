@@ -1,11 +1,10 @@
 // The reason of a refusal, with its facts, in its 96 bytes.
-ghost use Rattle.std.specs.Prelude.{◌≡◌, ◌+◌, ◌≤◌, length};
-ghost use Rattle.digest.specs.Bytes.{laid_over};
-ghost use Rattle.lentwhy.specs.Facts.{facts_size, facts_of, head_of, numbers_of, eight_of, spelled, word, flag};
+ghost use Rattle.std.specs.Prelude.{◌≡◌, length};
+ghost use Rattle.lentwhy.specs.Facts.{facts_size, facts_of, head_of, numbers_of, eight_of, word, flag};
 ghost use Rattle.lentwhy.specs.Facts.{under_number, field_number, condition_number};
 
 use digest::put;
-use lent::{four, state_number};
+use lent::{state_number, words};
 use message::acceptance::Condition;
 use message::hello::Field;
 use record::header::number_of;
@@ -19,26 +18,9 @@ pub(crate) fn put_facts(d: &mut [u8], w: Why)
     requires { length d.old ≡ facts_size }
     ensures { d.new ≡ facts_of w }
 {
-    put_eight(d, 0, head_of(w));
-    let reason = w.reason;
-    put_eight(d, 32, numbers_of(reason));
-    let sent = w.sent;
-    let sums = sent.checksums;
-    put_eight(d, 64, sums);
-}
-
-// Eight numbers of four bytes, from a place on.
-fn put_eight(d: &mut [u8], at: usize, numbers: [u32; 8])
-    requires { at + 32 ≤ length d.old }
-    ensures d_after { d.new ≡ laid_over d.old at (spelled numbers) }
-    ensures numbers_len { length (spelled numbers) ≡ 32 }
-{
-    let mut i: usize = 0;
-    while i < 8 {
-        let bytes = four(numbers[i]);
-        put(d, at + 4 * i, &bytes);
-        i += 1;
-    }
+    put(d, 0, &words(head_of(w)));
+    put(d, 32, &words(numbers_of(w.reason)));
+    put(d, 64, &words(w.sent.checksums));
 }
 
 // What goes with every reason.
@@ -245,10 +227,7 @@ fn condition_number(condition: Condition) -> u32
 fn flag(b: bool) -> u32
     ensures { result ≡ flag b }
 {
-    if b {
-        return 1;
-    }
-    0
+    u32::from(b)
 }
 
 // As much as four bytes hold.

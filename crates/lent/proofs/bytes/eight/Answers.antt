@@ -1,8 +1,7 @@
 -- `bytes::eight`: four bytes of each half.
-use Rattle.digest.specs.Bytes.{bytes8}
-use borrow.Author.Rules.{rules}
+use mathlib.Core.Path.{◌∙◌}
+use Rattle.lent.proofs.Numbers.{eight_bytes}
 use Rattle.lent.proofs.bytes.eight.Goals as goal
 
 pub returns : goal.returns
-unfolding bytes8
-returns c = record { exact = search rules }
+returns c = record { exact = c.to_be_bytes.ensures ∙ eight_bytes c.args.x }

@@ -1,20 +1,6 @@
--- `bytes::two_within`: the two tests are the definition's one.
-use mathlib.Core.Path.{refl}
-use Prim.Native.Nat.{◌+◌}
-use native.Mathlib.Omega.{arith}
-use lib.ListN.{length}
-use Rattle.digest.proofs.Picks.{if_lt, if_ge}
-use Rattle.lent.specs.Fields.{two_within}
+-- `bytes::two_within`: the bytes that are read spell the number, and zeros spell 0.
+use Rattle.lent.proofs.Within.{two_read}
 use Rattle.lent.proofs.bytes.two_within.Goals as goal
 
-pub returns-then-b-lt2 : goal.returns-then-b-lt2
-unfolding two_within
-returns-then-b-lt2 c = record { exact = let a = c.args in if_lt _ (length a.b.now) (a.at + 2) (omega arith) refl }
-
-pub returns-then-b-at : goal.returns-then-b-at
-unfolding two_within
-returns-then-b-at c = record { exact = let a = c.args in if_lt _ (length a.b.now) (a.at + 2) (omega arith) refl }
-
 pub returns : goal.returns
-unfolding two_within
-returns c = record { exact = let a = c.args in if_ge _ (length a.b.now) (a.at + 2) (omega arith) c.two_in.ensures }
+returns c = record { exact = two_read c.args.b.now c.args.at _ _ c.bytes_within.ensures.exact c.from_be_bytes.ensures }

@@ -1,10 +1,16 @@
--- `load::kept_in`: each array is the part of the bytes at its place.
+-- `load::kept_in`: each field at its place.
+use mathlib.Core.Path.{◌∙◌}
 use native.Mathlib.Omega.{arith}
 use Rattle.lent.specs.Saved.{kept_in}
-use Rattle.lent.proofs.Reading.{part_filled}
+use Rattle.lent.proofs.Within.{bytes_stand, eight_stands}
 use Rattle.lent.proofs.load.kept_in.Goals as goal
 
 pub returns : goal.returns
 unfolding kept_in
-returns c = let b = c.args.s.now in
-    λ i. record { hello = part_filled 256 75 b c.put.new.d (omega (arith, c.requires)) c.put.ensures.exact i; heard = c.eight_in-heard.ensures i; reply = part_filled 84 339 b c.put-2.new.d (omega (arith, c.requires)) c.put-2.ensures.exact i; size = c.eight_in-size.ensures i }
+returns c = let s = c.args.s.now in
+    λ i. record {
+      hello = (c.bytes_within.ensures.exact ∙ bytes_stand s 75 256 (omega (arith, c.requires))) i;
+      heard = (c.eight_within.ensures.exact ∙ eight_stands s 331 (omega (arith, c.requires))) i;
+      reply = (c.bytes_within-2.ensures.exact ∙ bytes_stand s 339 84 (omega (arith, c.requires))) i;
+      size = (c.eight_within-2.ensures.exact ∙ eight_stands s 423 (omega (arith, c.requires))) i;
+    }

@@ -7,14 +7,10 @@ use Rattle.digest.proofs.Picks.{if_lt, if_ge}
 use Rattle.lent.specs.Report.{entry_laid}
 use Rattle.lent.proofs.report.lay_entry.Goals as goal
 
-pub returns-then-d-lt24 : goal.returns-then-d-lt24
+pub returns-else-d-ge24 : goal.returns-else-d-ge24
 unfolding entry_laid
-returns-then-d-lt24 c = record { exact = let a = c.args in if_lt _ (length a.d.now) (a.at + 24) (omega arith) refl }
+returns-else-d-ge24 c = record { exact = let a = c.args in if_lt _ (length a.d.now) (a.at + 24) (omega arith) refl }
 
-pub returns-then-d-at : goal.returns-then-d-at
+pub returns-then-at-d : goal.returns-then-at-d
 unfolding entry_laid
-returns-then-d-at c = record { exact = let a = c.args in if_lt _ (length a.d.now) (a.at + 24) (omega arith) refl }
-
-pub returns : goal.returns
-unfolding entry_laid
-returns c = record { exact = let a = c.args in if_ge _ (length a.d.now) (a.at + 24) (omega arith) c.put_entry.ensures }
+returns-then-at-d c = record { exact = let a = c.args in if_ge _ (length a.d.now) (a.at + 24) (omega arith) c.put_entry.ensures }

@@ -8,21 +8,16 @@ use Rattle.lent.proofs.report.put_answers.Goals as goal
 
 pub loop-i-init : goal.loop-i-init
 unfolding report_first
-loop-i-init c = (omega arith, laid_none c.args.d.now 0 (omega arith))
+loop-i-init c = laid_none c.args.d.now 0 (omega arith)
 
 pub put_entry-requires : goal.put_entry-requires
-put_entry-requires c = omega (arith, c.loop-i.invariant.1.same, c.requires)
+put_entry-requires c = omega (arith, c.loop-i.invariant.same, c.requires)
 
 pub loop-i-preserved : goal.loop-i-preserved
-loop-i-preserved c = let answers = c.args.answers in
-    let i = c.loop-i.i in
-    let is = ap entry_bytes c.entry_of.ensures in
-    (omega arith, report_more answers c.args.d.now c.loop-i.d c.put_entry.new.d i (entry_bytes c.entry_of.result) c.loop-i.invariant.1 c.requires c.loop-i-test.true is (length_entry c.entry_of.result) c.put_entry.ensures)
-
-pub shape_of-d : goal.shape_of-d
-shape_of-d c = c.loop-i.invariant.1.same
+loop-i-preserved c = let l = c.loop-i in
+    report_more c.args.answers c.args.d.now l.d c.put_entry.new.d l.i (entry_bytes c.entry_of.result) l.invariant c.requires (omega arith) (ap entry_bytes c.entry_of.ensures) (length_entry c.entry_of.result) c.put_entry.ensures
 
 pub returns : goal.returns
 unfolding report_of
 returns c = let last : c.loop-i.i ≡ 8 = omega arith in
-    laid_whole (rw last at c.loop-i.invariant.1) c.requires
+    laid_whole (rw last at c.loop-i.invariant) c.requires

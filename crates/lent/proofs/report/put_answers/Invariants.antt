@@ -1,11 +1,8 @@
 -- `report::put_answers`: after i turns the first i answers are laid.
-use Prim.Native.Nat.{◌≤◌, ◌-◌, ◌*◌}
+use Prim.Native.Nat.{◌*◌}
 use Rattle.lent.specs.Report.{report_first}
 use Rattle.lent.proofs.Laying.{Laid}
 use Rattle.lent.proofs.report.put_answers.Given as goal
 
 abbrev pub invariant-loop-i : goal.invariant-loop-i
-invariant-loop-i l = (l.i ≤ 8) × Laid l.initial.d 0 (report_first l.answers l.i) l.d (24 * l.i)
-
-abbrev pub decreases-loop-i : goal.decreases-loop-i
-decreases-loop-i l = 8 - l.i
+invariant-loop-i l = Laid l.initial.d 0 (report_first l.fn.answers l.i) l.d (24 * l.i)

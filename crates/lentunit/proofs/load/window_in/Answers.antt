@@ -1,12 +1,11 @@
--- `load::window_in`: a byte and two numbers.
-use mathlib.Core.Path.{◌∙◌}
+-- `load::window_in`: the window in its part.
+use mathlib.Core.Path.{◌∙◌, ap}
 use native.Mathlib.Omega.{arith}
-use lib.ListN.{get_or}
-use Rattle.lent.proofs.Within.{two_stands, eight_stands}
-use Rattle.lentunit.specs.Saved.{window_in}
+use Rattle.lent.specs.Saved.{window_of}
+use Rattle.lent.proofs.Within.{bytes_stand}
+use Rattle.lentunit.proofs.Parts.{window_parts}
 use Rattle.lentunit.proofs.load.window_in.Goals as goal
 
 pub returns : goal.returns
-unfolding window_in
 returns c = let b = c.args.b.now in
-    λ i. record { width = get_or b 161 0; highest = (c.two_within.ensures.exact ∙ two_stands b 162 (omega (arith, c.requires))) i; marks = (c.eight_within.ensures.exact ∙ eight_stands b 164 (omega (arith, c.requires))) i }
+    c.window_in.ensures.exact ∙ ap window_of (c.bytes_within.ensures.exact ∙ bytes_stand b 161 11 (omega (arith, c.requires))) ∙ window_parts b
