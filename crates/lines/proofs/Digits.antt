@@ -5,12 +5,14 @@ use Prim.Native.Nat.{ℕ, zero, suc, ◌+◌, ◌*◌, ◌<◌, ◌≤◌}
 use native.Mathlib.Omega.{arith}
 use native.Mathlib.Numerals.{add-one}
 use lib.ListN.{length, take, drop, get_or, set, drop_of_length-le}
-use lib.Seq.{take-suc, take-suc-set}
+use lib.Seq.{drop-cons, take-suc, take-suc-set}
 use borrow.Author.Tests.{lt-ltb, le-ltb}
 use Rattle.digest.specs.Pick.{pick}
 use Rattle.lines.specs.Decimal.{digit_of, number_from}
 use Rattle.lines.specs.Hex.{hex_digit, bytes_of}
-use Rattle.lines.proofs.Lines.{drop_step}
+
+drop_step : (w : List ℕ) (i : ℕ) → i < length w → drop i w ≡ get_or w i 0 ∷ drop (i + 1) w
+drop_step w i h = drop-cons w i 0 h ∙ ap (λ n. get_or w i 0 ∷ drop n w) (sym (add-one i))
 
 pub number_step : (w : List ℕ) (i n : ℕ) → i < length w → n ≤ 99999999
     → number_from (n * 10 + digit_of (get_or w i 0)) (drop (i + 1) w) ≡ number_from n (drop i w)

@@ -1,8 +1,5 @@
--- `hex::put_bytes`: the first `i` bytes are spelled, and the buffer keeps its length.
-use Prim.Native.Nat.{◌+◌, ◌*◌}
-use mathlib.Core.Path.{◌∙◌}
-use lib.ListN.{length-set}
-use native.Mathlib.Omega.{arith}
+-- `hex::put_bytes`: one byte more is spelled.
+use Rattle.std.proofs.Common.{◌+◌, ◌*◌, arith}
 use Rattle.lines.proofs.Digits.{byte_at, bytes_step}
 use Rattle.lines.proofs.hex.put_bytes.Goals as goal
 
@@ -10,11 +7,6 @@ pub loop-i-preserved : goal.loop-i-preserved
 unfolding byte_at
 loop-i-preserved c =
     let at = c.loop-i in
-    let n = c.least-n.ensures in
-    let high = c.digit in
-    let low = c.digit-in-loop-i in (
-      omega arith,
-      length-set at.to at.i _ ∙ at.invariant.1,
-      bytes_step c.args.word.now at.to at.i (high.result * 16 + low.result) (omega (arith, n)) (omega (arith, n, at.invariant.1)) at.invariant.2
-          (λ j. high.ensures.value j * 16 + low.ensures.value j),
-    )
+    let high = c.digit.ensures.value in
+    let low = c.digit-in-loop-i.ensures.value in
+    bytes_step c.args.word.now at.to at.i _ (omega (arith, c.min-n.ensures)) (omega (arith, c.min-n.ensures)) at.invariant (λ j. high j * 16 + low j)
