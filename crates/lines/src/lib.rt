@@ -4,5 +4,6 @@
 
 pub mod hex;
 pub mod number;
+pub mod run;
 pub mod said;
 pub mod words;
