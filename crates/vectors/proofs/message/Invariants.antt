@@ -1,9 +1,0 @@
--- `message` stores within the array.
-use Prim.Native.Nat.{◌≤◌, ◌-◌}
-use Rattle.vectors.proofs.message.Given as goal
-
-abbrev pub invariant-loop-i : goal.invariant-loop-i
-invariant-loop-i l = l.i ≤ 128
-
-abbrev pub decreases-loop-i : goal.decreases-loop-i
-decreases-loop-i l = 128 - l.i
