@@ -2,12 +2,13 @@
 // that the shore sent, with its checksum (002 10.2).
 ghost use Rattle.std.specs.Prelude.{◌≤◌, length};
 
-use crate::protection::Sender;
+use crate::protection::keys;
 use crate::show::{checksum_line, line};
 use digest::{Key, Mac};
 use message::acceptance::Plan;
 use message::{change, field};
 use record::header::Content;
+use record::keys::Sense;
 use record::{checksum, code, written};
 use std::io;
 use std::io::Write;
@@ -15,7 +16,7 @@ use std::io::Write;
 // The last record of the reply: the shore's Finished as on the wire.
 pub fn last_record<W: Write>(plan: Plan, ours: &[u8], out: &mut W) -> io::Result<()> {
     let mac = plan.mac;
-    let key = Sender::Shore.key(plan, 0);
+    let key = keys(plan).key(Sense::FromShore, 0);
     let mut room = [0u8; 64];
     let size = code::write_protected(key, mac, false, Content::Handshake, 0, ours, &mut room);
     let record = field::part(&room, 0, size);
@@ -31,14 +32,14 @@ pub fn hello_datagram<W: Write>(mac: Mac, client: &[u8], out: &mut W) -> io::Res
 
 pub fn reply<W: Write>(plan: Plan, server: &[u8], ours: &[u8], out: &mut W) -> io::Result<()> {
     let mut room = [0u8; 128];
-    let key = Sender::Shore.key(plan, 0);
+    let key = keys(plan).key(Sense::FromShore, 0);
     let size = replied(plan.mac, key, server, ours, &mut room);
     line(plan.mac, "reply", field::part(&room, 0, size), out)
 }
 
 pub fn flight<W: Write>(plan: Plan, theirs: &[u8], out: &mut W) -> io::Result<()> {
     let mut room = [0u8; 128];
-    let key = Sender::Unit.key(plan, 0);
+    let key = keys(plan).key(Sense::FromUnit, 0);
     let size = changed(plan.mac, key, theirs, &mut room);
     line(plan.mac, "flight", field::part(&room, 0, size), out)
 }

@@ -2,86 +2,74 @@
 // a record of data from each end, and these two records.
 use crate::session;
 use crate::show::line;
-use digest::{Key, Mac};
+use digest::Mac;
 use message::acceptance::Plan;
 use message::field;
 use record::header::Content;
-use record::{code, keys, written};
+use record::keys::{Keys, Sense, key_number};
+use record::{code, written};
 use std::io;
 use std::io::Write;
 
-// Whose records they are.
-#[derive(Clone, Copy)]
-pub enum Sender {
-    Unit,
-    Shore,
+// The keys of the handshake.
+pub fn keys(plan: Plan) -> Keys {
+    Keys {
+        secret: session::SECRET,
+        server: session::SERVER_RANDOM,
+        client: session::CLIENT_RANDOM,
+        mac: plan.mac,
+        refresh: plan.refresh,
+    }
 }
 
-impl Sender {
-    // The label of the direction.
-    fn label(self) -> [u8; 16] {
-        match self {
-            Sender::Unit => Mac::client_expansion(),
-            Sender::Shore => Mac::server_expansion(),
-        }
-    }
-
-    // The sender's key for a number.
-    pub fn key(self, plan: Plan, number: u16) -> Key {
-        keys::record_key(
-            &session::SECRET,
-            &self.label(),
-            plan.refresh,
-            number,
-            &session::SERVER_RANDOM,
-            &session::CLIENT_RANDOM,
-        )
-    }
-
-    // The sender's MAC secret for a number.
-    fn secret(self, plan: Plan, number: u16) -> [u8; Mac::SECRET_SIZE] {
-        let mut out = [0u8; Mac::SECRET_SIZE];
-        digest::prf(
-            &session::SECRET,
-            &self.label(),
-            &keys::key_number(plan.refresh, number).to_be_bytes(),
-            &session::SERVER_RANDOM,
-            &session::CLIENT_RANDOM,
-            &mut out,
-        );
-        out
-    }
+// The MAC secret for a number, under the label of its direction.
+fn secret(plan: Plan, sense: Sense, number: u16) -> [u8; Mac::SECRET_SIZE] {
+    let label = match sense {
+        Sense::FromUnit => Mac::client_expansion(),
+        Sense::FromShore => Mac::server_expansion(),
+    };
+    let mut out = [0u8; Mac::SECRET_SIZE];
+    digest::prf(
+        &session::SECRET,
+        &label,
+        &key_number(plan.refresh, number).to_be_bytes(),
+        &session::SERVER_RANDOM,
+        &session::CLIENT_RANDOM,
+        &mut out,
+    );
+    out
 }
 
 pub fn secrets<W: Write>(plan: Plan, out: &mut W) -> io::Result<()> {
-    let mac = plan.mac;
-    line(mac, "client-secret-0", &Sender::Unit.secret(plan, 0), out)?;
-    line(mac, "client-secret-19", &Sender::Unit.secret(plan, 19), out)?;
-    line(mac, "server-secret-0", &Sender::Shore.secret(plan, 0), out)?;
-    line(
-        mac,
-        "server-secret-19",
-        &Sender::Shore.secret(plan, 19),
-        out,
-    )
+    let secrets = [
+        ("client-secret-0", Sense::FromUnit, 0),
+        ("client-secret-19", Sense::FromUnit, 19),
+        ("server-secret-0", Sense::FromShore, 0),
+        ("server-secret-19", Sense::FromShore, 19),
+    ];
+    for (name, sense, number) in secrets {
+        line(plan.mac, name, &secret(plan, sense, number), out)?;
+    }
+    Ok(())
 }
 
 pub fn codes<W: Write>(plan: Plan, ours: &[u8], theirs: &[u8], out: &mut W) -> io::Result<()> {
+    let keys = keys(plan);
     let handshake = written::type_byte(false, true, Content::Handshake);
     let data = written::type_byte(false, true, Content::Data);
-    let code = code::code(Sender::Unit.key(plan, 0), 0, handshake, theirs);
+    let code = code::code(keys.key(Sense::FromUnit, 0), 0, handshake, theirs);
     code_line(plan, "client-code-0", code, out)?;
-    let code = code::code(Sender::Unit.key(plan, 19), 19, data, b"report");
+    let code = code::code(keys.key(Sense::FromUnit, 19), 19, data, b"report");
     code_line(plan, "client-code-19", code, out)?;
-    let code = code::code(Sender::Shore.key(plan, 0), 0, handshake, ours);
+    let code = code::code(keys.key(Sense::FromShore, 0), 0, handshake, ours);
     code_line(plan, "server-code-0", code, out)?;
-    let code = code::code(Sender::Shore.key(plan, 19), 19, data, b"answer");
+    let code = code::code(keys.key(Sense::FromShore, 19), 19, data, b"answer");
     code_line(plan, "server-code-19", code, out)
 }
 
 pub fn records<W: Write>(plan: Plan, out: &mut W) -> io::Result<()> {
-    data(plan, Sender::Unit, b"report", "client-record-19", out)?;
-    data(plan, Sender::Shore, b"answer", "server-record-19", out)
+    data(plan, Sense::FromUnit, b"report", "client-record-19", out)?;
+    data(plan, Sense::FromShore, b"answer", "server-record-19", out)
 }
 
 // A code, as it is sent.
@@ -93,13 +81,13 @@ fn code_line<W: Write>(plan: Plan, name: &str, whole: [u8; 20], out: &mut W) -> 
 // A record of data whole, number 19, without a length.
 fn data<W: Write>(
     plan: Plan,
-    sender: Sender,
+    sense: Sense,
     content: &[u8],
     name: &str,
     out: &mut W,
 ) -> io::Result<()> {
     let mac = plan.mac;
-    let key = sender.key(plan, 19);
+    let key = keys(plan).key(sense, 19);
     let mut room = [0u8; 64];
     let size = code::write_protected(key, mac, false, Content::Data, 19, content, &mut room);
     line(mac, name, field::part(&room, 0, size), out)

@@ -1,5 +1,5 @@
 -- `hex::Hex` shown: one byte more is written.
-use Rattle.std.proofs.Common.{◌≡◌, ◌++◌, [], ℕ, ◌+◌, ◌-◌, ◌^◌, ◌<◌, List, length, take, slice_index_or, rules, sym, ◌∙◌, ap, arith, false}
+use Rattle.std.proofs.Common.{◌≡◌, ◌++◌, [], ℕ, ◌+◌, ◌-◌, ◌^◌, ◌<◌, List, length, take, slice_index_or, rules, refl, sym, ◌∙◌, ap, arith, false}
 use Rattle.std.specs.Fmt.{digits, padded_integral, format_spec}
 use Rattle.std.proofs.Output.{has_written_append, has_written_of_eq}
 use Rattle.std.proofs.lemmas.Fmt.{hex_byte}
@@ -17,5 +17,7 @@ one_more s i h small =
 
 pub loop-b-preserved : goal.loop-b-preserved
 loop-b-preserved g c p =
+    let so_far = c.loop-b.invariant p in
+    let writes = rw (c.in_radix.ensures, c.laid_out.ensures) at c.in_ok-write.ensures.writes in
     has_written_of_eq _ _ _ _ _ (one_more c.args.self.now.0.now c.loop-b.b-index (omega arith) (search rules))
-    (has_written_append _ _ _ _ _ _ (c.loop-b.invariant p) (search rules))
+    (has_written_append _ _ _ _ _ _ so_far (writes so_far.plain refl))
