@@ -4,7 +4,14 @@ ghost use Rattle.std.specs.List.{list_all};
 ghost use Rattle.lines.specs.Hex.{is_hex_digit, hex_digit, is_bytes, bytes_of};
 ghost use Rattle.lines.specs.Shown.{hex_of, string_of};
 
+use arrayvec::ArrayVec;
 use std::fmt;
+
+// The most bytes that a byte string of a line spells.
+const BYTES: usize = 4096;
+
+// What a byte string spells.
+pub type Bytes = ArrayVec<u8, BYTES>;
 
 // Whether a word is a byte string.
 pub fn is_bytes(word: &[u8]) -> bool
@@ -17,16 +24,15 @@ pub fn is_bytes(word: &[u8]) -> bool
     }
 }
 
-// Puts the bytes of a byte string at the front of `to`, as many as have room there, and answers how many.
-pub fn put_bytes(word: &[u8], to: &mut [u8]) -> usize
-    ensures prefix_len { result ≤ length to.new }
-    ensures to_after { take result to.new ≡ take result (bytes_of word.now) }
+// The bytes that a byte string spells, as many as there is room for.
+pub fn bytes(word: &[u8]) -> Bytes
+    ensures { result.items ≡ take BYTES (bytes_of word.now) }
 {
-    let n = to.len().min(word.len() / 2);
-    for i in 0..n {
-        to[i] = digit(word[2 * i]) * 16 + digit(word[2 * i + 1]);
+    let mut bytes = ArrayVec::new();
+    for i in 0..BYTES.min(word.len() / 2) {
+        bytes.push(digit(word[2 * i]) * 16 + digit(word[2 * i + 1]));
     }
-    n
+    bytes
 }
 
 fn all_digits(word: &[u8]) -> bool
