@@ -1,16 +1,16 @@
 // The first line of a call, and the bytes that it wrote out.
-use connection::calls::Outcome;
-use connection::receive::Taken;
+use connection::receive::Untaken;
 use connection::refusal;
+use connection::refusal::Refusal;
 use lines::hex::Hex;
 use std::io;
 use std::io::Write;
 
 // `CALL ok` or `CALL refused R`.
-pub fn put_outcome<W: Write>(name: &str, outcome: Outcome, out: &mut W) -> io::Result<()> {
+pub fn put_outcome<W: Write>(name: &str, outcome: Result<(), Refusal>, out: &mut W) -> io::Result<()> {
     match outcome {
-        Outcome::Done => writeln!(out, "{name} ok"),
-        Outcome::Refused(refusal) => writeln!(out, "{name} refused {}", refusal::number(refusal)),
+        Ok(()) => writeln!(out, "{name} ok"),
+        Err(refusal) => writeln!(out, "{name} refused {}", refusal::number(refusal)),
     }
 }
 
@@ -23,11 +23,11 @@ pub fn put_out<W: Write>(room: &[u8], written: usize, out: &mut W) -> io::Result
 }
 
 // `receive records N`, behind which stands a line for each record, `receive refused R`, or `receive refused R at P`.
-pub fn put_taken<W: Write>(taken: Taken, out: &mut W) -> io::Result<()> {
+pub fn put_taken<W: Write>(taken: Result<usize, Untaken>, out: &mut W) -> io::Result<()> {
     match taken {
-        Taken::Records(count) => writeln!(out, "receive records {count}"),
-        Taken::Refused(refusal) => put_outcome("receive", Outcome::Refused(refusal), out),
-        Taken::Misframed(refusal, place) => {
+        Ok(count) => writeln!(out, "receive records {count}"),
+        Err(Untaken::Refused(refusal)) => put_outcome("receive", Err(refusal), out),
+        Err(Untaken::Misframed(refusal, place)) => {
             writeln!(out, "receive refused {} at {place}", refusal::number(refusal))
         }
     }

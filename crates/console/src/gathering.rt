@@ -40,7 +40,7 @@ fn run_message<W: Write>(
     let mut assembly = [0u8; 1400];
     let messaged = short::message(
         connection,
-        console.gatherer,
+        &mut console.gatherer,
         &mut console.store,
         &message,
         &mut assembly,
@@ -48,20 +48,20 @@ fn run_message<W: Write>(
         &mut lent[..size],
     );
     let answer = messaged.answer;
-    let received = messaged.received;
-    console.count(received);
-    console.gatherer = messaged.gatherer;
     put_answer(answer, gather::datagram(answer, &message, &assembly), out)?;
-    if short::shows(answer) {
-        return taken(console, received, &lent, out);
+    match messaged.received {
+        Some(received) => {
+            console.count(received);
+            taken(console, received, &lent, out)
+        }
+        None => state_line(console, out),
     }
-    state_line(console, out)
 }
 
 // `drop ok`, always.
 fn run_drop<W: Write>(console: &mut Console, line: &[u8], out: &mut W) -> io::Result<()> {
     let reference = number(word(line, 1), 255) as u8;
-    console.gatherer = console.gatherer.drop(reference);
+    console.gatherer.drop(reference);
     writeln!(out, "drop ok")?;
     state_line(console, out)
 }

@@ -4,8 +4,8 @@ use crate::console::Console;
 use calllines::answer::put_answers;
 use calllines::outcome::{put_out, put_outcome, put_taken};
 use calllines::status::put_status;
-use connection::calls::Outcome;
-use connection::receive::{Received, Taken};
+use connection::receive::Received;
+use connection::refusal::Refusal;
 use std::io;
 use std::io::Write;
 
@@ -13,7 +13,7 @@ use std::io::Write;
 pub fn done<W: Write>(
     console: &Console,
     name: &str,
-    outcome: Outcome,
+    outcome: Result<(), Refusal>,
     out: &mut W,
 ) -> io::Result<()> {
     put_outcome(name, outcome, out)?;
@@ -24,7 +24,7 @@ pub fn done<W: Write>(
 pub fn sent<W: Write>(
     console: &Console,
     name: &str,
-    outcome: Outcome,
+    outcome: Result<(), Refusal>,
     written: usize,
     lent: &[u8],
     out: &mut W,
@@ -42,7 +42,7 @@ pub fn taken<W: Write>(
     out: &mut W,
 ) -> io::Result<()> {
     put_taken(received.taken, out)?;
-    if let Taken::Records(count) = received.taken {
+    if let Ok(count) = received.taken {
         put_answers(received.answers, count, out)?;
     }
     put_out(lent, received.written, out)?;

@@ -3,7 +3,7 @@ use crate::console::Console;
 use crate::{gathering, outcome};
 use callwords::call::{Call, call_in, call_of};
 use connection::calls;
-use connection::calls::{Called, Outcome};
+use connection::calls::Called;
 use connection::connection::Connection;
 use connection::receive::receive;
 use connection::send::{Sent, send_alert, send_data};
@@ -67,7 +67,7 @@ impl Console {
         let width = number(word(line, 3), 999999999) as u32;
         let called = calls::fresh(&id, &secret, width);
         let outcome = called.outcome;
-        if let Outcome::Done = outcome {
+        if let Ok(()) = outcome {
             self.connect(called.connection);
         }
         outcome::done(self, "fresh", outcome, out)

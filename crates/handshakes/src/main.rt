@@ -11,7 +11,7 @@ mod show;
 
 use digest::Mac;
 use message::acceptance;
-use message::acceptance::{Heard, Plan};
+use message::acceptance::Plan;
 use std::io;
 use std::io::{BufWriter, Write};
 
@@ -25,7 +25,7 @@ fn main(rt: HostRuntime) -> io::Result<()> {
 // The handshake after a hello that offers this kind alone.
 fn handshake<W: Write>(offered: Mac, out: &mut W) -> io::Result<()> {
     let client = messages::client_hello(offered);
-    let Heard::Accepted(plan) = acceptance::hear(&client, &session::ID) else {
+    let Ok(plan) = acceptance::hear(&client, &session::ID) else {
         return Ok(());
     };
     let server = messages::server_hello(plan);

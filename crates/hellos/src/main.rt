@@ -5,7 +5,7 @@
 ghost use Rattle.std.specs.Prelude.{◌<◌, length, IfSome};
 
 use message::acceptance;
-use message::acceptance::{Condition, Heard};
+use message::acceptance::{Condition, Plan, Unheard};
 use message::hello::Field;
 use std::io;
 use std::io::{BufWriter, Read, Write};
@@ -41,14 +41,14 @@ fn first_of(s: &[u8]) -> Option<(&[u8], &[u8])>
     rest.split_at_checked(usize::from(u16::from_be_bytes(*size)))
 }
 
-fn show<W: Write>(heard: Heard, out: &mut W) -> io::Result<()> {
+fn show<W: Write>(heard: Result<Plan, Unheard>, out: &mut W) -> io::Result<()> {
     match heard {
-        Heard::Accepted(plan) => {
+        Ok(plan) => {
             let mac = plan.mac;
             writeln!(out, "0 {} {}", mac.number(), plan.refresh)
         }
-        Heard::Unacceptable(condition) => writeln!(out, "13 {} 0", condition_number(condition)),
-        Heard::Malformed(fault) => writeln!(out, "12 {} 0", field_number(fault)),
+        Err(Unheard::Unacceptable(condition)) => writeln!(out, "13 {} 0", condition_number(condition)),
+        Err(Unheard::Malformed(fault)) => writeln!(out, "12 {} 0", field_number(fault)),
     }
 }
 

@@ -2,10 +2,10 @@
 // refusal.
 #![tactic(auto)]
 
-ghost use Rattle.std.specs.Prelude.{◌≡◌, ◌+◌, ◌^◌, ◌<◌};
+ghost use Rattle.std.specs.Prelude.{◌≡◌, ◌+◌, ◌^◌, ◌<◌, Ok};
 ghost use Rattle.record.specs.Datagram.{walk_of};
 
-use record::datagram::{Outcome, Walk, walked};
+use record::datagram::{Misframed, Walk, walked};
 use record::header::number_of;
 use record::reader::{Fault, Record, fault_number};
 use std::io;
@@ -26,17 +26,15 @@ fn main(rt: HostRuntime) -> io::Result<()> {
 
 // The listing of a datagram.
 fn list<W: Write>(d: &[u8], out: &mut W) -> io::Result<()> {
-    let walk = walked(d);
-    let outcome = walk.outcome;
-    match outcome {
-        Outcome::Refused(fault, at) => refused(fault, at, out),
-        Outcome::Sound => lines(d, walk, out),
+    match walked(d) {
+        Err(Misframed { fault, at }) => refused(fault, at, out),
+        Ok(walk) => lines(d, walk, out),
     }
 }
 
 // `records N`, and a line for each record.
 fn lines<W: Write>(d: &[u8], walk: Walk, out: &mut W) -> io::Result<()>
-    requires { walk ≡ walk_of d.now }
+    requires { walk_of d.now ≡ Ok walk }
 {
     let all = walk.records;
     let records = &all[..walk.count];

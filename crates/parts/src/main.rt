@@ -4,7 +4,7 @@
 
 ghost use Rattle.std.specs.Prelude.{◌<◌, length, IfSome};
 
-use gather::{Answer, Gatherer, Heading, Ports};
+use gather::{Answer, Gatherer, Heading, Ports, Refusal};
 use lines::hex::Hex;
 use std::io;
 use std::io::{BufWriter, Read, Write};
@@ -38,10 +38,10 @@ fn gather_all<W: Write>(s: &[u8], out: &mut W) -> io::Result<()> {
     let mut rest = s;
     while let Some((item, behind)) = first_of(rest) {
         match item {
-            Item::Message(message) => g = gathered(g, message, &mut store, &mut assembly, out)?,
+            Item::Message(message) => gathered(&mut g, message, &mut store, &mut assembly, out)?,
             Item::Drop(reference) => {
                 writeln!(out, "dropped")?;
-                g = g.drop(reference);
+                g.drop(reference);
             }
         }
         rest = behind;
@@ -65,25 +65,23 @@ fn first_of(s: &[u8]) -> Option<(Item<'_>, &[u8])>
 
 // One message.
 fn gathered<W: Write>(
-    g: Gatherer,
+    g: &mut Gatherer,
     message: &[u8],
     store: &mut [u8],
     assembly: &mut [u8],
     out: &mut W,
-) -> io::Result<Gatherer> {
+) -> io::Result<()> {
     show_heading(gather::read(message), out)?;
-    let step = g.step(store, message, assembly);
-    let answer = step.answer;
+    let answer = g.step(store, message, assembly);
     show(answer, out)?;
-    writeln!(out, "{}", Hex(gather::datagram(answer, message, assembly)))?;
-    Ok(step.gatherer)
+    writeln!(out, "{}", Hex(gather::datagram(answer, message, assembly)))
 }
 
-fn show_heading<W: Write>(heading: Heading, out: &mut W) -> io::Result<()> {
+fn show_heading<W: Write>(heading: Result<Heading, Refusal>, out: &mut W) -> io::Result<()> {
     match heading {
-        Heading::Refused => writeln!(out, "no"),
-        Heading::Alone(ports, start) => writeln!(out, "alone {}{start} ", Shown(ports)),
-        Heading::Part(ports, start, place) => writeln!(
+        Err(_) => writeln!(out, "no"),
+        Ok(Heading::Alone(ports, start)) => writeln!(out, "alone {}{start} ", Shown(ports)),
+        Ok(Heading::Part(ports, start, place)) => writeln!(
             out,
             "part {}{start} {} {} {} ",
             Shown(ports),
@@ -94,16 +92,16 @@ fn show_heading<W: Write>(heading: Heading, out: &mut W) -> io::Result<()> {
     }
 }
 
-fn show<W: Write>(answer: Answer, out: &mut W) -> io::Result<()> {
+fn show<W: Write>(answer: Result<Answer, Refusal>, out: &mut W) -> io::Result<()> {
     match answer {
-        Answer::Refused(refusal) => write!(out, "refused {} ", gather::refusal_number(refusal)),
-        Answer::Waiting(ports, reference, have, total) => write!(
+        Err(refusal) => write!(out, "refused {} ", u8::from(refusal)),
+        Ok(Answer::Waiting(ports, reference, have, total)) => write!(
             out,
             "waiting {}{reference} {have} {total} ",
             Shown(ports)
         ),
-        Answer::Received(ports, start) => write!(out, "received {}{start} ", Shown(ports)),
-        Answer::Gathered(ports, count) => write!(out, "gathered {}{count} ", Shown(ports)),
+        Ok(Answer::Received(ports, start)) => write!(out, "received {}{start} ", Shown(ports)),
+        Ok(Answer::Gathered(ports, count)) => write!(out, "gathered {}{count} ", Shown(ports)),
     }
 }
 

@@ -9,8 +9,7 @@ pub fn put_parts<W: Write>(g: Gatherer, out: &mut W) -> io::Result<()> {
     let mut before = "";
     for reference in 0..=255 {
         if let Some(slot) = held_of(g, reference) {
-            let have = slot.sizes.iter().filter(|size| **size != 0).count();
-            write!(out, "{before}{reference}:{have}/{}", slot.total)?;
+            write!(out, "{before}{reference}:{}/{}", slot.held_places(), slot.total)?;
             before = ",";
         }
     }
@@ -22,7 +21,7 @@ pub fn put_parts<W: Write>(g: Gatherer, out: &mut W) -> io::Result<()> {
 
 // What is held of a reference: no two slots hold the same.
 fn held_of(g: Gatherer, reference: u8) -> Option<Slot> {
-    [g.first, g.second, g.third, g.fourth]
+    g.slots
         .into_iter()
         .find(|slot| slot.total != 0 && slot.reference == reference)
 }

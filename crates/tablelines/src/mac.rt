@@ -1,5 +1,5 @@
 // What an edition of the list of MAC kinds says of a number.
-use digest::{Listing, Named, Sizes, mac_named};
+use digest::{Named, Sizes, Unnamed, mac_named};
 use lines::number::number;
 use lines::words::word;
 use std::io;
@@ -13,22 +13,19 @@ pub fn put_asked<W: Write>(line: &[u8], out: &mut W) -> io::Result<()> {
 }
 
 // `mac NAME KEY CODE`, `mac NAME - -` where the sizes are not shown, `mac unlisted`, or `mac refused 16`.
-fn put_mac<W: Write>(named: Named, out: &mut W) -> io::Result<()> {
-    let listing = named.listing;
-    match listing {
-        Listing::Listed => put_named(named, out),
-        Listing::Unlisted => writeln!(out, "mac unlisted"),
-        Listing::UnknownEdition => writeln!(out, "mac refused 16"),
+fn put_mac<W: Write>(asked: Result<Named, Unnamed>, out: &mut W) -> io::Result<()> {
+    match asked {
+        Ok(named) => put_named(named, out),
+        Err(Unnamed::Unlisted) => writeln!(out, "mac unlisted"),
+        Err(Unnamed::UnknownEdition) => writeln!(out, "mac refused 16"),
     }
 }
 
 fn put_named<W: Write>(named: Named, out: &mut W) -> io::Result<()> {
-    let name = named.name;
-    let sizes = named.sizes;
     write!(out, "mac ")?;
-    out.write_all(name.get(..named.length).unwrap_or(&[]))?;
-    match sizes {
-        Sizes::Shown(key, code) => writeln!(out, " {key} {code}"),
-        Sizes::Unshown => writeln!(out, " - -"),
+    out.write_all(named.name())?;
+    match named.sizes() {
+        Some(Sizes { key, code }) => writeln!(out, " {key} {code}"),
+        None => writeln!(out, " - -"),
     }
 }

@@ -3,7 +3,7 @@ use lines::hex::{ByteString, Hex, bytes};
 use lines::number::number;
 use lines::words::word;
 use message::hello::Place;
-use message::set::{DhParameters, EcParameters, FieldId, Reading};
+use message::set::{DhParameters, EcParameters, FieldId, Set};
 use message::{field, set, set_writer};
 use std::io;
 use std::io::Write;
@@ -27,12 +27,12 @@ fn put_set<W: Write>(suite: u8, s: &[u8], out: &mut W) -> io::Result<()> {
     }
 }
 
-fn put_reading<W: Write>(reading: Reading, s: &[u8], out: &mut W) -> io::Result<()> {
+fn put_reading<W: Write>(reading: Option<Set>, s: &[u8], out: &mut W) -> io::Result<()> {
     match reading {
-        Reading::Skipped => writeln!(out, "set skipped"),
-        Reading::Malformed => writeln!(out, "set refused 12"),
-        Reading::DiffieHellman(d) => put_dh(d, s, out),
-        Reading::EllipticCurve(c) => put_ec(c, s, out),
+        None => writeln!(out, "set refused 12"),
+        Some(Set::Skipped) => writeln!(out, "set skipped"),
+        Some(Set::DiffieHellman(d)) => put_dh(d, s, out),
+        Some(Set::EllipticCurve(c)) => put_ec(c, s, out),
     }
 }
 

@@ -125,7 +125,7 @@ fn codes<W: Write>(out: &mut W) -> io::Result<()> {
 
 // The bytes 1 to 25.
 fn one_up() -> [u8; 25] {
-    std::array::from_fn(|i| (i % 25 + 1) as u8)
+    std::array::from_fn(|i| (i + 1) as u8)
 }
 
 // P_hash (002 section 11.3.2) of "client expansion" and a seed in three pieces, to four lengths.

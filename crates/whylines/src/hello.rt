@@ -1,5 +1,5 @@
 // 12 and 13 of a hello: the first field at fault, or the first condition that fails with what the hello had.
-use digest::{Listing, mac_named};
+use digest::mac_named;
 use lines::hex::ByteString;
 use message::acceptance::Condition;
 use message::field::part;
@@ -67,11 +67,9 @@ fn put_pair<W: Write>(edition: u8, pair: &[u8], out: &mut W) -> io::Result<()> {
 
 // The name in that edition of the list, the number where it is not listed.
 fn put_mac<W: Write>(edition: u8, mac: u8, out: &mut W) -> io::Result<()> {
-    let named = mac_named(edition, mac);
-    let listing = named.listing;
-    match listing {
-        Listing::Listed => out.write_all(part(&named.name, 0, named.length)),
-        Listing::Unlisted | Listing::UnknownEdition => write!(out, "{mac}"),
+    match mac_named(edition, mac) {
+        Ok(named) => out.write_all(named.name()),
+        Err(_) => write!(out, "{mac}"),
     }
 }
 

@@ -1,5 +1,5 @@
 -- `lines`: the walk's answer can be gone through (`Walkable`), and each record of it lies in the datagram.
-use Rattle.std.proofs.Common.{◌≡◌, ◌+◌, ◌^◌, ◌<◌, ℕ, List, length, take, get_or, arith}
+use Rattle.std.proofs.Common.{◌≡◌, ◌+◌, ◌^◌, ◌<◌, ℕ, List, Ok, length, take, get_or, arith}
 use Rattle.std.proofs.lemmas.List.{get_or-take, length-take}
 use Rattle.record.specs.Datagram.{walk_of, blank}
 use Rattle.record.specs.declared.datagram.Walk.{Walk}
@@ -7,7 +7,7 @@ use Rattle.record.proofs.Covering.{walkable}
 use Rattle.lister.proofs.lines.Goals as goal
 
 -- a record that was found begins and has its header within the datagram
-heads : (d : List ℕ) (w : Walk) → w ≡ walk_of d → (i : ℕ) → i < length (take w.count w.records) → length d < 2 ^ 64
+heads : (d : List ℕ) (w : Walk) → walk_of d ≡ Ok w → (i : ℕ) → i < length (take w.count w.records) → length d < 2 ^ 64
     → (get_or (take w.count w.records) i blank).start + (get_or (take w.count w.records) i blank).head < 2 ^ 64
 heads d w e i h small =
     let within : i < w.count = omega (arith, length-take w.count w.records) in
