@@ -6,10 +6,10 @@ use lines::said::{bytes_at, named, number_at};
 use lines::words::spaces;
 
 // The most bytes of output that a line may lend.
-const ROOM: usize = 2048;
+pub const ROOM: usize = 2048;
 
 // The most that nine digits spell.
-const NUMBER: usize = 999999999;
+pub const NUMBER: usize = 999999999;
 
 // A call of the console, but for those of short messages (short.rt).
 #[derive(Clone, Copy, PartialEq, Eq, Debug)]
@@ -77,37 +77,39 @@ pub fn call_of(line: &[u8]) -> Option<Call>
     None
 }
 
+// All words of a line are looked at, by `&`, so that a proof has one value to state, word by word.
+
 // fresh ID SECRET WIDTH
-fn fresh_words(line: &[u8]) -> bool
+pub fn fresh_words(line: &[u8]) -> bool
     ensures { result ≡ fresh_words line.now }
 {
-    spaces(line) == 3 && bytes_at(line, 1) && bytes_at(line, 2) && number_at(line, 3, NUMBER)
+    (spaces(line) == 3) & bytes_at(line, 1) & bytes_at(line, 2) & number_at(line, 3, NUMBER)
 }
 
 // receive DATAGRAM RANDOM ROOM
 pub(crate) fn receive_words(line: &[u8]) -> bool
     ensures { result ≡ receive_words line.now }
 {
-    spaces(line) == 3 && bytes_at(line, 1) && bytes_at(line, 2) && number_at(line, 3, ROOM)
+    (spaces(line) == 3) & bytes_at(line, 1) & bytes_at(line, 2) & number_at(line, 3, ROOM)
 }
 
 // send DATA ROOM
-fn send_words(line: &[u8]) -> bool
+pub fn send_words(line: &[u8]) -> bool
     ensures { result ≡ send_words line.now }
 {
-    spaces(line) == 2 && bytes_at(line, 1) && number_at(line, 2, ROOM)
+    (spaces(line) == 2) & bytes_at(line, 1) & number_at(line, 2, ROOM)
 }
 
 // alert clear|protected LEVEL DESCRIPTION RECORD ROOM
-fn alert_words(line: &[u8]) -> bool
+pub fn alert_words(line: &[u8]) -> bool
     ensures { result ≡ alert_words line.now }
 {
-    spaces(line) == 5
-        && is_sense(line)
-        && number_at(line, 2, 255)
-        && number_at(line, 3, 255)
-        && bytes_at(line, 4)
-        && number_at(line, 5, ROOM)
+    (spaces(line) == 5)
+        & is_sense(line)
+        & number_at(line, 2, 255)
+        & number_at(line, 3, 255)
+        & bytes_at(line, 4)
+        & number_at(line, 5, ROOM)
 }
 
 // clear|protected
@@ -121,17 +123,17 @@ fn is_sense(line: &[u8]) -> bool
 fn mac_words(line: &[u8]) -> bool
     ensures { result ≡ mac_words line.now }
 {
-    spaces(line) == 2 && number_at(line, 1, 255) && number_at(line, 2, 255)
+    (spaces(line) == 2) & number_at(line, 1, 255) & number_at(line, 2, 255)
 }
 
 // set SUITE BYTES
 fn set_words(line: &[u8]) -> bool
     ensures { result ≡ set_words line.now }
 {
-    spaces(line) == 2 && number_at(line, 1, 255) && bytes_at(line, 2)
+    (spaces(line) == 2) & number_at(line, 1, 255) & bytes_at(line, 2)
 }
 
-// why EDITION DATAGRAM RANDOM INDEX. All of it is looked at, so that the proof has one value to state, word by word.
+// why EDITION DATAGRAM RANDOM INDEX
 fn why_words(line: &[u8]) -> bool
     ensures { result ≡ why_words line.now }
 {
