@@ -7,7 +7,11 @@ use std::io;
 use std::io::Write;
 
 // `CALL ok` or `CALL refused R`.
-pub fn put_outcome<W: Write>(name: &str, outcome: Result<(), Refusal>, out: &mut W) -> io::Result<()> {
+pub fn put_outcome<W: Write>(
+    name: &str,
+    outcome: Result<(), Refusal>,
+    out: &mut W,
+) -> io::Result<()> {
     match outcome {
         Ok(()) => writeln!(out, "{name} ok"),
         Err(refusal) => writeln!(out, "{name} refused {}", refusal::number(refusal)),
@@ -28,7 +32,11 @@ pub fn put_taken<W: Write>(taken: Result<usize, Untaken>, out: &mut W) -> io::Re
         Ok(count) => writeln!(out, "receive records {count}"),
         Err(Untaken::Refused(refusal)) => put_outcome("receive", Err(refusal), out),
         Err(Untaken::Misframed(refusal, place)) => {
-            writeln!(out, "receive refused {} at {place}", refusal::number(refusal))
+            writeln!(
+                out,
+                "receive refused {} at {place}",
+                refusal::number(refusal)
+            )
         }
     }
 }

@@ -7,9 +7,8 @@ use gather::Gatherer;
 use record::protection::Protection;
 use record::window::Window;
 use shortlines::parts::put_parts;
-use std::fmt;
-use std::io;
 use std::io::Write;
+use std::{fmt, io};
 
 // `state NAME n=N marks=M arrived=K sent=P,C checksum=X tally=H,F,O,R parts=REF:HAVE/TOTAL,..
 // started=-|Replied,P,C|Spec,P,C,N,M`. Where there is no connection the state is None, and all else is that of a blank one.
@@ -45,19 +44,30 @@ pub fn state_name(state: State) -> &'static str {
 // The highest number accepted, the marks of the newest, the least significant bit first, and how many of them have arrived.
 pub fn put_window<W: Write>(window: Window, out: &mut W) -> io::Result<()> {
     let arrived = window.arrival();
-    write!(out, "n={} marks={:016x} arrived={arrived}", Highest(window), window.marks)
+    write!(
+        out,
+        "n={} marks={:016x} arrived={arrived}",
+        Highest(window),
+        window.marks
+    )
 }
 
 // The newest checksum of the records sent, zeros where there is none; and the answers handed out, forged, too old, repeated.
 pub fn put_tally<W: Write>(checksum: u32, tally: Tally, out: &mut W) -> io::Result<()> {
     write!(out, " checksum={checksum:08x}")?;
-    write!(out, " tally={},{},{},{}", tally.handed, tally.forged, tally.old, tally.repeated)
+    write!(
+        out,
+        " tally={},{},{},{}",
+        tally.handed, tally.forged, tally.old, tally.repeated
+    )
 }
 
 // The handshake that is started beside an open one: its state, its next numbers, and in Spec its window.
 fn put_started<W: Write>(c: Connection, out: &mut W) -> io::Result<()> {
     let Handshake {
-        state, protection, ..
+        state,
+        protection,
+        ..
     } = c.started;
     match (c.handshake.state, state) {
         (State::Open, State::Replied) => write!(out, " started=Replied,{}", Numbers(protection)),

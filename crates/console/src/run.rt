@@ -20,7 +20,10 @@ pub const ROOM: usize = 2048;
 
 impl Driven for Console {
     fn run<W: Write>(&mut self, line: &[u8], out: &mut W) -> io::Result<()> {
-        match (call_in(self.connection.is_some(), call_of(line)), self.connection) {
+        match (
+            call_in(self.connection.is_some(), call_of(line)),
+            self.connection,
+        ) {
             (Some(Call::Fresh), _) => self.fresh(line, out),
             (Some(Call::Mac), _) => {
                 tablelines::mac::put_asked(line, out)?;

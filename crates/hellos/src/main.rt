@@ -47,7 +47,11 @@ fn show<W: Write>(heard: Result<Plan, Unheard>, out: &mut W) -> io::Result<()> {
             let mac = plan.mac;
             writeln!(out, "0 {} {}", mac.number(), plan.refresh)
         }
-        Err(Unheard::Unacceptable(condition)) => writeln!(out, "13 {} 0", condition_number(condition)),
+        Err(Unheard::Unacceptable(condition)) => writeln!(
+            out,
+            "13 {} 0",
+            condition_number(condition)
+        ),
         Err(Unheard::Malformed(fault)) => writeln!(out, "12 {} 0", field_number(fault)),
     }
 }

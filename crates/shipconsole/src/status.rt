@@ -1,9 +1,8 @@
 // The state line.
 use crate::console::Console;
 use calllines::status::{put_tally, put_window};
-use std::fmt;
-use std::io;
 use std::io::Write;
+use std::{fmt, io};
 use unit::state::State;
 use unit::unit::blank;
 

@@ -6,7 +6,11 @@ use std::io::Write;
 
 // `message refused R`, `message waiting REF HAVE TOTAL ports D O`, `message received START LEN ports D O` or `message
 // gathered HEX ports D O`, where the datagram is the one that is shown.
-pub fn put_answer<W: Write>(answer: Result<Answer, Refusal>, datagram: &[u8], out: &mut W) -> io::Result<()> {
+pub fn put_answer<W: Write>(
+    answer: Result<Answer, Refusal>,
+    datagram: &[u8],
+    out: &mut W,
+) -> io::Result<()> {
     match answer {
         Err(refusal) => writeln!(out, "message refused {}", u8::from(refusal)),
         Ok(Answer::Waiting(ports, reference, have, total)) => {

@@ -9,7 +9,12 @@ pub fn put_parts<W: Write>(g: Gatherer, out: &mut W) -> io::Result<()> {
     let mut before = "";
     for reference in 0..=255 {
         if let Some(slot) = held_of(g, reference) {
-            write!(out, "{before}{reference}:{}/{}", slot.held_places(), slot.total)?;
+            write!(
+                out,
+                "{before}{reference}:{}/{}",
+                slot.held_places(),
+                slot.total
+            )?;
             before = ",";
         }
     }

@@ -43,14 +43,26 @@ fn part(s: &[u8], place: Place) -> ByteString<'_> {
 
 // `set dh e=E p=HEX g=HEX`
 fn put_dh<W: Write>(d: DhParameters, s: &[u8], out: &mut W) -> io::Result<()> {
-    writeln!(out, "set dh e={} p={} g={}", d.e, part(s, d.p), part(s, d.g))
+    writeln!(
+        out,
+        "set dh e={} p={} g={}",
+        d.e,
+        part(s, d.p),
+        part(s, d.g)
+    )
 }
 
 // `set ec FIELD a=HEX b=HEX seed=HEX base=HEX order=HEX cofactor=HEX`
 fn put_ec<W: Write>(c: EcParameters, s: &[u8], out: &mut W) -> io::Result<()> {
     write!(out, "set ec ")?;
     put_field(c.field, s, out)?;
-    write!(out, " a={} b={} seed={}", part(s, c.a), part(s, c.b), part(s, c.seed))?;
+    write!(
+        out,
+        " a={} b={} seed={}",
+        part(s, c.a),
+        part(s, c.b),
+        part(s, c.seed)
+    )?;
     writeln!(
         out,
         " base={} order={} cofactor={}",

@@ -24,7 +24,10 @@ pub(crate) fn put_facts<W: Write>(
             fragment,
             key,
             code,
-        } => write!(out, " number {number} fragment {fragment} keys {key}/{code}"),
+        } => write!(
+            out,
+            " number {number} fragment {fragment} keys {key}/{code}"
+        ),
         Reason::ForgedTwice {
             number,
             fragment,
@@ -34,7 +37,10 @@ pub(crate) fn put_facts<W: Write>(
             open_code,
         } => {
             write!(out, " number {number} fragment {fragment}")?;
-            write!(out, " keys {started_key}/{started_code},{open_key}/{open_code}")
+            write!(
+                out,
+                " keys {started_key}/{started_code},{open_key}/{open_code}"
+            )
         }
         Reason::TooOld {
             under,

@@ -7,7 +7,12 @@ use std::io::Write;
 use why::Why;
 
 pub(crate) fn put_point<W: Write>(w: Why, out: &mut W) -> io::Result<()> {
-    write!(out, " state {}{}", state_name(w.state), beside(w.state, w.started))?;
+    write!(
+        out,
+        " state {}{}",
+        state_name(w.state),
+        beside(w.state, w.started)
+    )?;
     write!(out, " kind {} place {}", kind(w), w.place)
 }
 
