@@ -13,7 +13,6 @@ use crate::receive::Untaken;
 use crate::refusal::Refusal;
 use crate::told::tell;
 use record::datagram::{Misframed, Walk, walked};
-use record::header::Content;
 use record::reader::Record;
 
 // How the datagram is taken; and of the record that is asked about the connection that the records before it left, whom it
@@ -103,16 +102,7 @@ fn nowhere(c: Connection, taken: Result<usize, Untaken>) -> Point
         taken,
         connection: c,
         whom: Whom::Only,
-        found: Record {
-            byte: 0,
-            content: Content::ChangeCipherSpec,
-            protected: false,
-            number: 0,
-            start: 0,
-            head: 0,
-            size: 0,
-            used: 0,
-        },
+        found: Record::BLANK,
         answer: Answer::Nothing,
     }
 }

@@ -6,7 +6,7 @@ ghost use Rattle.connection.specs.Tally.{counted_of};
 ghost use Rattle.connection.specs.Told.{kept_by};
 ghost use Rattle.connection.specs.Judge.{kind_in};
 ghost use Rattle.connection.specs.Later.{is_hello, record_at, begun_of, begun_sent};
-ghost use Rattle.record.specs.Datagram.{walk_of, blank};
+ghost use Rattle.record.specs.Datagram.{walk_of};
 
 use crate::answer::{Answer, Slot, reply_size};
 use crate::asked::{asked, whom_of};
@@ -19,7 +19,6 @@ use crate::step::{led, stays};
 use crate::tally::Tally;
 use crate::told::{moved, open_window, started_window, tell};
 use record::datagram::{Misframed, Walk, walked};
-use record::header::Content;
 use record::reader::{Record, read};
 
 // Why a datagram is refused as a whole: a framing fault with the offset of the record at fault.
@@ -188,28 +187,8 @@ fn record_at(d: &[u8], at: usize) -> Record
     ensures { result ≡ record_at d.now at }
 {
     match read(&d[at..]) {
-        Err(_) => no_record(),
-        Ok(found) => {
-            let mut r = found;
-            r.start = at;
-            r
-        }
-    }
-}
-
-// What stands for a record where there is none.
-fn no_record() -> Record
-    ensures { result ≡ blank }
-{
-    Record {
-        byte: 0,
-        content: Content::ChangeCipherSpec,
-        protected: false,
-        number: 0,
-        start: 0,
-        head: 0,
-        size: 0,
-        used: 0,
+        Err(_) => Record::BLANK,
+        Ok(found) => Record { start: at, ..found },
     }
 }
 

@@ -36,7 +36,7 @@ pub fn genuine(key: Key, mac: Mac, number: u16, byte: u8, fragment: &[u8]) -> bo
 }
 
 // A protected record with this content and its code. Answers how many bytes it wrote: the whole
-// record, or none where the room is too small.
+// record, or none where the room is too small: callers add the count to a place of theirs.
 pub fn write_protected(
     key: Key,
     mac: Mac,

@@ -39,6 +39,7 @@ pub fn walked(d: &[u8]) -> Result<Walk, Misframed>
         if at == d.len() {
             return Ok(Walk { count, records });
         }
+        // no `map_err` and `?`: what its closure promises stays closed to the proof
         let found = match read(&d[at..]) {
             Ok(found) => found,
             Err(fault) => return Err(Misframed { fault, at }),

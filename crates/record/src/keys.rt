@@ -79,7 +79,8 @@ pub fn record_key(
     derived(secret, label, key_number(refresh, number), server, client)
 }
 
-// The key of a key number: records whose key numbers are the same may share it.
+// The key of a key number: records whose key numbers are the same may share it. (The randoms come as slices, since one of
+// them may be a part of a reply.)
 #[tactic(auto, unfolding(crate::specs::Keys::mac_secret))]
 pub fn derived(secret: &[u8], label: &[u8], first: u16, server: &[u8], client: &[u8]) -> Key
     ensures { result ≡ key_of (mac_secret secret.now label.now first server.now client.now) }

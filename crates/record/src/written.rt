@@ -16,7 +16,7 @@ pub(crate) struct Head {
 }
 
 // A clear record with this fragment. Answers how many bytes it wrote: the whole record, or none
-// where the room is too small.
+// where the room is too small: callers add the count to a place of theirs.
 pub fn write_clear(
     long: bool,
     content: Content,

@@ -11,7 +11,7 @@ use Rattle.connection.proofs.receive.record_at.Goals as goal
 pub returns-in-Err : goal.returns-in-Err
 returns-in-Err c = let a = c.args in
     let all = take_all (length a.d.now - a.at) (drop a.at a.d.now) (omega (arith, length-drop a.at a.d.now)) in
-    c.no_record.ensures ∙ sym (ap (record_in a.at) (ap read_of (sym all) ∙ sym c.read.ensures ∙ c.in-Err.is))
+    sym (ap (record_in a.at) (ap read_of (sym all) ∙ sym c.read.ensures ∙ c.in-Err.is))
 
 pub returns-in-Ok : goal.returns-in-Ok
 returns-in-Ok c = let a = c.args in
