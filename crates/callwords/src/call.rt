@@ -1,19 +1,18 @@
 // Which call a line makes.
-ghost use Rattle.std.specs.Prelude.{◌≡◌, true, false};
-ghost use Rattle.digest.specs.Pick.{pick};
-ghost use Rattle.callwords.specs.Call.{fresh_words, receive_words, send_words, is_sense, alert_words, mac_words, call_if, table_of, call_of, call_in};
+ghost use Rattle.std.specs.Prelude.{◌≡◌};
+ghost use Rattle.callwords.specs.Call.{fresh_words, receive_words, send_words, is_sense, alert_words, mac_words, set_words, why_words, needs_connection, call_of, call_in};
 
-use crate::set::set_call;
 use lines::said::{bytes_at, named, number_at};
 use lines::words::spaces;
 
 // The most bytes of output that a line may lend.
-const ROOM: usize = 2048;
+pub const ROOM: usize = 2048;
 
 // The most that nine digits spell.
-pub(crate) const NUMBER: usize = 999999999;
+pub const NUMBER: usize = 999999999;
 
-#[derive(Clone, Copy)]
+// A call of the console, but for those of short messages (short.rt).
+#[derive(Clone, Copy, PartialEq, Eq, Debug)]
 pub enum Call {
     Fresh,
     Receive,
@@ -24,141 +23,123 @@ pub enum Call {
     Mac,
     Set,
     Why,
-    // no call on the connection alone: one of short.rt, or none
-    Bad,
 }
 
 // Any call but `fresh`, `mac` and `set` needs a connection.
-pub fn call_in(connected: bool, call: Call) -> Call
+pub fn call_in(connected: bool, call: Option<Call>) -> Option<Call>
     ensures { result ≡ call_in connected call }
 {
-    if connected {
-        return call;
-    }
+    call.filter(|call| connected || !needs_connection(*call))
+}
+
+fn needs_connection(call: Call) -> bool
+    ensures { result ≡ needs_connection call }
+{
     match call {
-        Call::Fresh => Call::Fresh,
-        Call::Receive => Call::Bad,
-        Call::Send => Call::Bad,
-        Call::Alert => Call::Bad,
-        Call::Close => Call::Bad,
-        Call::Start => Call::Bad,
-        Call::Mac => Call::Mac,
-        Call::Set => Call::Set,
-        Call::Why => Call::Bad,
-        Call::Bad => Call::Bad,
+        Call::Fresh | Call::Mac | Call::Set => false,
+        Call::Receive | Call::Send | Call::Alert | Call::Close | Call::Start | Call::Why => true,
     }
 }
 
-// The call that a line makes. Its words are all read here, so that a call that is run has arguments.
-pub fn call_of(line: &[u8]) -> Call
+// The call that a line makes. Its words are all read here, so that a call that is run has arguments. No `match` on the word: it is
+// proved byte by byte, and leaves a goal at each.
+#[tactic(auto, unfolding(crate::specs::Call::call_of))]
+pub fn call_of(line: &[u8]) -> Option<Call>
     ensures { result ≡ call_of line.now }
 {
     if named(line, 0, b"fresh") {
-        return call_if(Call::Fresh, fresh_words(line));
+        return fresh_words(line).then_some(Call::Fresh);
     }
     if named(line, 0, b"receive") {
-        return call_if(Call::Receive, receive_words(line));
+        return receive_words(line).then_some(Call::Receive);
     }
     if named(line, 0, b"send") {
-        return call_if(Call::Send, send_words(line));
+        return send_words(line).then_some(Call::Send);
     }
     if named(line, 0, b"alert") {
-        return call_if(Call::Alert, alert_words(line));
+        return alert_words(line).then_some(Call::Alert);
     }
     if named(line, 0, b"close") {
-        return call_if(Call::Close, spaces(line) == 0);
+        return (spaces(line) == 0).then_some(Call::Close);
     }
     if named(line, 0, b"start") {
-        return call_if(Call::Start, spaces(line) == 0);
+        return (spaces(line) == 0).then_some(Call::Start);
     }
-    table_of(line)
-}
-
-// A line that asks a table of the papers.
-fn table_of(line: &[u8]) -> Call
-    ensures { result ≡ table_of line.now }
-{
     if named(line, 0, b"mac") {
-        return call_if(Call::Mac, mac_words(line));
+        return mac_words(line).then_some(Call::Mac);
     }
-    set_call(line)
+    if named(line, 0, b"set") {
+        return set_words(line).then_some(Call::Set);
+    }
+    if named(line, 0, b"why") {
+        return why_words(line).then_some(Call::Why);
+    }
+    None
 }
 
-pub(crate) fn call_if(call: Call, good: bool) -> Call
-    ensures { result ≡ call_if call good }
-{
-    if good {
-        return call;
-    }
-    Call::Bad
-}
+// All words of a line are looked at, by `&`, so that a proof has one value to state, word by word.
 
 // fresh ID SECRET WIDTH
-fn fresh_words(line: &[u8]) -> bool
+pub fn fresh_words(line: &[u8]) -> bool
     ensures { result ≡ fresh_words line.now }
 {
-    let rest = both(bytes_at(line, 2), number_at(line, 3, NUMBER));
-    let rest = both(bytes_at(line, 1), rest);
-    both(spaces(line) == 3, rest)
+    (spaces(line) == 3) & bytes_at(line, 1) & bytes_at(line, 2) & number_at(line, 3, NUMBER)
 }
 
 // receive DATAGRAM RANDOM ROOM
 pub(crate) fn receive_words(line: &[u8]) -> bool
     ensures { result ≡ receive_words line.now }
 {
-    let rest = both(bytes_at(line, 2), number_at(line, 3, ROOM));
-    let rest = both(bytes_at(line, 1), rest);
-    both(spaces(line) == 3, rest)
+    (spaces(line) == 3) & bytes_at(line, 1) & bytes_at(line, 2) & number_at(line, 3, ROOM)
 }
 
 // send DATA ROOM
-fn send_words(line: &[u8]) -> bool
+pub fn send_words(line: &[u8]) -> bool
     ensures { result ≡ send_words line.now }
 {
-    let rest = both(bytes_at(line, 1), number_at(line, 2, ROOM));
-    both(spaces(line) == 2, rest)
+    (spaces(line) == 2) & bytes_at(line, 1) & number_at(line, 2, ROOM)
 }
 
 // alert clear|protected LEVEL DESCRIPTION RECORD ROOM
-fn alert_words(line: &[u8]) -> bool
+pub fn alert_words(line: &[u8]) -> bool
     ensures { result ≡ alert_words line.now }
 {
-    let rest = both(bytes_at(line, 4), number_at(line, 5, ROOM));
-    let rest = both(number_at(line, 3, 255), rest);
-    let rest = both(number_at(line, 2, 255), rest);
-    let rest = both(is_sense(line), rest);
-    both(spaces(line) == 5, rest)
-}
-
-// mac EDITION NUMBER
-fn mac_words(line: &[u8]) -> bool
-    ensures { result ≡ mac_words line.now }
-{
-    let rest = both(number_at(line, 1, 255), number_at(line, 2, 255));
-    both(spaces(line) == 2, rest)
+    (spaces(line) == 5)
+        & is_sense(line)
+        & number_at(line, 2, 255)
+        & number_at(line, 3, 255)
+        & bytes_at(line, 4)
+        & number_at(line, 5, ROOM)
 }
 
 // clear|protected
 fn is_sense(line: &[u8]) -> bool
     ensures { result ≡ is_sense line.now }
 {
-    either(named(line, 1, b"clear"), named(line, 1, b"protected"))
+    named(line, 1, b"clear") || named(line, 1, b"protected")
 }
 
-pub(crate) fn both(a: bool, b: bool) -> bool
-    ensures { result ≡ pick a b false }
+// mac EDITION NUMBER
+fn mac_words(line: &[u8]) -> bool
+    ensures { result ≡ mac_words line.now }
 {
-    if a {
-        return b;
-    }
-    false
+    (spaces(line) == 2) & number_at(line, 1, 255) & number_at(line, 2, 255)
 }
 
-fn either(a: bool, b: bool) -> bool
-    ensures { result ≡ pick a true b }
+// set SUITE BYTES
+fn set_words(line: &[u8]) -> bool
+    ensures { result ≡ set_words line.now }
 {
-    if a {
-        return true;
-    }
-    b
+    (spaces(line) == 2) & number_at(line, 1, 255) & bytes_at(line, 2)
+}
+
+// why EDITION DATAGRAM RANDOM INDEX
+fn why_words(line: &[u8]) -> bool
+    ensures { result ≡ why_words line.now }
+{
+    (spaces(line) == 4)
+        & number_at(line, 1, 255)
+        & bytes_at(line, 2)
+        & bytes_at(line, 3)
+        & number_at(line, 4, NUMBER)
 }

@@ -2,6 +2,4 @@
 #![tactic(auto)]
 
 pub mod call;
-mod set;
 pub mod short;
-mod why;

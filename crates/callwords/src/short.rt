@@ -1,44 +1,34 @@
 // Which call of short messages a line makes: `message BYTES RANDOM ROOM`, `drop REF`.
 ghost use Rattle.std.specs.Prelude.{◌≡◌};
-ghost use Rattle.callwords.specs.Short.{drop_words, short_if, short_of};
+ghost use Rattle.callwords.specs.Short.{drop_words, short_of};
 
-use crate::call::{both, receive_words};
+use crate::call::receive_words;
 use lines::said::{named, number_at};
 use lines::words::spaces;
 
-#[derive(Clone, Copy)]
+#[derive(Clone, Copy, PartialEq, Eq, Debug)]
 pub enum Short {
     Message,
     Drop,
-    // no call
-    Bad,
 }
 
 // The call that a line makes.
-pub fn short_of(line: &[u8]) -> Short
+#[tactic(auto, unfolding(crate::specs::Short::short_of))]
+pub fn short_of(line: &[u8]) -> Option<Short>
     ensures { result ≡ short_of line.now }
 {
     if named(line, 0, b"message") {
-        return short_if(Short::Message, receive_words(line));
+        return receive_words(line).then_some(Short::Message);
     }
     if named(line, 0, b"drop") {
-        return short_if(Short::Drop, drop_words(line));
+        return drop_words(line).then_some(Short::Drop);
     }
-    Short::Bad
-}
-
-fn short_if(short: Short, good: bool) -> Short
-    ensures { result ≡ short_if short good }
-{
-    if good {
-        return short;
-    }
-    Short::Bad
+    None
 }
 
 // drop REF
 fn drop_words(line: &[u8]) -> bool
     ensures { result ≡ drop_words line.now }
 {
-    both(spaces(line) == 1, number_at(line, 1, 255))
+    spaces(line) == 1 && number_at(line, 1, 255)
 }

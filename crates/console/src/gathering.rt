@@ -1,110 +1,67 @@
 // Short messages: `message BYTES RANDOM ROOM`, `drop REF`.
-use crate::console::{Console, Ran};
-use crate::outcome::{bad_line, state_line, taken};
-use crate::run::output;
+use crate::console::Console;
+use crate::outcome::{state_line, taken};
+use crate::run::ROOM;
 use callwords::short::{Short, short_of};
-use lines::hex::put_bytes;
+use connection::connection::Connection;
+use lines::hex::bytes;
 use lines::number::{number, room};
-use lines::text::put;
+use lines::run::bad_line;
 use lines::words::word;
-use short::Messaged;
 use shortlines::message::put_answer;
+use std::io;
+use std::io::Write;
 
 // Runs a line of short messages, which needs a connection.
-pub fn run(console: Console, line: &[u8], text: &mut [u8], at: usize) -> Ran {
-    if !console.connected {
-        return bad_line(console, text, at);
-    }
+pub fn run<W: Write>(
+    console: &mut Console,
+    connection: Connection,
+    line: &[u8],
+    out: &mut W,
+) -> io::Result<()> {
     match short_of(line) {
-        Short::Message => {
-            let mut out = output();
-            run_message(console, line, &mut out, text, at)
-        }
-        Short::Drop => run_drop(console, line, text, at),
-        Short::Bad => bad_line(console, text, at),
+        Some(Short::Message) => run_message(console, connection, line, out),
+        Some(Short::Drop) => run_drop(console, line, out),
+        None => bad_line(out),
     }
 }
 
-fn run_message(console: Console, line: &[u8], out: &mut [u8], text: &mut [u8], at: usize) -> Ran {
-    let mut bytes = io::buffer();
-    let n = put_bytes(word(line, 1), &mut bytes);
-    let mut random = io::buffer();
-    let m = put_bytes(word(line, 2), &mut random);
-    take(
-        console,
-        &bytes[..n],
-        &random[..m],
-        word(line, 3),
-        out,
-        text,
-        at,
-    )
-}
-
-// Takes a message, with as much of the output as a word asks for.
-fn take(
-    console: Console,
-    bytes: &[u8],
-    random: &[u8],
-    asked: &[u8],
-    out: &mut [u8],
-    text: &mut [u8],
-    at: usize,
-) -> Ran {
-    let size = room(asked, out);
-    gathered(console, bytes, random, &mut out[..size], text, at)
-}
-
-// A message gathered, and the datagram that it shows received.
-fn gathered(
-    console: Console,
-    bytes: &[u8],
-    random: &[u8],
-    out: &mut [u8],
-    text: &mut [u8],
-    at: usize,
-) -> Ran {
-    let connection = console.connection;
-    let mut gatherer = console.gatherer;
-    let mut store = console.store;
+// A message gathered, and the datagram that it shows received: the gatherer's answer, what its datagram got, and the state.
+fn run_message<W: Write>(
+    console: &mut Console,
+    connection: Connection,
+    line: &[u8],
+    out: &mut W,
+) -> io::Result<()> {
+    let message = bytes(word(line, 1));
+    let random = bytes(word(line, 2));
+    let mut lent = [0u8; ROOM];
+    let size = room(word(line, 3), &lent);
     let mut assembly = [0u8; 1400];
     let messaged = short::message(
         connection,
-        &mut gatherer,
-        &mut store,
-        bytes,
+        &mut console.gatherer,
+        &mut console.store,
+        &message,
         &mut assembly,
-        random,
-        out,
+        &random,
+        &mut lent[..size],
     );
-    let left = console.with_gathering(gatherer, store);
-    told(left, messaged, bytes, &assembly, out, text, at)
-}
-
-// What the message gave: the gatherer's answer, what its datagram got, and the state.
-fn told<'a>(
-    console: Console,
-    messaged: Messaged,
-    bytes: &'a [u8],
-    assembly: &'a [u8],
-    out: &[u8],
-    text: &mut [u8],
-    at: usize,
-) -> Ran {
     let answer = messaged.answer;
-    let end = put_answer(answer, gather::datagram(answer, bytes, assembly), text, at);
+    put_answer(answer, gather::datagram(answer, &message, &assembly), out)?;
     match messaged.received {
-        Some(received) => taken(console.counted(received), received, out, text, end),
-        None => state_line(console, text, end),
+        Some(received) => {
+            console.count(received);
+            taken(console, received, &lent, out)
+        }
+        None => state_line(console, out),
     }
 }
 
 // `drop ok`, always.
-fn run_drop(console: Console, line: &[u8], text: &mut [u8], at: usize) -> Ran {
+fn run_drop<W: Write>(console: &mut Console, line: &[u8], out: &mut W) -> io::Result<()> {
     let reference = number(word(line, 1), 255) as u8;
-    let mut gatherer = console.gatherer;
-    let store = console.store;
-    gatherer.drop(reference);
-    let end = put(text, at, b"drop ok\n");
-    state_line(console.with_gathering(gatherer, store), text, end)
+    console.gatherer.drop(reference);
+    writeln!(out, "drop ok")?;
+    state_line(console, out)
 }

@@ -1,59 +1,55 @@
 // What a call gave: its first line, a line for each record of a receive, and the bytes that were written out. The state line stands
 // behind each.
-use crate::console::{Console, Ran};
+use crate::console::Console;
+use calllines::answer::put_answers;
 use calllines::outcome::{put_out, put_outcome, put_taken};
 use calllines::status::put_status;
 use connection::receive::Received;
 use connection::refusal::Refusal;
-use lines::text::put;
-
-// A line that is no call changes nothing.
-pub fn bad_line(console: Console, text: &mut [u8], at: usize) -> Ran {
-    let end = put(text, at, b"bad line\n");
-    Ran { console, at: end }
-}
+use std::io;
+use std::io::Write;
 
 // A call that writes no bytes.
-pub fn done(
-    console: Console,
-    name: &[u8],
+pub fn done<W: Write>(
+    console: &Console,
+    name: &str,
     outcome: Result<(), Refusal>,
-    text: &mut [u8],
-    at: usize,
-) -> Ran {
-    let end = put_outcome(name, outcome, text, at);
-    state_line(console, text, end)
+    out: &mut W,
+) -> io::Result<()> {
+    put_outcome(name, outcome, out)?;
+    state_line(console, out)
 }
 
-// A call that writes a record, of which `written` bytes stand at the front of `out`.
-pub fn sent(
-    console: Console,
-    name: &[u8],
+// A call that writes a record, of which `written` bytes stand at the front of what was lent.
+pub fn sent<W: Write>(
+    console: &Console,
+    name: &str,
     outcome: Result<(), Refusal>,
     written: usize,
-    out: &[u8],
-    text: &mut [u8],
-    at: usize,
-) -> Ran {
-    let first = put_outcome(name, outcome, text, at);
-    let end = put_out(out, written, text, first);
-    state_line(console, text, end)
+    lent: &[u8],
+    out: &mut W,
+) -> io::Result<()> {
+    put_outcome(name, outcome, out)?;
+    put_out(lent, written, out)?;
+    state_line(console, out)
 }
 
 // A datagram that was taken.
-pub fn taken(console: Console, received: Received, out: &[u8], text: &mut [u8], at: usize) -> Ran {
-    let how = received.taken;
-    let answers = received.answers;
-    let first = put_taken(how, answers, text, at);
-    let end = put_out(out, received.written, text, first);
-    state_line(console, text, end)
+pub fn taken<W: Write>(
+    console: &Console,
+    received: Received,
+    lent: &[u8],
+    out: &mut W,
+) -> io::Result<()> {
+    put_taken(received.taken, out)?;
+    if let Ok(count) = received.taken {
+        put_answers(received.answers, count, out)?;
+    }
+    put_out(lent, received.written, out)?;
+    state_line(console, out)
 }
 
 // The state behind what a line said.
-pub fn state_line(console: Console, text: &mut [u8], at: usize) -> Ran {
-    let connection = console.connection;
-    let tally = console.tally;
-    let gatherer = console.gatherer;
-    let end = put_status(console.connected, connection, tally, gatherer, text, at);
-    Ran { console, at: end }
+pub fn state_line<W: Write>(console: &Console, out: &mut W) -> io::Result<()> {
+    put_status(console.connection, console.tally, console.gatherer, out)
 }

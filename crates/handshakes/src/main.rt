@@ -12,35 +12,37 @@ mod show;
 use digest::Mac;
 use message::acceptance;
 use message::acceptance::Plan;
+use std::io;
+use std::io::{BufWriter, Write};
 
-fn main() {
-    handshake(Mac::Sha80);
-    handshake(Mac::Sha);
+fn main(rt: HostRuntime) -> io::Result<()> {
+    let mut out = BufWriter::new(rt.alloc(), io::writer(&rt))?;
+    handshake(Mac::Sha80, &mut out)?;
+    handshake(Mac::Sha, &mut out)?;
+    out.flush()
 }
 
 // The handshake after a hello that offers this kind alone.
-fn handshake(offered: Mac) {
+fn handshake<W: Write>(offered: Mac, out: &mut W) -> io::Result<()> {
     let client = messages::client_hello(offered);
-    let planted = session::ID;
-    let Ok(plan) = acceptance::hear(&client, &planted) else {
-        return;
+    let Ok(plan) = acceptance::hear(&client, &session::ID) else {
+        return Ok(());
     };
     let server = messages::server_hello(plan);
-    planned(plan, &client, &server);
+    planned(plan, &client, &server, out)
 }
 
 // What follows from the plan and both hellos.
-fn planned(plan: Plan, client: &[u8], server: &[u8]) {
+fn planned<W: Write>(plan: Plan, client: &[u8], server: &[u8], out: &mut W) -> io::Result<()> {
     let mac = plan.mac;
-    let refresh = plan.refresh;
-    messages::hellos(mac, client, server);
-    let ours = messages::server_finished(mac, client, server);
-    let theirs = messages::client_finished(mac, client, server, &ours);
-    protection::secrets(mac, refresh);
-    protection::codes(mac, refresh, &ours, &theirs);
-    protection::records(mac, refresh);
-    datagrams::last_record(mac, refresh, &ours);
-    datagrams::hello_datagram(mac, client);
-    datagrams::reply(mac, refresh, server, &ours);
-    datagrams::flight(mac, refresh, &theirs);
+    messages::hellos(mac, client, server, out)?;
+    let ours = messages::server_finished(mac, client, server, out)?;
+    let theirs = messages::client_finished(mac, client, server, &ours, out)?;
+    protection::secrets(plan, out)?;
+    protection::codes(plan, &ours, &theirs, out)?;
+    protection::records(plan, out)?;
+    datagrams::last_record(plan, &ours, out)?;
+    datagrams::hello_datagram(mac, client, out)?;
+    datagrams::reply(plan, server, &ours, out)?;
+    datagrams::flight(plan, &theirs, out)
 }

@@ -5,20 +5,19 @@ use crate::show::line;
 use digest::{Hasher, Mac};
 use message::acceptance::Plan;
 use message::{finished, server, writer};
+use std::io;
+use std::io::Write;
 
 // The ClientHello that offers the null cipher with one MAC kind, null compression and explicit numbering.
 pub fn client_hello(offered: Mac) -> [u8; 40] {
-    let random = session::CLIENT_RANDOM;
-    let id = session::ID;
-    let suites = [0, offered.number()];
     let mut out = [0u8; 40];
     writer::write(
         1,
-        &random,
-        &id,
+        &session::CLIENT_RANDOM,
+        &session::ID,
         &[],
         &[],
-        &suites,
+        &[0, offered.number()],
         b"\x00",
         2,
         session::REFRESH,
@@ -29,42 +28,49 @@ pub fn client_hello(offered: Mac) -> [u8; 40] {
 
 // The ServerHello of the plan.
 pub fn server_hello(plan: Plan) -> [u8; 35] {
-    let random = session::SERVER_RANDOM;
-    let id = session::ID;
     let mut out = [0u8; 35];
-    server::write(&random, &id, plan, &mut out);
+    server::write(&session::SERVER_RANDOM, &session::ID, plan, &mut out);
     out
 }
 
-pub fn hellos(mac: Mac, client: &[u8], server: &[u8]) {
-    line(mac, b"client-hello", client);
-    line(mac, b"server-hello", server);
+pub fn hellos<W: Write>(mac: Mac, client: &[u8], server: &[u8], out: &mut W) -> io::Result<()> {
+    line(mac, "client-hello", client, out)?;
+    line(mac, "server-hello", server, out)
 }
 
 // The shore's Finished, which covers both hellos.
-pub fn server_finished(mac: Mac, client: &[u8], server: &[u8]) -> [u8; 15] {
-    let secret = session::SECRET;
+pub fn server_finished<W: Write>(
+    mac: Mac,
+    client: &[u8],
+    server: &[u8],
+    out: &mut W,
+) -> io::Result<[u8; 15]> {
     let hash = Hasher::new().update(client).update(server).finish();
-    let verify = finished::server_verify(&secret, client, server);
+    let verify = finished::server_verify(&session::SECRET, client, server);
     let message = finished::message(verify);
-    line(mac, b"hash-hellos", &hash);
-    line(mac, b"server-verify-data", &verify);
-    line(mac, b"server-finished", &message);
-    message
+    line(mac, "hash-hellos", &hash, out)?;
+    line(mac, "server-verify-data", &verify, out)?;
+    line(mac, "server-finished", &message, out)?;
+    Ok(message)
 }
 
 // The unit's Finished, which covers both hellos and the shore's Finished.
-pub fn client_finished(mac: Mac, client: &[u8], server: &[u8], ours: &[u8]) -> [u8; 15] {
-    let secret = session::SECRET;
+pub fn client_finished<W: Write>(
+    mac: Mac,
+    client: &[u8],
+    server: &[u8],
+    ours: &[u8],
+    out: &mut W,
+) -> io::Result<[u8; 15]> {
     let hash = Hasher::new()
         .update(client)
         .update(server)
         .update(ours)
         .finish();
-    let verify = finished::client_verify(&secret, client, server, ours);
+    let verify = finished::client_verify(&session::SECRET, client, server, ours);
     let message = finished::message(verify);
-    line(mac, b"hash-all", &hash);
-    line(mac, b"client-verify-data", &verify);
-    line(mac, b"client-finished", &message);
-    message
+    line(mac, "hash-all", &hash, out)?;
+    line(mac, "client-verify-data", &verify, out)?;
+    line(mac, "client-finished", &message, out)?;
+    Ok(message)
 }

@@ -2,80 +2,93 @@
 // a record of data from each end, and these two records.
 use crate::session;
 use crate::show::line;
-use digest::{Key, Mac};
+use digest::Mac;
+use message::acceptance::Plan;
 use message::field;
 use record::header::Content;
-use record::{code, keys, written};
+use record::keys::{Keys, Sense, key_number};
+use record::{code, written};
+use std::io;
+use std::io::Write;
 
-pub fn secrets(mac: Mac, refresh: u8) {
-    let client = Mac::client_expansion();
-    let server = Mac::server_expansion();
-    secret(mac, refresh, &client, 0, b"client-secret-0");
-    secret(mac, refresh, &client, 19, b"client-secret-19");
-    secret(mac, refresh, &server, 0, b"server-secret-0");
-    secret(mac, refresh, &server, 19, b"server-secret-19");
-}
-
-pub fn codes(mac: Mac, refresh: u8, ours: &[u8], theirs: &[u8]) {
-    let client = client_key(refresh, 0);
-    let server = server_key(refresh, 0);
-    let later_client = client_key(refresh, 19);
-    let later_server = server_key(refresh, 19);
-    let handshake = written::type_byte(false, true, Content::Handshake);
-    let data = written::type_byte(false, true, Content::Data);
-    code(mac, client, 0, handshake, theirs, b"client-code-0");
-    code(mac, later_client, 19, data, b"report", b"client-code-19");
-    code(mac, server, 0, handshake, ours, b"server-code-0");
-    code(mac, later_server, 19, data, b"answer", b"server-code-19");
-}
-
-pub fn records(mac: Mac, refresh: u8) {
-    let client = client_key(refresh, 19);
-    let server = server_key(refresh, 19);
-    data(mac, client, 19, b"report", b"client-record-19");
-    data(mac, server, 19, b"answer", b"server-record-19");
-}
-
-// The unit's key for a number.
-pub fn client_key(refresh: u8, number: u16) -> Key {
-    let label = Mac::client_expansion();
-    key(&label, refresh, number)
-}
-
-// The shore's key for a number.
-pub fn server_key(refresh: u8, number: u16) -> Key {
-    let label = Mac::server_expansion();
-    key(&label, refresh, number)
-}
-
-fn key(label: &[u8], refresh: u8, number: u16) -> Key {
-    let secret = session::SECRET;
-    let server = session::SERVER_RANDOM;
-    let client = session::CLIENT_RANDOM;
-    keys::record_key(&secret, label, refresh, number, &server, &client)
+// The keys of the handshake.
+pub fn keys(plan: Plan) -> Keys {
+    Keys {
+        secret: session::SECRET,
+        server: session::SERVER_RANDOM,
+        client: session::CLIENT_RANDOM,
+        mac: plan.mac,
+        refresh: plan.refresh,
+    }
 }
 
 // The MAC secret for a number, under the label of its direction.
-fn secret(mac: Mac, refresh: u8, label: &[u8], number: u16, name: &[u8]) {
-    let secret = session::SECRET;
-    let server = session::SERVER_RANDOM;
-    let client = session::CLIENT_RANDOM;
-    let first = keys::key_number(refresh, number);
-    let seed = [(first / 256 % 256) as u8, (first % 256) as u8];
+fn secret(plan: Plan, sense: Sense, number: u16) -> [u8; Mac::SECRET_SIZE] {
+    let label = match sense {
+        Sense::FromUnit => Mac::client_expansion(),
+        Sense::FromShore => Mac::server_expansion(),
+    };
     let mut out = [0u8; Mac::SECRET_SIZE];
-    digest::prf(&secret, label, &seed, &server, &client, &mut out);
-    line(mac, name, &out);
+    digest::prf(
+        &session::SECRET,
+        &label,
+        &key_number(plan.refresh, number).to_be_bytes(),
+        &session::SERVER_RANDOM,
+        &session::CLIENT_RANDOM,
+        &mut out,
+    );
+    out
 }
 
-// The code of a content, as it is sent.
-fn code(mac: Mac, key: Key, number: u16, byte: u8, content: &[u8], name: &[u8]) {
-    let whole = code::code(key, number, byte, content);
-    line(mac, name, mac.cut(&whole));
+pub fn secrets<W: Write>(plan: Plan, out: &mut W) -> io::Result<()> {
+    let secrets = [
+        ("client-secret-0", Sense::FromUnit, 0),
+        ("client-secret-19", Sense::FromUnit, 19),
+        ("server-secret-0", Sense::FromShore, 0),
+        ("server-secret-19", Sense::FromShore, 19),
+    ];
+    for (name, sense, number) in secrets {
+        line(plan.mac, name, &secret(plan, sense, number), out)?;
+    }
+    Ok(())
 }
 
-// A record of data whole, without a length.
-fn data(mac: Mac, key: Key, number: u16, content: &[u8], name: &[u8]) {
-    let mut out = [0u8; 64];
-    let size = code::write_protected(key, mac, false, Content::Data, number, content, &mut out);
-    line(mac, name, field::part(&out, 0, size));
+pub fn codes<W: Write>(plan: Plan, ours: &[u8], theirs: &[u8], out: &mut W) -> io::Result<()> {
+    let keys = keys(plan);
+    let handshake = written::type_byte(false, true, Content::Handshake);
+    let data = written::type_byte(false, true, Content::Data);
+    let code = code::code(keys.key(Sense::FromUnit, 0), 0, handshake, theirs);
+    code_line(plan, "client-code-0", code, out)?;
+    let code = code::code(keys.key(Sense::FromUnit, 19), 19, data, b"report");
+    code_line(plan, "client-code-19", code, out)?;
+    let code = code::code(keys.key(Sense::FromShore, 0), 0, handshake, ours);
+    code_line(plan, "server-code-0", code, out)?;
+    let code = code::code(keys.key(Sense::FromShore, 19), 19, data, b"answer");
+    code_line(plan, "server-code-19", code, out)
+}
+
+pub fn records<W: Write>(plan: Plan, out: &mut W) -> io::Result<()> {
+    data(plan, Sense::FromUnit, b"report", "client-record-19", out)?;
+    data(plan, Sense::FromShore, b"answer", "server-record-19", out)
+}
+
+// A code, as it is sent.
+fn code_line<W: Write>(plan: Plan, name: &str, whole: [u8; 20], out: &mut W) -> io::Result<()> {
+    let mac = plan.mac;
+    line(mac, name, mac.cut(&whole), out)
+}
+
+// A record of data whole, number 19, without a length.
+fn data<W: Write>(
+    plan: Plan,
+    sense: Sense,
+    content: &[u8],
+    name: &str,
+    out: &mut W,
+) -> io::Result<()> {
+    let mac = plan.mac;
+    let key = keys(plan).key(sense, 19);
+    let mut room = [0u8; 64];
+    let size = code::write_protected(key, mac, false, Content::Data, 19, content, &mut room);
+    line(mac, name, field::part(&room, 0, size), out)
 }

@@ -1,39 +1,21 @@
 // A line of the output: the MAC kind, the name of a value, and the value in hexadecimal.
 use digest::Mac;
+use lines::hex::Hex;
+use std::io;
+use std::io::Write;
 
-const STDOUT_FILENO: i32 = 1;
-
-pub fn line(mac: Mac, name: &[u8], value: &[u8]) {
-    named(mac, name);
-    let mut i: usize = 0;
-    while i < value.len() {
-        io::print_hex(STDOUT_FILENO, wide(value[i]), 2);
-        i += 1;
-    }
-    io::write_all(STDOUT_FILENO, b"\n");
+pub fn line<W: Write>(mac: Mac, name: &str, value: &[u8], out: &mut W) -> io::Result<()> {
+    writeln!(out, "{}.{name} {}", kind(mac), Hex(value))
 }
 
 // The line of a checksum, the four bytes as the number that they spell.
-pub fn checksum_line(mac: Mac, name: &[u8], sum: u32) {
-    named(mac, name);
-    io::print_hex(STDOUT_FILENO, sum as u64, 8);
-    io::write_all(STDOUT_FILENO, b"\n");
+pub fn checksum_line<W: Write>(mac: Mac, name: &str, sum: u32, out: &mut W) -> io::Result<()> {
+    writeln!(out, "{}.{name} {sum:08x}", kind(mac))
 }
 
-// What stands before the value.
-fn named(mac: Mac, name: &[u8]) {
+fn kind(mac: Mac) -> &'static str {
     match mac {
-        Mac::Sha80 => {
-            io::write_all(STDOUT_FILENO, b"sha80.");
-        }
-        Mac::Sha => {
-            io::write_all(STDOUT_FILENO, b"sha.");
-        }
+        Mac::Sha80 => "sha80",
+        Mac::Sha => "sha",
     }
-    io::write_all(STDOUT_FILENO, name);
-    io::write_all(STDOUT_FILENO, b" ");
-}
-
-fn wide(x: u8) -> u64 {
-    x as u64
 }

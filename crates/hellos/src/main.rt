@@ -2,46 +2,58 @@
 // a line for each: the refusal number with the field or the condition, or 0 with MAC number and refresh.
 #![tactic(auto)]
 
+ghost use Rattle.std.specs.Prelude.{◌<◌, length, IfSome};
+
+use message::acceptance;
 use message::acceptance::{Condition, Plan, Unheard};
 use message::hello::Field;
-use message::{acceptance, field};
+use std::io;
+use std::io::{BufWriter, Read, Write};
 
-fn main() {
-    let mut buffer = io::large_buffer();
-    let n = io::read_full(0, &mut buffer);
-    let planted = [1u8, 2, 3, 4, 5, 6, 7, 8];
-    hear_all(&buffer[..n], &planted);
+// The most bytes that are read.
+const INPUT: u64 = 65536;
+
+const PLANTED: [u8; 8] = [1, 2, 3, 4, 5, 6, 7, 8];
+
+fn main(rt: HostRuntime) -> io::Result<()> {
+    let mut input = Vec::new(rt.alloc());
+    rt.reader().take(INPUT).read_to_end(&mut input)?;
+    let mut out = BufWriter::new(rt.alloc(), io::writer(&rt))?;
+    hear_all(&input, &mut out)?;
+    out.flush()
 }
 
-fn hear_all(s: &[u8], planted: &[u8]) {
-    let mut at: usize = 0;
-    while at < s.len() {
-        let Some(end) = field::long_end(s, at) else {
-            return;
-        };
-        show(acceptance::hear(field::part(s, at + 2, end), planted));
-        at = end;
+// Each message, from the front; what is cut at the end is left.
+fn hear_all<W: Write>(s: &[u8], out: &mut W) -> io::Result<()> {
+    let mut rest = s;
+    while let Some((message, behind)) = first_of(rest) {
+        show(acceptance::hear(message, &PLANTED), out)?;
+        rest = behind;
     }
+    Ok(())
 }
 
-fn show(heard: Result<Plan, Unheard>) {
+// The first message, and what is behind it.
+fn first_of(s: &[u8]) -> Option<(&[u8], &[u8])>
+    ensures { IfSome result (λ p. length p.1.now < length s.now) }
+{
+    let (size, rest) = s.split_first_chunk::<2>()?;
+    rest.split_at_checked(usize::from(u16::from_be_bytes(*size)))
+}
+
+fn show<W: Write>(heard: Result<Plan, Unheard>, out: &mut W) -> io::Result<()> {
     match heard {
         Ok(plan) => {
             let mac = plan.mac;
-            line(0, mac.number(), plan.refresh);
+            writeln!(out, "0 {} {}", mac.number(), plan.refresh)
         }
-        Err(Unheard::Unacceptable(condition)) => line(13, condition_number(condition), 0),
-        Err(Unheard::Malformed(fault)) => line(12, field_number(fault), 0),
+        Err(Unheard::Unacceptable(condition)) => writeln!(
+            out,
+            "13 {} 0",
+            condition_number(condition)
+        ),
+        Err(Unheard::Malformed(fault)) => writeln!(out, "12 {} 0", field_number(fault)),
     }
-}
-
-fn line(a: u8, b: u8, c: u8) {
-    io::print_decimal(1, a as u64);
-    io::write_all(1, b" ");
-    io::print_decimal(1, b as u64);
-    io::write_all(1, b" ");
-    io::print_decimal(1, c as u64);
-    io::write_all(1, b"\n");
 }
 
 fn condition_number(condition: Condition) -> u8 {

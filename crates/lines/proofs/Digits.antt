@@ -1,16 +1,18 @@
 -- The laws of numbers and byte strings, by one digit or one byte more. Assumes nothing.
 use mathlib.Core.Path.{◌≡◌, refl, sym, ◌∙◌, ap}
 use mathlib.Core.List.{List, [], ◌∷◌, ◌++◌}
-use Prim.Native.Nat.{ℕ, zero, suc, ◌+◌, ◌*◌, ◌<◌, ◌≤◌}
+use Prim.Native.Nat.{ℕ, zero, suc, ◌+◌, ◌*◌, ◌/◌, ◌<◌, ◌≤◌}
 use native.Mathlib.Omega.{arith}
 use native.Mathlib.Numerals.{add-one}
-use lib.ListN.{length, take, drop, get_or, set, drop_of_length-le}
-use lib.Seq.{take-suc, take-suc-set}
+use lib.ListN.{length, take, drop, get_or, drop_of_length-le}
+use lib.Seq.{drop-cons, take-suc}
 use borrow.Author.Tests.{lt-ltb, le-ltb}
 use Rattle.digest.specs.Pick.{pick}
 use Rattle.lines.specs.Decimal.{digit_of, number_from}
 use Rattle.lines.specs.Hex.{hex_digit, bytes_of}
-use Rattle.lines.proofs.Lines.{drop_step}
+
+drop_step : (w : List ℕ) (i : ℕ) → i < length w → drop i w ≡ get_or w i 0 ∷ drop (i + 1) w
+drop_step w i h = drop-cons w i 0 h ∙ ap (λ n. get_or w i 0 ∷ drop n w) (sym (add-one i))
 
 pub number_step : (w : List ℕ) (i n : ℕ) → i < length w → n ≤ 99999999
     → number_from (n * 10 + digit_of (get_or w i 0)) (drop (i + 1) w) ≡ number_from n (drop i w)
@@ -51,11 +53,13 @@ byte_at_lem (a ∷ b ∷ s) (suc i) h =
     (omega (arith, r.0), r.1 ∙ sym (λ j. hex_digit (head_first a b s i j) * 16 + hex_digit (head_second a b s i j)))
 
 -- one byte more
-pub bytes_step : (w to : List ℕ) (i v : ℕ) → 2 * i + 1 < length w → i < length to → take i to ≡ take i (bytes_of w) → v ≡ byte_at w i
-    → take (i + 1) (set to i v) ≡ take (i + 1) (bytes_of w)
-bytes_step w to i v hw ht e ev =
-    let b = byte_at_lem w i hw in
-    ap (λ n. take n (set to i v)) (add-one i)
-    ∙ take-suc-set to i v ht
-    ∙ (λ j. e j ++ ((ev ∙ sym b.1) j ∷ []))
-    ∙ sym (ap (λ n. take n (bytes_of w)) (add-one i) ∙ take-suc (bytes_of w) i 0 b.0)
+pub bytes_step : (w : List ℕ) (i : ℕ) → 2 * i + 1 < length w → take i (bytes_of w) ++ byte_at w i ∷ [] ≡ take (i + 1) (bytes_of w)
+bytes_step w i h =
+    let b = byte_at_lem w i h in
+    ap (λ v. take i (bytes_of w) ++ v ∷ []) (sym b.1) ∙ sym (ap (λ n. take n (bytes_of w)) (add-one i) ∙ take-suc (bytes_of w) i 0 b.0)
+
+pub length-bytes_of : (w : List ℕ) → length (bytes_of w) ≡ length w / 2
+unfolding bytes_of
+length-bytes_of [] = refl
+length-bytes_of (a ∷ []) = refl
+length-bytes_of (a ∷ b ∷ s) = omega (arith, length-bytes_of s)

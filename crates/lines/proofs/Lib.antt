@@ -1,3 +1,3 @@
 -- The laws of what the words of a line say.
-pub mod Lines
 pub mod Digits
+pub mod Held

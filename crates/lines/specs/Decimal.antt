@@ -1,7 +1,7 @@
 -- Numbers: decimal, without sign or leading zero, of at most nine digits.
 use Rattle.std.specs.Prelude.{Bool, true, false, List, [], ◌∷◌, ℕ, ◌+◌, ◌*◌, ◌-◌, length, get_or, ltb, leb, eqb}
 use Rattle.digest.specs.Pick.{pick}
-use Rattle.lines.specs.Words.{every}
+use Rattle.std.specs.List.{list_all}
 
 -- 0 to 9
 abbrev pub is_digit : ℕ → Bool
@@ -21,9 +21,9 @@ abbrev pub number_of : List ℕ → ℕ
 number_of w = number_from 0 w
 
 -- a word is a number of at most `most`
-unfoldable pub is_number : List ℕ → ℕ → Bool
+abbrev pub is_number : List ℕ → ℕ → Bool
 is_number w most =
     pick (eqb (length w) 0) false
     (pick (ltb 9 (length w)) false
     (pick (eqb (get_or w 0 0) 48) (eqb (length w) 1)
-    (pick (every is_digit w) (leb (number_of w) most) false)))
+    (pick (list_all is_digit w) (leb (number_of w) most) false)))

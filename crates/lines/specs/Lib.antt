@@ -3,3 +3,4 @@ pub mod Words
 pub mod Hex
 pub mod Decimal
 pub mod Said
+pub mod Shown

@@ -1,71 +1,50 @@
 // Byte strings in lowercase hex, `-` for the empty one.
-ghost use Rattle.std.specs.Prelude.{◌<◌, ◌≤◌, ◌≡◌, length, take};
-ghost use Rattle.io.specs.Counts.{IsPrefixLen};
+ghost use Rattle.std.specs.Prelude.{◌<◌, ◌≤◌, ◌≡◌, length, take, Some};
+ghost use Rattle.std.specs.List.{list_all};
 ghost use Rattle.lines.specs.Hex.{is_hex_digit, hex_digit, is_bytes, bytes_of};
-ghost use Rattle.lines.specs.Words.{every};
+ghost use Rattle.lines.specs.Shown.{hex_of, string_of};
 
-const DASH: u8 = 45;
+use arrayvec::ArrayVec;
+use std::fmt;
+
+// The most bytes that a byte string of a line spells.
+const BYTES: usize = 4096;
+
+// What a byte string spells.
+pub type Bytes = ArrayVec<u8, BYTES>;
 
 // Whether a word is a byte string.
 pub fn is_bytes(word: &[u8]) -> bool
     ensures { result ≡ is_bytes word.now }
 {
-    if word.len() == 0 {
-        return false;
+    match word {
+        [] => false,
+        [b] => *b == b'-',
+        _ => word.len() % 2 == 0 && all_digits(word),
     }
-    if word.len() == 1 {
-        return word[0] == DASH;
-    }
-    if word.len() % 2 == 1 {
-        return false;
-    }
-    all_digits(word)
 }
 
-// Puts the bytes of a byte string at the front of `to`, as many as have room there, and answers how many.
-pub fn put_bytes(word: &[u8], to: &mut [u8]) -> usize
-    ensures prefix_len { IsPrefixLen result to.new }
-    ensures to_after { take result to.new ≡ take result (bytes_of word.now) }
+// The bytes that a byte string spells, as many as there is room for.
+pub fn bytes(word: &[u8]) -> Bytes
+    ensures { result.items ≡ take BYTES (bytes_of word.now) }
 {
-    let n = least(word.len() / 2, to.len());
-    let mut i: usize = 0;
-    while i < n {
-        to[i] = digit(word[2 * i]) * 16 + digit(word[2 * i + 1]);
-        i += 1;
+    let mut bytes = ArrayVec::new();
+    for i in 0..BYTES.min(word.len() / 2) {
+        bytes.push(digit(word[2 * i]) * 16 + digit(word[2 * i + 1]));
     }
-    n
-}
-
-fn least(a: usize, b: usize) -> usize
-    ensures { (result ≤ a) × (result ≤ b) }
-{
-    if a < b {
-        return a;
-    }
-    b
+    bytes
 }
 
 fn all_digits(word: &[u8]) -> bool
-    ensures { result ≡ every is_hex_digit word.now }
+    ensures { result ≡ list_all is_hex_digit word.now }
 {
-    let mut i: usize = 0;
-    while i < word.len() {
-        if !is_digit(word[i]) {
-            return false;
-        }
-        i += 1;
-    }
-    true
+    word.iter().all(|b| is_digit(*b))
 }
 
 fn is_digit(b: u8) -> bool
     ensures { result ≡ is_hex_digit b }
 {
-    match b {
-        48..=57 => true,
-        97..=102 => true,
-        _ => false,
-    }
+    matches!(b, b'0'..=b'9' | b'a'..=b'f')
 }
 
 // What a digit stands for; 0 for any other byte.
@@ -74,8 +53,38 @@ fn digit(b: u8) -> u8
     ensures upper_bound { result < 16 }
 {
     match b {
-        48..=57 => b - 48,
-        97..=102 => b - 87,
+        b'0'..=b'9' => b - b'0',
+        b'a'..=b'f' => b - b'a' + 10,
         _ => 0,
+    }
+}
+
+// Bytes as two hex digits each.
+#[derive(Clone, Copy)]
+pub struct Hex<'a>(pub &'a [u8]);
+
+impl fmt::Display for Hex<'_> {
+    ghost output = { λ h. Some (hex_of h.0.now) };
+
+    fn fmt<W: fmt::Write>(&self, f: &mut fmt::Formatter<W>) -> fmt::Result {
+        for &b in self.0 {
+            write!(f, "{b:02x}")?;
+        }
+        Ok(())
+    }
+}
+
+// A byte string: bytes in hex, `-` for none.
+#[derive(Clone, Copy)]
+pub struct ByteString<'a>(pub &'a [u8]);
+
+impl fmt::Display for ByteString<'_> {
+    ghost output = { λ s. Some (string_of s.0.now) };
+
+    fn fmt<W: fmt::Write>(&self, f: &mut fmt::Formatter<W>) -> fmt::Result {
+        match self.0 {
+            [] => write!(f, "-"),
+            bytes => write!(f, "{}", Hex(bytes)),
+        }
     }
 }

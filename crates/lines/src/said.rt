@@ -5,13 +5,12 @@ ghost use Rattle.lines.specs.Said.{is_named, bytes_at, number_at};
 use crate::hex::is_bytes;
 use crate::number::is_number;
 use crate::words::word;
-use digest::same_code;
 
 // Whether the word of an index is this one.
 pub fn named(line: &[u8], index: usize, name: &[u8]) -> bool
     ensures { result ≡ is_named line.now index name.now }
 {
-    same_code(word(line, index), name)
+    word(line, index) == name
 }
 
 // Whether the word of an index is a byte string.

@@ -2,148 +2,116 @@
 // says, and what the gatherer answers. A length of 65535 is a drop: one byte follows, the reference.
 #![tactic(auto)]
 
-ghost use Rattle.std.specs.Prelude.{◌≤◌, ◌<◌, length};
+ghost use Rattle.std.specs.Prelude.{◌<◌, length, IfSome};
 
 use gather::{Answer, Gatherer, Heading, Ports, Refusal};
+use lines::hex::Hex;
+use std::io;
+use std::io::{BufWriter, Read, Write};
 
-fn main() {
-    let mut buffer = io::large_buffer();
-    let n = io::read_full(0, &mut buffer);
-    let mut store = [0u8; 5600];
-    let mut assembly = [0u8; 1400];
-    gather_all(&buffer[..n], &mut store, &mut assembly);
+// The most bytes that are read.
+const INPUT: u64 = 65536;
+
+// The length that says a drop.
+const DROP: u16 = 65535;
+
+// One item of the input.
+#[derive(Clone, Copy)]
+enum Item<'a> {
+    Message(&'a [u8]),
+    Drop(u8),
+}
+
+fn main(rt: HostRuntime) -> io::Result<()> {
+    let mut input = Vec::new(rt.alloc());
+    rt.reader().take(INPUT).read_to_end(&mut input)?;
+    let mut out = BufWriter::new(rt.alloc(), io::writer(&rt))?;
+    gather_all(&input, &mut out)?;
+    out.flush()
 }
 
 // Each message or drop, from the front; what is cut at the end is left.
-fn gather_all(s: &[u8], store: &mut [u8], assembly: &mut [u8]) {
+fn gather_all<W: Write>(s: &[u8], out: &mut W) -> io::Result<()> {
+    let mut store = [0u8; 5600];
+    let mut assembly = [0u8; 1400];
     let mut g = Gatherer::fresh();
-    let mut at: usize = 0;
-    while at < s.len() {
-        let end = end_of(s, at);
-        if end <= at {
-            return;
+    let mut rest = s;
+    while let Some((item, behind)) = first_of(rest) {
+        match item {
+            Item::Message(message) => gathered(&mut g, message, &mut store, &mut assembly, out)?,
+            Item::Drop(reference) => {
+                writeln!(out, "dropped")?;
+                g.drop(reference);
+            }
         }
-        item(&mut g, &s[at..end], store, assembly);
-        at = end;
+        rest = behind;
     }
+    Ok(())
 }
 
-// Where the item that begins at `at` ends; 0 where it is cut.
-fn end_of(s: &[u8], at: usize) -> usize
-    requires { at < length s.now }
-    ensures { result ≤ length s.now }
+// The first item, and what is behind it. Of fewer than three bytes there is none.
+fn first_of(s: &[u8]) -> Option<(Item<'_>, &[u8])>
+    ensures { IfSome result (λ p. length p.1.now < length s.now) }
 {
-    if s.len() - at < 3 {
-        return 0;
+    let (size, rest) = s.split_first_chunk::<2>()?;
+    let (reference, behind) = rest.split_first()?;
+    let size = u16::from_be_bytes(*size);
+    if size == DROP {
+        return Some((Item::Drop(*reference), behind));
     }
-    let size = pair(s[at], s[at + 1]);
-    if size == 65535 {
-        return at + 3;
-    }
-    if s.len() - at - 2 < size {
-        return 0;
-    }
-    at + 2 + size
-}
-
-fn pair(a: u8, b: u8) -> usize
-    ensures { result ≤ 65535 }
-{
-    (a as usize) * 256 + (b as usize)
-}
-
-// One item, with the two bytes before it.
-fn item(g: &mut Gatherer, s: &[u8], store: &mut [u8], assembly: &mut [u8]) {
-    if s.len() < 2 {
-        return;
-    }
-    if pair(s[0], s[1]) == 65535 {
-        if s.len() == 3 {
-            io::write_all(1, b"dropped\n");
-            g.drop(s[2]);
-        }
-        return;
-    }
-    gathered(g, &s[2..], store, assembly);
+    let (message, behind) = rest.split_at_checked(usize::from(size))?;
+    Some((Item::Message(message), behind))
 }
 
 // One message.
-fn gathered(g: &mut Gatherer, message: &[u8], store: &mut [u8], assembly: &mut [u8]) {
-    show_heading(gather::read(message));
+fn gathered<W: Write>(
+    g: &mut Gatherer,
+    message: &[u8],
+    store: &mut [u8],
+    assembly: &mut [u8],
+    out: &mut W,
+) -> io::Result<()> {
+    show_heading(gather::read(message), out)?;
     let answer = g.step(store, message, assembly);
-    show(answer);
-    show_bytes(gather::datagram(answer, message, assembly));
+    show(answer, out)?;
+    writeln!(out, "{}", Hex(gather::datagram(answer, message, assembly)))
 }
 
-fn show_heading(heading: Result<Heading, Refusal>) {
+fn show_heading<W: Write>(heading: Result<Heading, Refusal>, out: &mut W) -> io::Result<()> {
     match heading {
-        Err(_) => {
-            io::write_all(1, b"no\n");
-        }
-        Ok(Heading::Alone(ports, start)) => {
-            io::write_all(1, b"alone ");
-            show_ports(ports);
-            number(start as u64);
-            io::write_all(1, b"\n");
-        }
-        Ok(Heading::Part(ports, start, place)) => {
-            io::write_all(1, b"part ");
-            show_ports(ports);
-            number(start as u64);
-            number(place.reference as u64);
-            number(place.total as u64);
-            number(place.place as u64);
-            io::write_all(1, b"\n");
-        }
+        Err(_) => writeln!(out, "no"),
+        Ok(Heading::Alone(ports, start)) => writeln!(out, "alone {}{start} ", Shown(ports)),
+        Ok(Heading::Part(ports, start, place)) => writeln!(
+            out,
+            "part {}{start} {} {} {} ",
+            Shown(ports),
+            place.reference,
+            place.total,
+            place.place
+        ),
     }
 }
 
-fn show(answer: Result<Answer, Refusal>) {
+fn show<W: Write>(answer: Result<Answer, Refusal>, out: &mut W) -> io::Result<()> {
     match answer {
-        Err(refusal) => {
-            io::write_all(1, b"refused ");
-            number(u64::from(u8::from(refusal)));
-        }
-        Ok(Answer::Waiting(ports, reference, have, total)) => {
-            io::write_all(1, b"waiting ");
-            show_ports(ports);
-            number(reference as u64);
-            number(have as u64);
-            number(total as u64);
-        }
-        Ok(Answer::Received(ports, start)) => {
-            io::write_all(1, b"received ");
-            show_ports(ports);
-            number(start as u64);
-        }
-        Ok(Answer::Gathered(ports, count)) => {
-            io::write_all(1, b"gathered ");
-            show_ports(ports);
-            number(count as u64);
-        }
+        Err(refusal) => write!(out, "refused {} ", u8::from(refusal)),
+        Ok(Answer::Waiting(ports, reference, have, total)) => write!(
+            out,
+            "waiting {}{reference} {have} {total} ",
+            Shown(ports)
+        ),
+        Ok(Answer::Received(ports, start)) => write!(out, "received {}{start} ", Shown(ports)),
+        Ok(Answer::Gathered(ports, count)) => write!(out, "gathered {}{count} ", Shown(ports)),
     }
 }
 
-fn show_ports(ports: Ports) {
-    number(ports.destination as u64);
-    number(ports.originator as u64);
-}
+// Both ports, a space behind each.
+#[derive(Clone, Copy)]
+struct Shown(Ports);
 
-fn number(n: u64) {
-    io::print_decimal(1, n);
-    io::write_all(1, b" ");
-}
-
-// The bytes in hexadecimal, and the line's end.
-fn show_bytes(s: &[u8]) {
-    let mut i: usize = 0;
-    while i < s.len() {
-        show_byte(s[i]);
-        i += 1;
+impl std::fmt::Display for Shown {
+    fn fmt<W: std::fmt::Write>(&self, f: &mut std::fmt::Formatter<W>) -> std::fmt::Result {
+        let ports = self.0;
+        write!(f, "{} {} ", ports.destination, ports.originator)
     }
-    io::write_all(1, b"\n");
-}
-
-fn show_byte(b: u8) {
-    io::print_hex(1, b as u64, 2);
 }

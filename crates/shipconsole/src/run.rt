@@ -1,157 +1,134 @@
-// Running the call that a line makes. Its words were read when the call was told (`call_in`), so that each says what it should.
-ghost use Rattle.std.specs.Prelude.{◌≡◌, length};
-
-use crate::call::{Call, call_in};
-use crate::console::{Console, Ran};
+// Running the call that a line makes. Its words were read when the call was told (`call_of`), so that each says what it should.
+use crate::call::{Call, call_of};
+use crate::console::Console;
 use crate::outcome;
-use lines::hex::put_bytes;
+use callwords::call::{NUMBER, ROOM};
+use lines::hex::bytes;
 use lines::number::{number, room};
+use lines::run::{Driven, bad_line};
 use lines::said::named;
 use lines::words::word;
+use std::io;
+use std::io::Write;
 use unit::calls;
+use unit::calls::Called;
 use unit::hello::{again, hello};
 use unit::receive::receive;
-use unit::send::{send_alert, send_data};
+use unit::send::{Sent, send_alert, send_data};
+use unit::unit::Unit;
 
-// Runs a line, without its newline.
-pub fn run(console: Console, line: &[u8], text: &mut [u8], at: usize) -> Ran {
-    match call_in(console.connected, line) {
-        Call::Fresh => run_fresh(console, line, text, at),
-        Call::Hello => {
-            let mut out = output();
-            run_hello(console, line, &mut out, text, at)
+impl Driven for Console {
+    // Any call but `fresh` needs a unit.
+    fn run<W: Write>(&mut self, line: &[u8], out: &mut W) -> io::Result<()> {
+        match (call_of(line), self.unit) {
+            (Some(Call::Fresh), _) => self.fresh(line, out),
+            (Some(call), Some(unit)) => self.run_on(unit, call, line, out),
+            _ => bad_line(out),
         }
-        Call::Again => {
-            let mut out = output();
-            run_again(console, line, &mut out, text, at)
-        }
-        Call::Receive => {
-            let mut out = output();
-            run_receive(console, line, &mut out, text, at)
-        }
-        Call::Send => {
-            let mut out = output();
-            run_send(console, line, &mut out, text, at)
-        }
-        Call::Alert => {
-            let mut out = output();
-            run_alert(console, line, &mut out, text, at)
-        }
-        Call::Close => run_close(console, text, at),
-        Call::Start => run_start(console, text, at),
-        Call::Bad => outcome::bad_line(console, text, at),
     }
 }
 
-// The output that a line lends a part of: as many bytes as it may ask for at most.
-fn output() -> [u8; 2048]
-    ensures { 2048 ≡ length result }
-{
-    [0; 2048]
-}
-
-fn run_fresh(console: Console, line: &[u8], text: &mut [u8], at: usize) -> Ran {
-    let mut id = io::buffer();
-    let n = put_bytes(word(line, 1), &mut id);
-    let mut secret = io::buffer();
-    let m = put_bytes(word(line, 2), &mut secret);
-    let width = number(word(line, 3), 999999999) as u32;
-    fresh(console, &id[..n], &secret[..m], width, text, at)
-}
-
-// A refused fresh leaves unit and tally as they were.
-fn fresh(
-    console: Console,
-    id: &[u8],
-    secret: &[u8],
-    width: u32,
-    text: &mut [u8],
-    at: usize,
-) -> Ran {
-    let called = calls::fresh(id, secret, width);
-    let outcome = called.outcome;
-    match outcome {
-        Ok(()) => {
-            let unit = called.unit;
-            outcome::done(Console::of(unit), b"fresh", outcome, text, at)
+impl Console {
+    // A call on the unit.
+    fn run_on<W: Write>(
+        &mut self,
+        unit: Unit,
+        call: Call,
+        line: &[u8],
+        out: &mut W,
+    ) -> io::Result<()> {
+        match call {
+            Call::Hello => self.hello(unit, line, out),
+            Call::Again => self.again(unit, line, out),
+            Call::Receive => self.receive(unit, line, out),
+            Call::Send => self.send(unit, line, out),
+            Call::Alert => self.alert(unit, line, out),
+            Call::Close => self.called("close", calls::close(unit), out),
+            Call::Start => self.called("start", calls::start(unit), out),
+            Call::Fresh => bad_line(out),
         }
-        Err(_) => outcome::done(console, b"fresh", outcome, text, at),
     }
-}
 
-fn run_hello(console: Console, line: &[u8], out: &mut [u8], text: &mut [u8], at: usize) -> Ran {
-    let mut random = io::buffer();
-    let n = put_bytes(word(line, 1), &mut random);
-    let mut macs = io::buffer();
-    let m = put_bytes(word(line, 2), &mut macs);
-    let refresh = number(word(line, 3), 999999999) as u32;
-    let size = room(word(line, 4), out);
-    let unit = console.unit;
-    let sent = hello(unit, &random[..n], &macs[..m], refresh, &mut out[..size]);
-    let left = console.with_unit(sent.unit);
-    let outcome = sent.outcome;
-    outcome::sent(left, b"hello", outcome, sent.written, out, text, at)
-}
+    // A refused fresh leaves unit and tally as they were.
+    fn fresh<W: Write>(&mut self, line: &[u8], out: &mut W) -> io::Result<()> {
+        let id = bytes(word(line, 1));
+        let secret = bytes(word(line, 2));
+        let width = number(word(line, 3), NUMBER) as u32;
+        let called = calls::fresh(&id, &secret, width);
+        let outcome = called.outcome;
+        if let Ok(()) = outcome {
+            self.connect(called.unit);
+        }
+        outcome::done(self, "fresh", outcome, out)
+    }
 
-fn run_again(console: Console, line: &[u8], out: &mut [u8], text: &mut [u8], at: usize) -> Ran {
-    let size = room(word(line, 1), out);
-    let unit = console.unit;
-    let sent = again(unit, &mut out[..size]);
-    let left = console.with_unit(sent.unit);
-    let outcome = sent.outcome;
-    outcome::sent(left, b"again", outcome, sent.written, out, text, at)
-}
+    // A call that takes no argument.
+    fn called<W: Write>(&mut self, name: &str, called: Called, out: &mut W) -> io::Result<()> {
+        self.unit = Some(called.unit);
+        outcome::done(self, name, called.outcome, out)
+    }
 
-fn run_receive(console: Console, line: &[u8], out: &mut [u8], text: &mut [u8], at: usize) -> Ran {
-    let mut datagram = io::buffer();
-    let n = put_bytes(word(line, 1), &mut datagram);
-    let size = room(word(line, 2), out);
-    let unit = console.unit;
-    let received = receive(unit, &datagram[..n], &mut out[..size]);
-    let left = console.counted(received);
-    outcome::taken(left, received, out, text, at)
-}
+    fn hello<W: Write>(&mut self, unit: Unit, line: &[u8], out: &mut W) -> io::Result<()> {
+        let random = bytes(word(line, 1));
+        let macs = bytes(word(line, 2));
+        let refresh = number(word(line, 3), NUMBER) as u32;
+        let mut lent = [0u8; ROOM];
+        let size = room(word(line, 4), &lent);
+        let sent = hello(unit, &random, &macs, refresh, &mut lent[..size]);
+        self.sent("hello", sent, &lent, out)
+    }
 
-fn run_send(console: Console, line: &[u8], out: &mut [u8], text: &mut [u8], at: usize) -> Ran {
-    let mut data = io::buffer();
-    let n = put_bytes(word(line, 1), &mut data);
-    let size = room(word(line, 2), out);
-    let unit = console.unit;
-    let sent = send_data(unit, &data[..n], &mut out[..size]);
-    let left = console.with_unit(sent.unit);
-    let outcome = sent.outcome;
-    outcome::sent(left, b"send", outcome, sent.written, out, text, at)
-}
+    fn again<W: Write>(&mut self, unit: Unit, line: &[u8], out: &mut W) -> io::Result<()> {
+        let mut lent = [0u8; ROOM];
+        let size = room(word(line, 1), &lent);
+        let sent = again(unit, &mut lent[..size]);
+        self.sent("again", sent, &lent, out)
+    }
 
-fn run_alert(console: Console, line: &[u8], out: &mut [u8], text: &mut [u8], at: usize) -> Ran {
-    let protected = named(line, 1, b"protected");
-    let level = number(word(line, 2), 255) as u8;
-    let description = number(word(line, 3), 255) as u8;
-    let mut record = io::buffer();
-    let n = put_bytes(word(line, 4), &mut record);
-    let size = room(word(line, 5), out);
-    let unit = console.unit;
-    let sent = send_alert(
-        unit,
-        protected,
-        level,
-        description,
-        &record[..n],
-        &mut out[..size],
-    );
-    let left = console.with_unit(sent.unit);
-    let outcome = sent.outcome;
-    outcome::sent(left, b"alert", outcome, sent.written, out, text, at)
-}
+    fn receive<W: Write>(&mut self, unit: Unit, line: &[u8], out: &mut W) -> io::Result<()> {
+        let datagram = bytes(word(line, 1));
+        let mut lent = [0u8; ROOM];
+        let size = room(word(line, 2), &lent);
+        let received = receive(unit, &datagram, &mut lent[..size]);
+        self.count(received);
+        outcome::taken(self, received, &lent, out)
+    }
 
-fn run_close(console: Console, text: &mut [u8], at: usize) -> Ran {
-    let called = calls::close(console.unit);
-    let outcome = called.outcome;
-    outcome::done(console.with_unit(called.unit), b"close", outcome, text, at)
-}
+    fn send<W: Write>(&mut self, unit: Unit, line: &[u8], out: &mut W) -> io::Result<()> {
+        let content = bytes(word(line, 1));
+        let mut lent = [0u8; ROOM];
+        let size = room(word(line, 2), &lent);
+        let sent = send_data(unit, &content, &mut lent[..size]);
+        self.sent("send", sent, &lent, out)
+    }
 
-fn run_start(console: Console, text: &mut [u8], at: usize) -> Ran {
-    let called = calls::start(console.unit);
-    let outcome = called.outcome;
-    outcome::done(console.with_unit(called.unit), b"start", outcome, text, at)
+    fn alert<W: Write>(&mut self, unit: Unit, line: &[u8], out: &mut W) -> io::Result<()> {
+        let protected = named(line, 1, b"protected");
+        let level = number(word(line, 2), 255) as u8;
+        let description = number(word(line, 3), 255) as u8;
+        let record = bytes(word(line, 4));
+        let mut lent = [0u8; ROOM];
+        let size = room(word(line, 5), &lent);
+        let sent = send_alert(
+            unit,
+            protected,
+            level,
+            description,
+            &record,
+            &mut lent[..size],
+        );
+        self.sent("alert", sent, &lent, out)
+    }
+
+    // What a call that sends gave.
+    fn sent<W: Write>(
+        &mut self,
+        name: &str,
+        sent: Sent,
+        lent: &[u8],
+        out: &mut W,
+    ) -> io::Result<()> {
+        self.unit = Some(sent.unit);
+        outcome::sent(self, name, sent.outcome, sent.written, lent, out)
+    }
 }

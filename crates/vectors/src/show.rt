@@ -1,13 +1,14 @@
 // A line of the output: a name, a value as it was published, and a value as it was computed.
-const STDOUT_FILENO: i32 = 1;
+use lines::hex::Hex;
+use std::fmt::Display;
+use std::io;
+use std::io::Write;
 
-pub fn line(name: &[u8], published: &[u8], computed: &[u8]) {
-    io::write_all(STDOUT_FILENO, name);
-    io::write_all(STDOUT_FILENO, b" ");
-    io::write_all(STDOUT_FILENO, published);
-    io::write_all(STDOUT_FILENO, b" ");
-    for byte in computed {
-        io::print_hex(STDOUT_FILENO, u64::from(*byte), 2);
-    }
-    io::write_all(STDOUT_FILENO, b"\n");
+pub fn line<N: Display + Drop, W: Write>(
+    name: N,
+    published: &str,
+    computed: &[u8],
+    out: &mut W,
+) -> io::Result<()> {
+    writeln!(out, "{name} {published} {}", Hex(computed))
 }

@@ -1,34 +1,33 @@
 // The facts of a record that is refused, by its reason.
 use crate::content::put_content;
-use crate::hello::{part_of, put_field, put_first};
-use crate::put::{put_bytes, put_with};
+use crate::hello::{field_name, part_of, put_first};
 use connection::sent::SentRecords;
-use lines::text::{put, put_word};
+use lines::hex::ByteString;
+use std::io;
+use std::io::Write;
 use why::{Reason, Under, Why};
 
 // The size of the contents of a Finished.
 const FINISHED: usize = 12;
 
 // Nothing further for 7 and 8.
-pub(crate) fn put_facts(
+pub(crate) fn put_facts<W: Write>(
     reason: Reason,
     w: Why,
     edition: u8,
     d: &[u8],
-    text: &mut [u8],
-    at: usize,
-) -> usize {
-    let content = w.content;
+    out: &mut W,
+) -> io::Result<()> {
     match reason {
         Reason::Forged {
             number,
             fragment,
             key,
             code,
-        } => {
-            let end = put_forged(number, fragment, text, at);
-            put_key(b" keys ", key, code, text, end)
-        }
+        } => write!(
+            out,
+            " number {number} fragment {fragment} keys {key}/{code}"
+        ),
         Reason::ForgedTwice {
             number,
             fragment,
@@ -37,9 +36,11 @@ pub(crate) fn put_facts(
             open_key,
             open_code,
         } => {
-            let end = put_forged(number, fragment, text, at);
-            let end = put_key(b" keys ", started_key, started_code, text, end);
-            put_key(b",", open_key, open_code, text, end)
+            write!(out, " number {number} fragment {fragment}")?;
+            write!(
+                out,
+                " keys {started_key}/{started_code},{open_key}/{open_code}"
+            )
         }
         Reason::TooOld {
             under,
@@ -47,9 +48,8 @@ pub(crate) fn put_facts(
             highest,
             limit,
         } => {
-            let end = put_under(under, number, text, at);
-            let end = put_with(b" highest ", highest as u64, text, end);
-            put_with(b" limit ", limit as u64, text, end)
+            put_under(under, number, out)?;
+            write!(out, " highest {highest} limit {limit}")
         }
         Reason::Repeated {
             under,
@@ -57,16 +57,15 @@ pub(crate) fn put_facts(
             highest,
             mark,
         } => {
-            let end = put_under(under, number, text, at);
-            let end = put_with(b" highest ", highest as u64, text, end);
-            put_with(b" mark ", mark as u64, text, end)
+            put_under(under, number, out)?;
+            write!(out, " highest {highest} mark {mark}")
         }
-        Reason::BadHello { field } => put_field(field, text, at),
+        Reason::BadHello { field } => write!(out, " field {}", field_name(field)),
         Reason::BadClear {
             size,
             first,
             second,
-        } => put_content(content, size, first, second, text, at),
+        } => put_content(w.content, size, first, second, out),
         Reason::BadProtected {
             under,
             number,
@@ -74,83 +73,46 @@ pub(crate) fn put_facts(
             first,
             second,
         } => {
-            let end = put_under(under, number, text, at);
-            put_content(content, size, first, second, text, end)
+            put_under(under, number, out)?;
+            put_content(w.content, size, first, second, out)
         }
         Reason::Unacceptable {
             condition,
             from,
             size,
-        } => put_first(condition, edition, part_of(d, from, size), text, at),
+        } => put_first(condition, edition, part_of(d, from, size), out),
         Reason::Checksum { checksum } => {
-            let end = put(text, at, b" checksum ");
-            let end = put_word(text, end, checksum);
-            put_sent(w.sent, text, end)
+            write!(out, " checksum {checksum:08x}")?;
+            put_sent(w.sent, out)
         }
         Reason::WrongFinished {
             under,
             number,
             from,
         } => {
-            let end = put_under(under, number, text, at);
-            put_bytes(b" found ", part_of(d, from, FINISHED), text, end)
+            put_under(under, number, out)?;
+            write!(out, " found {}", ByteString(part_of(d, from, FINISHED)))
         }
-        _ => at,
+        _ => Ok(()),
     }
 }
 
-// ` number N fragment L`
-fn put_forged(number: u16, fragment: usize, text: &mut [u8], at: usize) -> usize {
-    let end = put_with(b" number ", number as u64, text, at);
-    put_with(b" fragment ", fragment as u64, text, end)
-}
-
-// A key number and the size of the codes made with it.
-fn put_key(name: &[u8], key: u16, code: usize, text: &mut [u8], at: usize) -> usize {
-    let end = put_with(name, key as u64, text, at);
-    put_with(b"/", code as u64, text, end)
-}
-
 // ` under open number N`, ` under started number N`
-fn put_under(under: Under, number: u16, text: &mut [u8], at: usize) -> usize {
+fn put_under<W: Write>(under: Under, number: u16, out: &mut W) -> io::Result<()> {
     match under {
-        Under::Open => put_with(b" under open number ", number as u64, text, at),
-        Under::Started => put_with(b" under started number ", number as u64, text, at),
+        Under::Open => write!(out, " under open number {number}"),
+        Under::Started => write!(out, " under started number {number}"),
     }
 }
 
 // ` sent X,..`, the newest first, `-` for none.
-fn put_sent(sent: SentRecords, text: &mut [u8], at: usize) -> usize {
-    let count = sent.count;
-    if count == 0 {
-        return put(text, at, b" sent -");
+fn put_sent<W: Write>(sent: SentRecords, out: &mut W) -> io::Result<()> {
+    if sent.count == 0 {
+        return write!(out, " sent -");
     }
-    let sums = sent.checksums;
-    let end = put(text, at, b" sent ");
-    put_sums(sums, count, text, end)
-}
-
-fn put_sums(sums: [u32; 8], count: u32, text: &mut [u8], at: usize) -> usize {
-    let end = put_word(text, at, sums[0]);
-    let end = put_sum(sums[1], 1, count, text, end);
-    let end = put_sum(sums[2], 2, count, text, end);
-    let end = put_sum(sums[3], 3, count, text, end);
-    put_older(sums, count, text, end)
-}
-
-// Those behind the newest four.
-fn put_older(sums: [u32; 8], count: u32, text: &mut [u8], at: usize) -> usize {
-    let end = put_sum(sums[4], 4, count, text, at);
-    let end = put_sum(sums[5], 5, count, text, end);
-    let end = put_sum(sums[6], 6, count, text, end);
-    put_sum(sums[7], 7, count, text, end)
-}
-
-// The checksum behind so many others, if there are more.
-fn put_sum(sum: u32, others: u32, count: u32, text: &mut [u8], at: usize) -> usize {
-    if count <= others {
-        return at;
+    write!(out, " sent {:08x}", sent.checksums[0])?;
+    for sum in sent.checksums.iter().take(sent.count as usize).skip(1) {
+        write!(out, ",{sum:08x}")?;
     }
-    let end = put(text, at, b",");
-    put_word(text, end, sum)
+    Ok(())
 }

@@ -1,93 +1,79 @@
 // 12 and 13 of a hello: the first field at fault, or the first condition that fails with what the hello had.
-use crate::put::{put_bytes, put_with};
 use digest::mac_named;
-use lines::text::{put, put_number};
+use lines::hex::ByteString;
 use message::acceptance::Condition;
 use message::field::part;
 use message::hello::Field;
+use std::io;
+use std::io::Write;
 
-// ` field F`
-pub(crate) fn put_field(field: Field, text: &mut [u8], at: usize) -> usize {
-    let end = put(text, at, b" field ");
+pub(crate) fn field_name(field: Field) -> &'static str {
     match field {
-        Field::Header => put(text, end, b"header"),
-        Field::Size => put(text, end, b"size"),
-        Field::Version => put(text, end, b"version"),
-        Field::Random => put(text, end, b"random"),
-        Field::SessionId => put(text, end, b"session"),
-        Field::ClientKeyIds => put(text, end, b"client-ids"),
-        Field::TrustedKeyIds => put(text, end, b"trusted-ids"),
-        Field::CipherSuites => put(text, end, b"suites"),
-        Field::CompressionMethods => put(text, end, b"compressions"),
-        Field::SequenceNumberMode => put(text, end, b"numbering"),
-        Field::KeyRefresh => put(text, end, b"refresh"),
-        Field::Rest => put(text, end, b"end"),
+        Field::Header => "header",
+        Field::Size => "size",
+        Field::Version => "version",
+        Field::Random => "random",
+        Field::SessionId => "session",
+        Field::ClientKeyIds => "client-ids",
+        Field::TrustedKeyIds => "trusted-ids",
+        Field::CipherSuites => "suites",
+        Field::CompressionMethods => "compressions",
+        Field::SequenceNumberMode => "numbering",
+        Field::KeyRefresh => "refresh",
+        Field::Rest => "end",
     }
 }
 
 // ` first C` and the bytes that the hello had there.
-pub(crate) fn put_first(
+pub(crate) fn put_first<W: Write>(
     condition: Condition,
     edition: u8,
     had: &[u8],
-    text: &mut [u8],
-    at: usize,
-) -> usize {
+    out: &mut W,
+) -> io::Result<()> {
+    let first = had.first().copied().unwrap_or(0);
     match condition {
-        Condition::Version => put_with(b" first version ", byte_at(had, 0) as u64, text, at),
-        Condition::SessionId => put_bytes(b" first session ", had, text, at),
-        Condition::CipherSuite => put_pairs(edition, had, text, at),
-        Condition::Compression => put_bytes(b" first compression ", had, text, at),
-        Condition::Numbering => put_with(b" first numbering ", byte_at(had, 0) as u64, text, at),
+        Condition::Version => write!(out, " first version {first}"),
+        Condition::SessionId => write!(out, " first session {}", ByteString(had)),
+        Condition::CipherSuite => put_pairs(edition, had, out),
+        Condition::Compression => write!(out, " first compression {}", ByteString(had)),
+        Condition::Numbering => write!(out, " first numbering {first}"),
     }
 }
 
 // ` first pair C/M,..`
-fn put_pairs(edition: u8, pairs: &[u8], text: &mut [u8], at: usize) -> usize {
-    let mut end = put(text, at, b" first pair ");
-    let mut i: usize = 0;
-    while i < pairs.len() {
-        end = put_mark(i, text, end);
-        end = put_half(i, edition, pairs[i], text, end);
-        i += 1;
+fn put_pairs<W: Write>(edition: u8, pairs: &[u8], out: &mut W) -> io::Result<()> {
+    write!(out, " first pair ")?;
+    for (i, pair) in pairs.chunks(2).enumerate() {
+        if 0 < i {
+            write!(out, ",")?;
+        }
+        put_pair(edition, pair, out)?;
     }
-    end
+    Ok(())
 }
 
-// What stands before a byte: a pair's cipher is at an even place, its MAC kind behind it.
-fn put_mark(i: usize, text: &mut [u8], at: usize) -> usize {
-    if i == 0 {
-        return at;
+// A cipher, and the MAC kind behind it.
+fn put_pair<W: Write>(edition: u8, pair: &[u8], out: &mut W) -> io::Result<()> {
+    match pair {
+        [cipher, mac, ..] => {
+            write!(out, "{cipher}/")?;
+            put_mac(edition, *mac, out)
+        }
+        [cipher] => write!(out, "{cipher}"),
+        [] => Ok(()),
     }
-    if i % 2 == 0 {
-        return put(text, at, b",");
-    }
-    put(text, at, b"/")
-}
-
-fn put_half(i: usize, edition: u8, byte: u8, text: &mut [u8], at: usize) -> usize {
-    if i % 2 == 0 {
-        return put_number(text, at, byte as u64);
-    }
-    put_mac(edition, byte, text, at)
 }
 
 // The name in that edition of the list, the number where it is not listed.
-fn put_mac(edition: u8, mac: u8, text: &mut [u8], at: usize) -> usize {
+fn put_mac<W: Write>(edition: u8, mac: u8, out: &mut W) -> io::Result<()> {
     match mac_named(edition, mac) {
-        Ok(named) => put(text, at, named.name()),
-        Err(_) => put_number(text, at, mac as u64),
+        Ok(named) => out.write_all(named.name()),
+        Err(_) => write!(out, "{mac}"),
     }
 }
 
 // As many bytes from a place on as there are, at most `size`.
 pub(crate) fn part_of(d: &[u8], from: usize, size: usize) -> &[u8] {
     part(part(d, from, d.len()), 0, size)
-}
-
-fn byte_at(s: &[u8], at: usize) -> u8 {
-    if at < s.len() {
-        return s[at];
-    }
-    0
 }

@@ -7,6 +7,5 @@ mod facts;
 mod framing;
 mod hello;
 mod point;
-mod put;
 
 pub use asked::{put_asked, put_why};

@@ -1,23 +1,20 @@
--- `words::word`: the words from `from` on, past the first `i`, are those of the line.
-use mathlib.Core.Path.{sym, ◌∙◌}
-use native.Mathlib.Omega.{arith}
-use Rattle.lines.proofs.Lines.{word_next, word_none, word_here}
+-- `words::word`: the word is the item of that index of the chain, or empty behind the last.
+use Rattle.std.proofs.Common.{◌≡◌, Option, Some, None, List, [], ℕ, Bor, rules, tests, refl, ◌∙◌, ap}
+use Rattle.std.specs.Option.{option_map, unwrap_or}
+use Rattle.std.proofs.lemmas.Iterator.Consumers.{nth_from_yields_List}
+use Rattle.std.proofs.lemmas.Iterator.Splits.{YieldsList-from_slice_split}
+use Rattle.lines.specs.Words.{is_space, word_at}
 use Rattle.lines.proofs.words.word.Goals as goal
 
-pub returns-then-line-end : goal.returns-then-line-end
-returns-then-line-end c =
-    let at = c.loop-i in
-    let a = c.args in
-    sym (word_none a.line.now at.from _ a.index at.i (omega arith) c.end_of-end.ensures.value (omega arith)) ∙ at.invariant.2
-
-pub loop-i-preserved : goal.loop-i-preserved
-loop-i-preserved c =
-    let at = c.loop-i in
-    let a = c.args in
-    (omega arith, omega arith, word_next a.line.now at.from _ a.index at.i (omega arith) c.end_of-end.ensures.value ∙ at.invariant.2)
+now-unwrap_or : (r : Option (Bor (List ℕ))) (d : Bor (List ℕ)) → (unwrap_or r d).now ≡ unwrap_or (option_map (λ x. x.now) r) d.now
+now-unwrap_or None d = refl
+now-unwrap_or (Some x) d = refl
 
 pub returns : goal.returns
+unfolding word_at
 returns c =
-    let at = c.loop-i in
-    let a = c.args in
-    word_here a.line.now at.from _ a.index at.i (omega arith) c.end_of-end-2.ensures.value ∙ at.invariant.2
+    ap (λ x. x.now) c.unwrap_or.ensures
+    ∙ now-unwrap_or c.nth.result _
+    ∙ ap (λ x. unwrap_or x [])
+    (nth_from_yields_List {B = List ℕ} {v = λ x. x.now} c.nth.result c.nth.new.self c.args.index c.nth.ensures.ran
+    (YieldsList-from_slice_split _ is_space c.args.line.now c.split.ensures.rest c.split.ensures.done c.split.ensures.closure (λ x r q k. search (rules, tests))))

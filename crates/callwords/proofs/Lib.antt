@@ -1,2 +1,0 @@
--- The laws of what the words of a line say.
-pub mod Calls

@@ -1,0 +1,12 @@
+-- `call::alert_words`: each part of the value is what the specification says of that word.
+use Rattle.std.proofs.Common.{◌&&◌, eqb}
+use Rattle.callwords.proofs.call.alert_words.Goals as goal
+
+pub returns : goal.returns
+returns c =
+    λ j. eqb (c.spaces.ensures j) 5
+    && c.is_sense.ensures j
+    && c.number_at.ensures j
+    && c.number_at-2.ensures j
+    && c.bytes_at.ensures j
+    && c.number_at-3.ensures j

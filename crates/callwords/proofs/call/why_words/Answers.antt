@@ -1,0 +1,7 @@
+-- `call::why_words`: each part of the value is what the specification says of that word.
+use Rattle.std.proofs.Common.{◌&&◌, eqb}
+use Rattle.callwords.proofs.call.why_words.Goals as goal
+
+pub returns : goal.returns
+returns c =
+    λ j. eqb (c.spaces.ensures j) 4 && c.number_at.ensures j && c.bytes_at.ensures j && c.bytes_at-2.ensures j && c.number_at-2.ensures j

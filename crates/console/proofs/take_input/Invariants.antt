@@ -1,5 +1,0 @@
--- `take_input`: the measure is the number of turns that are left.
-use Rattle.console.proofs.take_input.Given as goal
-
-abbrev pub decreases-loop-turns : goal.decreases-loop-turns
-decreases-loop-turns g l = l.turns

@@ -1,0 +1,46 @@
+// What is at hand from line to line.
+use arrayvec::{ArrayVec, CapacityError};
+
+// The most reports of a list.
+const REPORTS: usize = 5000;
+
+// The most bytes of the reports and of the file, and of the room that a line may lend.
+pub const ROOM: usize = 70000;
+
+// A list of reports, as a file of them is written: their numbers, their sizes, and their bytes one behind the other; and a file.
+#[derive(Drop)]
+pub struct Day {
+    pub numbers: ArrayVec<u16, REPORTS>,
+    pub sizes: ArrayVec<usize, REPORTS>,
+    pub bytes: ArrayVec<u8, ROOM>,
+    pub file: ArrayVec<u8, ROOM>,
+}
+
+impl Day {
+    pub fn new() -> Day {
+        Day {
+            numbers: ArrayVec::new(),
+            sizes: ArrayVec::new(),
+            bytes: ArrayVec::new(),
+            file: ArrayVec::new(),
+        }
+    }
+
+    // Appends a report to the list, where it has room.
+    pub fn report(&mut self, number: u16, bytes: &[u8]) -> Result<(), CapacityError> {
+        if self.numbers.is_full() || self.sizes.is_full() {
+            return Err(CapacityError::new(()));
+        }
+        self.bytes.try_extend_from_slice(bytes)?;
+        self.numbers.push(number);
+        self.sizes.push(bytes.len());
+        Ok(())
+    }
+
+    pub fn clear(&mut self) {
+        self.numbers.clear();
+        self.sizes.clear();
+        self.bytes.clear();
+        self.file.clear();
+    }
+}
