@@ -30,7 +30,9 @@ use leave::{leave_called, leave_received, leave_sent};
 use load::{connection_in, open_window};
 pub use load::{connection_within, is_saved, lent_for, sent_within};
 use macs::leave_named;
-pub use parts::{agreed_bytes, mac_numbered, protection_in, session_bytes, standing_bytes, window_in, words};
+pub use parts::{
+    agreed_bytes, mac_numbered, protection_in, session_bytes, standing_bytes, window_in, words,
+};
 pub use report::{Entry, lay_entry};
 pub use result::{not_taken, result_of};
 use save::SIZE;
