@@ -55,6 +55,26 @@ use Rattle.lent.proofs.save.state_number as save-state-number
 use Rattle.lent.specs.contracts.save.state_number as save-state-number-contract
 use Rattle.lent.proofs.save.lay_sent as save-lay-sent
 use Rattle.lent.specs.contracts.save.lay_sent as save-lay-sent-contract
+use Rattle.lent.proofs.bytes.bytes_within as bytes-bytes-within
+use Rattle.lent.specs.contracts.bytes.bytes_within as bytes-bytes-within-contract
+use Rattle.lent.proofs.parts.mac_numbered as parts-mac-numbered
+use Rattle.lent.specs.contracts.parts.mac_numbered as parts-mac-numbered-contract
+use Rattle.lent.proofs.parts.protection_in as parts-protection-in
+use Rattle.lent.specs.contracts.parts.protection_in as parts-protection-in-contract
+use Rattle.lent.proofs.parts.window_in as parts-window-in
+use Rattle.lent.specs.contracts.parts.window_in as parts-window-in-contract
+use Rattle.lent.proofs.parts.session_bytes as parts-session-bytes
+use Rattle.lent.specs.contracts.parts.session_bytes as parts-session-bytes-contract
+use Rattle.lent.proofs.parts.agreed_bytes as parts-agreed-bytes
+use Rattle.lent.specs.contracts.parts.agreed_bytes as parts-agreed-bytes-contract
+use Rattle.lent.proofs.parts.standing_bytes as parts-standing-bytes
+use Rattle.lent.specs.contracts.parts.standing_bytes as parts-standing-bytes-contract
+use Rattle.lent.proofs.parts.words as parts-words
+use Rattle.lent.specs.contracts.parts.words as parts-words-contract
+use Rattle.lent.proofs.report.Entry.new as report-entry-new
+use Rattle.lent.specs.contracts.report.Entry.new as report-entry-new-contract
+use Rattle.lent.proofs.result.not_taken as result-not-taken
+use Rattle.lent.specs.contracts.result.not_taken as result-not-taken-contract
 
 pub fresh_one_lem : OneOutcome fresh-contract.ended fresh.Reads.Learnt
 fresh_one_lem κs a x y s u e f = (
@@ -154,3 +174,33 @@ report_lay_entry_one κs a x y s u e f = (refl, λ i. ((e ∙ sym f) i, (tt, (tt
 
 pub save_lay_sent_one : OneOutcome save-lay-sent-contract.ended save-lay-sent.Reads.Learnt
 save_lay_sent_one κs a x y s u e f = (refl, λ i. ((e.0 ∙ sym f.0) i, (tt, tt)))
+
+pub bytes_bytes_within_one : OneOutcome bytes-bytes-within-contract.ended bytes-bytes-within.Reads.Learnt
+bytes_bytes_within_one κs a x y s u e f = (e ∙ sym f, refl)
+
+pub parts_mac_numbered_one : OneOutcome parts-mac-numbered-contract.ended parts-mac-numbered.Reads.Learnt
+parts_mac_numbered_one κs a x y s u e f = (e ∙ sym f, refl)
+
+pub parts_protection_in_one : OneOutcome parts-protection-in-contract.ended parts-protection-in.Reads.Learnt
+parts_protection_in_one κs a x y s u e f = (e ∙ sym f, refl)
+
+pub parts_window_in_one : OneOutcome parts-window-in-contract.ended parts-window-in.Reads.Learnt
+parts_window_in_one κs a x y s u e f = (e ∙ sym f, refl)
+
+pub parts_session_bytes_one : OneOutcome parts-session-bytes-contract.ended parts-session-bytes.Reads.Learnt
+parts_session_bytes_one κs a x y s u e f = (e.0 ∙ sym f.0, refl)
+
+pub parts_agreed_bytes_one : OneOutcome parts-agreed-bytes-contract.ended parts-agreed-bytes.Reads.Learnt
+parts_agreed_bytes_one κs a x y s u e f = (e.0 ∙ sym f.0, refl)
+
+pub parts_standing_bytes_one : OneOutcome parts-standing-bytes-contract.ended parts-standing-bytes.Reads.Learnt
+parts_standing_bytes_one κs a x y s u e f = (e.0 ∙ sym f.0, refl)
+
+pub parts_words_one : OneOutcome parts-words-contract.ended parts-words.Reads.Learnt
+parts_words_one κs a x y s u e f = (e.0 ∙ sym f.0, refl)
+
+pub report_entry_new_one : OneOutcome report-entry-new-contract.ended report-entry-new.Reads.Learnt
+report_entry_new_one κs a x y s u e f = (e ∙ sym f, refl)
+
+pub result_not_taken_one : OneOutcome result-not-taken-contract.ended result-not-taken.Reads.Learnt
+result_not_taken_one κs a x y s u e f = (e ∙ sym f, refl)
