@@ -1,5 +1,5 @@
 -- The search for a pair goes on behind the pair at the front, and a method is looked for in the whole list.
-use Rattle.std.proofs.Common.{◌≡◌, refl, ◌∙◌, ap, List, [], ◌∷◌, Bool, true, false, ℕ, ◌≤◌, ◌<◌, arith, length, get_or, drop, eqb}
+use Rattle.std.proofs.Common.{◌≡◌, refl, List, [], ◌∷◌, Bool, true, false, ℕ, ◌≤◌, ◌<◌, arith, length, get_or, drop, eqb}
 use Rattle.std.specs.List.{list_any}
 use Rattle.std.specs.Prelude.{◌||◌}
 use Rattle.digest.specs.Pick.{pick}
