@@ -1,5 +1,5 @@
 -- Laws of writing a set: what is written by the tests of the values, how long it is, and its pieces put one after the other.
-use Rattle.std.specs.Prelude.{Option}
+use Rattle.std.specs.Prelude.{Option, get_or}
 use mathlib.Core.Path.{◌≡◌, refl, sym, ◌∙◌, ap, subst}
 use mathlib.Core.List.{List, [], ◌∷◌, ◌++◌}
 use mathlib.Core.Bool.{true, false}
@@ -117,6 +117,13 @@ pub put_prime : (p o o1 o2 : List ℕ) (a1 a2 : ℕ) → Puts (1 ∷ []) o 0 o1 
     → FieldPuts (prime p) o o2 a2
 unfolding field_bytes field_allowed
 put_prime p o o1 o2 a1 a2 x y h = put_on (1 ∷ []) (short p) o o1 o2 0 a1 a2 x (y (vector_ceiling 1 255 p h))
+
+-- the two bytes of a number, as the library spells it
+pub high_byte : (r : List ℕ) (h l : ℕ) → r ≡ h ∷ l ∷ [] → get_or r 0 0 ≡ h
+high_byte r h l e = ap (λ (s : List ℕ). get_or s 0 0) e
+
+pub low_byte : (r : List ℕ) (h l : ℕ) → r ≡ h ∷ l ∷ [] → get_or r 1 0 ≡ l
+low_byte r h l e = ap (λ (s : List ℕ). get_or s 1 0) e
 
 module _ (m h l : ℕ) (eh : h ≡ m / 256 % 256) (el : l ≡ m % 256) (o o1 : List ℕ) (a1 : ℕ) where
   pub put_onb : Puts (2 ∷ h ∷ l ∷ 1 ∷ []) o 0 o1 a1 → FieldPuts (two m onb) o o1 a1

@@ -54,6 +54,7 @@ impl From<Field> for Unheard {
 }
 
 // Reads a message as a ClientHello and judges it against the planted session identifier.
+#[tactic(auto, unfolding(crate::specs::Acceptance::heard_of))]
 pub fn hear(m: &[u8], planted: &[u8]) -> Result<Plan, Unheard>
     ensures { result ≡ heard_of m.now planted.now }
 {
@@ -83,6 +84,7 @@ fn judge(m: &[u8], h: Hello, planted: &[u8]) -> Result<Plan, Condition>
 }
 
 // Judges a hello's values: accepted with the first pair that fits, or the first condition that fails.
+#[tactic(auto, unfolding(crate::specs::Acceptance::accepted_of))]
 pub fn accept(
     version: u8,
     session: &[u8],

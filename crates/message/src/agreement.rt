@@ -27,6 +27,7 @@ pub enum Disagreed {
 }
 
 // Reads a message as a ServerHello and judges it against the session's identifier and the offer.
+#[tactic(auto, unfolding(crate::specs::Agreement::agreement_of))]
 pub fn agree(m: &[u8], planted: &[u8], offer: Offer) -> Result<Plan, Disagreed>
     ensures { result ≡ agreement_of m.now planted.now offer }
 {
@@ -54,6 +55,7 @@ fn judge(m: &[u8], end: usize, planted: &[u8], offer: Offer) -> Result<Plan, Dis
 }
 
 // Judges a ServerHello's values: agreed, or the first term that does not answer the offer.
+#[tactic(auto, unfolding(crate::specs::Agreement::agreed_of))]
 pub fn judged(
     version: u8,
     session: &[u8],
@@ -98,6 +100,7 @@ pub fn judged(
 }
 
 // The kind of a pair of null cipher and a kind that was offered.
+#[tactic(auto, unfolding(crate::specs::Agreement::chosen_of))]
 fn chosen(cipher: u8, mac: u8, kinds: Kinds) -> Option<Mac>
     ensures { result ≡ chosen_of cipher mac kinds }
 {

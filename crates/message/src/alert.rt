@@ -53,6 +53,7 @@ pub struct Alert {
 }
 
 // Reads an alert: exactly six bytes, with an assigned level and an assigned description.
+#[tactic(auto, unfolding(crate::specs::Alert::alert_of))]
 pub fn read(s: &[u8]) -> Option<Alert>
     ensures { result ≡ alert_of s.now }
 {
@@ -109,6 +110,7 @@ pub fn level_number(level: Level) -> u8
 }
 
 // The description that a byte names, by the list of 10.2; the numbers between are unassigned.
+#[tactic(auto, unfolding(crate::specs::Alert::sorted_of, crate::specs::Alert::among))]
 pub fn sort(b: u8) -> Option<Description>
     ensures { result ≡ sorted_of b }
 {

@@ -3,6 +3,7 @@ ghost use Rattle.std.specs.Prelude.{◌≡◌};
 ghost use Rattle.message.specs.Change.{is_change, change_bytes};
 
 // Whether the bytes are a change cipher spec.
+#[tactic(auto, unfolding(crate::specs::Change::is_change))]
 pub fn is_change(s: &[u8]) -> bool
     ensures { result ≡ is_change s.now }
 {

@@ -41,14 +41,15 @@ pub fn client_verify(secret: &[u8], client: &[u8], server: &[u8], finished: &[u8
 pub fn message(verify: [u8; 12]) -> [u8; 15]
     ensures { result ≡ finished_of verify }
 {
-    [
-        20, 0, 12, verify[0], verify[1], verify[2], verify[3], verify[4], verify[5], verify[6],
-        verify[7], verify[8], verify[9], verify[10], verify[11],
-    ]
+    let mut out = [0u8; 15];
+    out[..3].copy_from_slice(&[20, 0, 12]);
+    out[3..].copy_from_slice(&verify);
+    out
 }
 
 // Judges a message that is to be a Finished with the contents expected. All of them are compared, wherever the first
 // difference stands.
+#[tactic(auto, unfolding(crate::specs::Finished::judged_of))]
 pub fn judge(m: &[u8], expected: &[u8]) -> Result<(), Unverified>
     ensures { result ≡ judged_of m.now expected.now }
 {

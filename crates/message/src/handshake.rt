@@ -5,6 +5,7 @@ ghost use Rattle.message.specs.Handshake.{fills};
 use crate::field;
 
 // Whether one message of a type fills the bytes.
+#[tactic(auto, unfolding(crate::specs::Handshake::fills))]
 pub fn fills_with(m: &[u8], kind: u8) -> bool
     ensures { result ≡ fills kind m.now }
 {

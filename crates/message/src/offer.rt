@@ -2,7 +2,7 @@
 ghost use Rattle.std.specs.Prelude.{◌≡◌, length};
 ghost use Rattle.message.specs.Buffer.{over, fitting};
 ghost use Rattle.message.specs.Given.{sent_of};
-ghost use Rattle.message.specs.Offer.{kinds_named, pairs_of, pairs_size, offers, offer_given};
+ghost use Rattle.message.specs.Offer.{kinds_named, suites_of, offers, offer_given};
 
 use crate::writer;
 use digest::Mac;
@@ -24,6 +24,7 @@ pub struct Offer {
 }
 
 // The kinds that these numbers name: one or both of 2 and 3, without repetition.
+#[tactic(auto, unfolding(crate::specs::Offer::kinds_named))]
 pub fn kinds_of(macs: &[u8]) -> Option<Kinds>
     ensures { result ≡ kinds_named macs.now }
 {
@@ -59,9 +60,6 @@ pub fn write(random: &[u8], session: &[u8], offer: Offer, out: &mut [u8]) -> usi
     ensures value { result ≡ length (fitting (length out.old) (sent_of (offer_given random.now session.now offer))) }
     ensures out_after { out.new ≡ over out.old (fitting (length out.old) (sent_of (offer_given random.now session.now offer))) }
 {
-    let kinds = offer.kinds;
-    let pairs = pairs(kinds);
-    let size = pairs_size(kinds);
     let none = [0u8; 0];
     let null = [0u8; 1];
     writer::write(
@@ -70,7 +68,7 @@ pub fn write(random: &[u8], session: &[u8], offer: Offer, out: &mut [u8]) -> usi
         session,
         &none,
         &none,
-        &pairs[..size],
+        pairs(offer.kinds),
         &null,
         2,
         offer.refresh,
@@ -78,26 +76,14 @@ pub fn write(random: &[u8], session: &[u8], offer: Offer, out: &mut [u8]) -> usi
     )
 }
 
-// The pairs of null cipher and MAC kind, at the front of four bytes.
-fn pairs(kinds: Kinds) -> [u8; 4]
-    ensures { result ≡ pairs_of kinds }
+// The pairs of null cipher and MAC kind.
+fn pairs(kinds: Kinds) -> &'static [u8]
+    ensures { result.now ≡ suites_of kinds }
 {
     match kinds {
-        Kinds::Sha80 => [0, 2, 0, 0],
-        Kinds::Sha => [0, 3, 0, 0],
-        Kinds::Sha80First => [0, 2, 0, 3],
-        Kinds::ShaFirst => [0, 3, 0, 2],
-    }
-}
-
-// How many bytes they are.
-fn pairs_size(kinds: Kinds) -> usize
-    ensures { result ≡ pairs_size kinds }
-{
-    match kinds {
-        Kinds::Sha80 => 2,
-        Kinds::Sha => 2,
-        Kinds::Sha80First => 4,
-        Kinds::ShaFirst => 4,
+        Kinds::Sha80 => &[0, 2],
+        Kinds::Sha => &[0, 3],
+        Kinds::Sha80First => &[0, 2, 0, 3],
+        Kinds::ShaFirst => &[0, 3, 0, 2],
     }
 }

@@ -5,6 +5,7 @@ ghost use Rattle.message.specs.Request.{is_request};
 use crate::handshake;
 
 // Whether the bytes are a HelloRequest.
+#[tactic(auto, unfolding(crate::specs::Request::is_request))]
 pub fn is_request(m: &[u8]) -> bool
     ensures { result ≡ is_request m.now }
 {

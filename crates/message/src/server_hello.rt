@@ -6,6 +6,7 @@ ghost use Rattle.message.specs.ServerHello.{server_read};
 use crate::{field, handshake};
 
 // Reads a handshake message as a ServerHello.
+#[tactic(auto, unfolding(crate::specs::ServerHello::server_read))]
 pub fn read(m: &[u8]) -> Option<usize>
     ensures { result ≡ server_read m.now }
 {

@@ -46,6 +46,7 @@ pub enum Set {
 }
 
 // Reads the bytes of an explicit set of a key exchange suite.
+#[tactic(auto, unfolding(crate::specs::Set::read_of))]
 pub fn read(suite: u8, s: &[u8]) -> Option<Set>
     ensures { result ≡ read_of suite s.now }
 {
@@ -57,6 +58,7 @@ pub fn read(suite: u8, s: &[u8]) -> Option<Set>
 }
 
 // Whether an explicit set of a suite is sound: one that is not read always is.
+#[tactic(auto, unfolding(crate::specs::Set::set_sound))]
 pub(crate) fn sound(suite: u8, s: &[u8]) -> bool
     ensures { result ≡ set_sound suite s.now }
 {
@@ -145,6 +147,7 @@ fn basis_end(s: &[u8]) -> Option<usize>
 }
 
 // The field that stands at the front, up to its end.
+#[tactic(auto, unfolding(crate::specs::Set::field_id_of))]
 fn field_id(s: &[u8], end: usize) -> FieldId
     requires { end ≡ curve_field_end s.now }
     ensures { result ≡ field_id_of s.now }

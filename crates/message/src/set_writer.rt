@@ -1,5 +1,5 @@
 // Explicit parameter sets, written (002 10.5.1.2): what was read can be written back.
-ghost use Rattle.std.specs.Prelude.{◌≡◌, true, ◌+◌, ◌/◌, ◌%◌, length, ltb};
+ghost use Rattle.std.specs.Prelude.{◌≡◌, true, ◌+◌, length, ltb};
 ghost use Rattle.digest.specs.Pick.{pick};
 ghost use Rattle.message.specs.Buffer.{over, fitting, Puts};
 ghost use Rattle.message.specs.Set.{vector_allowed, vectors_allowed, field_allowed, field_bytes, field_written, dh_written, ec_written, written_of, field_at, set_at};
@@ -124,37 +124,34 @@ fn put_field(s: &[u8], field: FieldId, out: &mut [u8]) -> usize
             put::put_short(out, at, field::part(s, p.from, p.end))
         }
         FieldId::Onb(m) => {
-            let front = [2, high(m), low(m), 1];
+            let [high, low] = m.to_be_bytes();
+            let front = [2, high, low, 1];
             put::put(out, 0, &front)
         }
         FieldId::Trinomial(m, k) => {
-            let front = [2, high(m), low(m), 2, high(k), low(k)];
+            let [high, low] = m.to_be_bytes();
+            let [k_high, k_low] = k.to_be_bytes();
+            let front = [2, high, low, 2, k_high, k_low];
             put::put(out, 0, &front)
         }
         FieldId::Pentanomial(m, k1, k2, k3) => {
-            let front = [
-                2,
-                high(m),
-                low(m),
-                3,
-                high(k1),
-                low(k1),
-                high(k2),
-                low(k2),
-                high(k3),
-                low(k3),
-            ];
+            let [high, low] = m.to_be_bytes();
+            let [a, b] = k1.to_be_bytes();
+            let [c, d] = k2.to_be_bytes();
+            let [e, f] = k3.to_be_bytes();
+            let front = [2, high, low, 3, a, b, c, d, e, f];
             put::put(out, 0, &front)
         }
         FieldId::Polynomial(m, p) => {
-            let front = [2, high(m), low(m), 4];
+            let [high, low] = m.to_be_bytes();
+            let front = [2, high, low, 4];
             let at = put::put(out, 0, &front);
             put::put_short(out, at, field::part(s, p.from, p.end))
         }
     }
 }
 
-// The size of a field, or 0 where no set can have it.
+// The size of a field, or 0 where no set can have it: a size is never 0, and the sum of the sizes goes on with it.
 fn field_size(s: &[u8], field: FieldId) -> usize
     ensures { result ≡ length (field_written (field_at s.now field)) }
 {
@@ -172,7 +169,7 @@ fn behind(front: u8, v: &[u8]) -> usize
     ensures { result ≡ pick (vector_allowed 1 255 v.now) (front + length v.now) 0 }
 {
     if vector_allowed(v, 1, 255) {
-        return front as usize + v.len();
+        return usize::from(front) + v.len();
     }
     0
 }
@@ -184,20 +181,8 @@ fn ranged(n: u16, size: usize) -> usize
     size
 }
 
-// The two bytes of a number.
-fn high(n: u16) -> u8
-    ensures { result ≡ n / 256 % 256 }
-{
-    (n / 256) as u8
-}
-
-fn low(n: u16) -> u8
-    ensures { result ≡ n % 256 }
-{
-    (n % 256) as u8
-}
-
 // Whether a set can have these vectors.
+#[tactic(auto, unfolding(crate::specs::Set::vectors_allowed))]
 fn vectors_allowed(
     a: &[u8],
     b: &[u8],
@@ -208,30 +193,17 @@ fn vectors_allowed(
 ) -> bool
     ensures { result ≡ vectors_allowed a.now b.now seed.now base.now order.now cofactor.now }
 {
-    if !vector_allowed(a, 1, 255) {
-        return false;
-    }
-    if !vector_allowed(b, 1, 255) {
-        return false;
-    }
-    if !vector_allowed(seed, 0, 255) {
-        return false;
-    }
-    if !vector_allowed(base, 1, 255) {
-        return false;
-    }
-    if !vector_allowed(order, 1, 255) {
-        return false;
-    }
-    vector_allowed(cofactor, 1, 255)
+    vector_allowed(a, 1, 255)
+        && vector_allowed(b, 1, 255)
+        && vector_allowed(seed, 0, 255)
+        && vector_allowed(base, 1, 255)
+        && vector_allowed(order, 1, 255)
+        && vector_allowed(cofactor, 1, 255)
 }
 
 // Whether a vector keeps its bounds.
 fn vector_allowed(v: &[u8], floor: usize, ceiling: usize) -> bool
     ensures { result ≡ vector_allowed floor ceiling v.now }
 {
-    if v.len() < floor {
-        return false;
-    }
-    v.len() <= ceiling
+    floor <= v.len() && v.len() <= ceiling
 }

@@ -6,19 +6,6 @@ use Rattle.message.specs.Acceptance.{accepted_of}
 use Rattle.message.proofs.Accepting.{null_any}
 use Rattle.message.proofs.acceptance.accept.Goals as goal
 
-pub returns-then-version-ne1 : goal.returns-then-version-ne1
-unfolding accepted_of
-returns-then-version-ne1 c = if_ne _ c.args.version 1 (λ z. omega arith) refl
-
-pub returns-then-not-same_code : goal.returns-then-not-same_code
-unfolding accepted_of
-returns-then-not-same_code c = rw (sym c.same_code.ensures.exact, c.if-not-same_code.true) (if_eq _ c.args.version 1 (omega arith) refl)
-
-pub returns-in_default : goal.returns-in_default
-unfolding accepted_of
-returns-in_default c = rw (sym c.same_code.ensures.exact, c.if-not-same_code.false, sym c.first_fit.ensures, sym c.listed.ensures.exact, c.in_default.is)
-    (if_eq _ c.args.version 1 (omega arith) refl)
-
 pub returns-then-not-contains : goal.returns-then-not-contains
 unfolding accepted_of
 returns-then-not-contains c = rw (

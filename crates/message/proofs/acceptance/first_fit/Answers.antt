@@ -2,9 +2,10 @@
 -- Assumes nothing.
 use Rattle.std.proofs.Common.{refl, sym, ◌∙◌, ap, length}
 use native.Mathlib.Nat.{le_refl}
+use native.Mathlib.Omega.{arith}
 use Rattle.std.proofs.lemmas.Slice.{between_to_end}
 use Rattle.message.specs.Acceptance.{first_fit}
-use Rattle.message.proofs.Accepting.{fit_here, fit_later, fit_none}
+use Rattle.message.proofs.Accepting.{fit_here, fit_later, fit_short}
 use Rattle.message.proofs.acceptance.first_fit.Goals as goal
 
 pub loop-rest-init : goal.loop-rest-init
@@ -12,13 +13,13 @@ loop-rest-init c = refl
 
 pub returns-then-fits : goal.returns-then-fits
 returns-then-fits c =
-    sym (c.loop-rest.invariant ∙ fit_here c.loop-rest.rest.now c.in-len2-up.len_at_least (sym c.if-fits.ensures))
+    sym (c.loop-rest.invariant ∙ fit_here c.loop-rest.rest.now 0 (omega arith) (sym c.if-fits.ensures))
 
 pub loop-rest-preserved : goal.loop-rest-preserved
 loop-rest-preserved c = let s = c.loop-rest.rest.now in
     c.loop-rest.invariant
-    ∙ fit_later s c.in-len2-up.len_at_least (sym c.if-fits.ensures)
+    ∙ fit_later s 0 (omega arith) (sym c.if-fits.ensures)
     ∙ ap first_fit (sym (between_to_end s 2 (length s) (le_refl _)))
 
 pub returns : goal.returns
-returns c = fit_none c.loop-rest.rest.now c.in_default.len_below ∙ sym c.loop-rest.invariant
+returns c = fit_short c.loop-rest.rest.now c.in_default.len_below ∙ sym c.loop-rest.invariant

@@ -1,5 +1,5 @@
 -- `message::set_writer::put_field` meets its contract: each arm puts the pieces of its field. Assumes nothing.
-use Rattle.message.proofs.SetsPut.{field_as, prime_as, polynomial_as, put_prime, put_onb, put_trinomial, put_pentanomial, put_polynomial}
+use Rattle.message.proofs.SetsPut.{high_byte, low_byte, field_as, prime_as, polynomial_as, put_prime, put_onb, put_trinomial, put_pentanomial, put_polynomial}
 use Rattle.message.proofs.set_writer.put_field.Goals as goal
 
 pub returns-in-Prime : goal.returns-in-Prime
@@ -8,19 +8,19 @@ returns-in-Prime c = field_as _ _ _ _ _ _ c.in-Prime.is
 
 pub returns-in-Onb : goal.returns-in-Onb
 returns-in-Onb c = field_as _ _ _ _ _ _ c.in-Onb.is
-    (put_onb _ _ _ c.high.ensures c.low.ensures _ _ _ c.put.ensures)
+    (put_onb _ _ _ (high_byte _ _ _ c.to_be_bytes.ensures) (low_byte _ _ _ c.to_be_bytes.ensures) _ _ _ c.put.ensures)
 
 pub returns-in-Trinomial : goal.returns-in-Trinomial
 returns-in-Trinomial c = field_as _ _ _ _ _ _ c.in-Trinomial.is
-    (put_trinomial _ _ _ c.high-in-Trinomial.ensures c.low-in-Trinomial.ensures _ _ _ _ _ _ c.high-in-Trinomial-2.ensures c.low-in-Trinomial-2.ensures c.put-in-Trinomial.ensures)
+    (put_trinomial _ _ _ (high_byte _ _ _ c.to_be_bytes-in-Trinomial.ensures) (low_byte _ _ _ c.to_be_bytes-in-Trinomial.ensures) _ _ _ _ _ _ (high_byte _ _ _ c.to_be_bytes-in-Trinomial-2.ensures) (low_byte _ _ _ c.to_be_bytes-in-Trinomial-2.ensures) c.put-in-Trinomial.ensures)
 
 pub returns-in-Pentanomial : goal.returns-in-Pentanomial
 returns-in-Pentanomial c = field_as _ _ _ _ _ _ c.in-Pentanomial.is
-    (put_pentanomial _ _ _ c.high-in-Pentanomial.ensures c.low-in-Pentanomial.ensures _ _ _ _ _ _ _ _ _ _ _ _
-    c.high-in-Pentanomial-2.ensures c.low-in-Pentanomial-2.ensures c.high-in-Pentanomial-3.ensures c.low-in-Pentanomial-3.ensures c.high-in-Pentanomial-4.ensures c.low-in-Pentanomial-4.ensures
+    (put_pentanomial _ _ _ (high_byte _ _ _ c.to_be_bytes-in-Pentanomial.ensures) (low_byte _ _ _ c.to_be_bytes-in-Pentanomial.ensures) _ _ _ _ _ _ _ _ _ _ _ _
+    (high_byte _ _ _ c.to_be_bytes-in-Pentanomial-2.ensures) (low_byte _ _ _ c.to_be_bytes-in-Pentanomial-2.ensures) (high_byte _ _ _ c.to_be_bytes-in-Pentanomial-3.ensures) (low_byte _ _ _ c.to_be_bytes-in-Pentanomial-3.ensures) (high_byte _ _ _ c.to_be_bytes-in-Pentanomial-4.ensures) (low_byte _ _ _ c.to_be_bytes-in-Pentanomial-4.ensures)
     c.put-in-Pentanomial.ensures)
 
 pub returns-in-Polynomial : goal.returns-in-Polynomial
 returns-in-Polynomial c = field_as _ _ _ _ _ _ c.in-Polynomial.is
     (polynomial_as _ _ _ _ _ _ c.part-in-Polynomial.ensures
-    (put_polynomial _ _ _ c.high-in-Polynomial.ensures c.low-in-Polynomial.ensures _ _ _ _ _ _ c.put-at-in-Polynomial.ensures c.put_short-in-Polynomial.ensures))
+    (put_polynomial _ _ _ (high_byte _ _ _ c.to_be_bytes-in-Polynomial.ensures) (low_byte _ _ _ c.to_be_bytes-in-Polynomial.ensures) _ _ _ _ _ _ c.put-at-in-Polynomial.ensures c.put_short-in-Polynomial.ensures))
