@@ -30,7 +30,9 @@ use leave::{leave_called, leave_received, leave_sent};
 use load::{connection_in, open_window};
 pub use load::{connection_within, is_saved, lent_for, sent_within};
 use macs::leave_named;
-pub use parts::{agreed_bytes, mac_numbered, protection_in, session_bytes, standing_bytes, window_in, words};
+pub use parts::{
+    agreed_bytes, mac_numbered, protection_in, session_bytes, standing_bytes, window_in, words,
+};
 pub use report::{Entry, lay_entry};
 pub use result::{not_taken, result_of};
 use save::SIZE;
@@ -116,13 +118,7 @@ pub fn send_alert(
     ensures loads { loaded state.new ≡ alert_loads state.old protected level description
         answered.now (length out.old) }
 {
-    if 1 < protected {
-        return not_taken();
-    }
-    if 255 < level {
-        return not_taken();
-    }
-    if 255 < description {
+    if 1 < protected || 255 < level || 255 < description {
         return not_taken();
     }
     if is_saved(state) {
@@ -203,10 +199,7 @@ pub fn mac(edition: u32, number: u32, out: &mut [u8]) -> u64
     ensures exact { result ≡ mac_result edition number (length out.old) }
     ensures bytes { out.new ≡ mac_out edition number out.old }
 {
-    if 255 < edition {
-        return not_taken();
-    }
-    if 255 < number {
+    if 255 < edition || 255 < number {
         return not_taken();
     }
     leave_named(mac_named(edition as u8, number as u8), out)

@@ -67,7 +67,11 @@ fn put_handshake(d: &mut [u8], h: Handshake)
 {
     let protection = h.protection;
     let keys = protection.keys;
-    put(d, 0, &session_bytes(state_number(h.state), h.id, keys.secret));
+    put(
+        d,
+        0,
+        &session_bytes(state_number(h.state), h.id, keys.secret),
+    );
     put(d, 29, &agreed_bytes(keys, h.expected));
     put_kept(d, h.kept);
     put(d, 431, &standing_bytes(protection));

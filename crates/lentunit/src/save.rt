@@ -28,7 +28,11 @@ pub(crate) fn put_unit(d: &mut [u8], u: Unit)
     lay_sent(d, sent);
     let protection = u.protection;
     let keys = protection.keys;
-    put(d, 40, &session_bytes(state_number(u.state), u.id, keys.secret));
+    put(
+        d,
+        40,
+        &session_bytes(state_number(u.state), u.id, keys.secret),
+    );
     put(d, 69, &agreed_bytes(keys, u.expected));
     put_offer(d, u.offer, u.flight);
     put(d, 161, &standing_bytes(protection));
