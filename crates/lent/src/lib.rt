@@ -118,13 +118,7 @@ pub fn send_alert(
     ensures loads { loaded state.new ≡ alert_loads state.old protected level description
         answered.now (length out.old) }
 {
-    if 1 < protected {
-        return not_taken();
-    }
-    if 255 < level {
-        return not_taken();
-    }
-    if 255 < description {
+    if 1 < protected || 255 < level || 255 < description {
         return not_taken();
     }
     if is_saved(state) {
@@ -205,10 +199,7 @@ pub fn mac(edition: u32, number: u32, out: &mut [u8]) -> u64
     ensures exact { result ≡ mac_result edition number (length out.old) }
     ensures bytes { out.new ≡ mac_out edition number out.old }
 {
-    if 255 < edition {
-        return not_taken();
-    }
-    if 255 < number {
+    if 255 < edition || 255 < number {
         return not_taken();
     }
     leave_named(mac_named(edition as u8, number as u8), out)

@@ -132,13 +132,7 @@ pub fn send_alert(
     ensures loads { loaded state.new ≡ alert_loads state.old protected level description
         answered.now (length out.old) }
 {
-    if 1 < protected {
-        return not_taken();
-    }
-    if 255 < level {
-        return not_taken();
-    }
-    if 255 < description {
+    if 1 < protected || 255 < level || 255 < description {
         return not_taken();
     }
     if is_saved(state) {

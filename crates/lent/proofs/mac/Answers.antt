@@ -7,17 +7,23 @@ use borrow.Author.Tests.{lt-ltb, le-ltb}
 use Rattle.digest.proofs.Picks.{pick_yes, pick_no}
 use Rattle.lent.specs.Macs.{mac_result, mac_out, named_result, named_out}
 use Rattle.lent.proofs.mac.Goals as goal
+use Rattle.lent.proofs.mac.Goals.{then-edition-gt255-via-then-edition-gt255, then-edition-gt255-via-else-edition-gt255+then-number-gt255}
 
 pub returns-then-edition-gt255 : goal.returns-then-edition-gt255
 unfolding mac_result mac_out
-returns-then-edition-gt255 c = let above = lt-ltb 255 c.args.edition c.if-edition-gt255.true in
-    record { exact = pick_yes ℕ _ _ _ _ above c.not_taken.ensures; bytes = pick_yes (List ℕ) _ _ _ _ above refl }
-
-pub returns-then-number-gt255 : goal.returns-then-number-gt255
-unfolding mac_result mac_out
-returns-then-number-gt255 c = let below = le-ltb 255 c.args.edition c.if-edition-gt255.false in
-    let above = lt-ltb 255 c.args.number c.if-number-gt255.true in
-    record { exact = pick_no ℕ _ _ _ _ below (pick_yes ℕ _ _ _ _ above c.not_taken-then-number-gt255.ensures); bytes = pick_no (List ℕ) _ _ _ _ below (pick_yes (List ℕ) _ _ _ _ above refl) }
+returns-then-edition-gt255 c = let a = c.args in
+    record {
+      exact =
+          elim c.then-edition-gt255.branch [
+            | then-edition-gt255-via-then-edition-gt255 w ↦ pick_yes ℕ _ _ _ _ (lt-ltb 255 a.edition w.if-edition-gt255.true) c.not_taken.ensures
+            | then-edition-gt255-via-else-edition-gt255+then-number-gt255 w ↦ pick_no ℕ _ _ _ _ (le-ltb 255 a.edition w.if-edition-gt255.false) (pick_yes ℕ _ _ _ _ (lt-ltb 255 a.number w.if-number-gt255.true) c.not_taken.ensures)
+          ];
+      bytes =
+          elim c.then-edition-gt255.branch [
+            | then-edition-gt255-via-then-edition-gt255 w ↦ pick_yes (List ℕ) _ _ _ _ (lt-ltb 255 a.edition w.if-edition-gt255.true) refl
+            | then-edition-gt255-via-else-edition-gt255+then-number-gt255 w ↦ pick_no (List ℕ) _ _ _ _ (le-ltb 255 a.edition w.if-edition-gt255.false) (pick_yes (List ℕ) _ _ _ _ (lt-ltb 255 a.number w.if-number-gt255.true) refl)
+          ];
+    }
 
 pub returns : goal.returns
 unfolding mac_result mac_out

@@ -11,6 +11,7 @@ use Rattle.lent.specs.Saved.{is_saved, connection_in, Loaded, loaded}
 use Rattle.lent.specs.Calls.{alert_result, alert_state, alert_out, sent_result, sent_state, sent_loads, not_taken, alert_loads}
 use Rattle.lent.proofs.Calling.{saved_size, test_yes, test_no, either, sense_in, sense_out, sense_same, level_above, level_above_output, description_above, description_above_output}
 use Rattle.lent.proofs.send_alert.Goals as goal
+use Rattle.lent.proofs.send_alert.Goals.{then-protected-gt1-via-then-protected-gt1, then-protected-gt1-via-else-protected-gt1+then-level-gt255, then-protected-gt1-via-else-protected-gt1+else-level-gt255+then-description-gt255}
 
 pub returns-then-protected-gt1 : goal.returns-then-protected-gt1
 unfolding alert_result alert_state alert_out alert_loads
@@ -24,45 +25,33 @@ returns-then-protected-gt1 c = let state = c.args.state.now in
     let left : Bool → List ℕ = λ b. sent_state state (alert_sent (connection_in state) b level description answered (length out)) in
     let loads : Bool → Loaded = λ b. sent_loads state (alert_sent (connection_in state) b level description answered (length out)) in
     let written : Bool → List ℕ = λ b. alert_output (connection_in state) b level description answered out in
-    let above = c.if-protected-gt1.true in
     let no = c.not_taken.ensures in
-    record { exact = either (is_saved state) (no ∙ sense_out ℕ p result not_taken above) no; connection = either (is_saved state) (sense_out (List ℕ) p left state above) refl; bytes = either (is_saved state) (sense_out (List ℕ) p written out above) refl; loads = either (is_saved state) (sense_out Loaded p loads (loaded state) above) refl }
-
-pub returns-then-level-gt255 : goal.returns-then-level-gt255
-unfolding alert_result alert_state alert_out alert_loads
-returns-then-level-gt255 c = let state = c.args.state.now in
-    let p = c.args.protected in
-    let level = c.args.level in
-    let description = c.args.description in
-    let answered = c.args.answered.now in
-    let out = c.args.out.now in
-    let result : Bool → ℕ = λ b. sent_result (alert_sent (connection_in state) b level description answered (length out)) in
-    let left : Bool → List ℕ = λ b. sent_state state (alert_sent (connection_in state) b level description answered (length out)) in
-    let loads : Bool → Loaded = λ b. sent_loads state (alert_sent (connection_in state) b level description answered (length out)) in
-    let written : Bool → List ℕ = λ b. alert_output (connection_in state) b level description answered out in
-    let above = c.if-level-gt255.true in
-    let no = c.not_taken-then-level-gt255.ensures in
-    let sent : (b : Bool) → unsent (connection_in state) Argument ≡ alert_sent (connection_in state) b level description answered (length out)
-    = λ b. level_above (connection_in state) b level description answered (length out) above in
-    record { exact = either (is_saved state) (no ∙ sense_same ℕ p result not_taken (λ b. ap sent_result (sent b))) no; connection = either (is_saved state) (sense_same (List ℕ) p left state (λ b. ap (sent_state state) (sent b))) refl; bytes = either (is_saved state) (sense_same (List ℕ) p written out (λ b. level_above_output (connection_in state) b level description answered out above)) refl; loads = either (is_saved state) (sense_same Loaded p loads (loaded state) (λ b. ap (sent_loads state) (sent b))) refl }
-
-pub returns-then-description-gt255 : goal.returns-then-description-gt255
-unfolding alert_result alert_state alert_out alert_loads
-returns-then-description-gt255 c = let state = c.args.state.now in
-    let p = c.args.protected in
-    let level = c.args.level in
-    let description = c.args.description in
-    let answered = c.args.answered.now in
-    let out = c.args.out.now in
-    let result : Bool → ℕ = λ b. sent_result (alert_sent (connection_in state) b level description answered (length out)) in
-    let left : Bool → List ℕ = λ b. sent_state state (alert_sent (connection_in state) b level description answered (length out)) in
-    let loads : Bool → Loaded = λ b. sent_loads state (alert_sent (connection_in state) b level description answered (length out)) in
-    let written : Bool → List ℕ = λ b. alert_output (connection_in state) b level description answered out in
-    let above = c.if-description-gt255.true in
-    let no = c.not_taken-then-description-gt255.ensures in
-    let sent : (b : Bool) → unsent (connection_in state) Argument ≡ alert_sent (connection_in state) b level description answered (length out)
-    = λ b. description_above (connection_in state) b level description answered (length out) above in
-    record { exact = either (is_saved state) (no ∙ sense_same ℕ p result not_taken (λ b. ap sent_result (sent b))) no; connection = either (is_saved state) (sense_same (List ℕ) p left state (λ b. ap (sent_state state) (sent b))) refl; bytes = either (is_saved state) (sense_same (List ℕ) p written out (λ b. description_above_output (connection_in state) b level description answered out above)) refl; loads = either (is_saved state) (sense_same Loaded p loads (loaded state) (λ b. ap (sent_loads state) (sent b))) refl }
+    record {
+      exact =
+          elim c.then-protected-gt1.branch [
+            | then-protected-gt1-via-then-protected-gt1 w ↦ either (is_saved state) (no ∙ sense_out ℕ p result not_taken w.if-protected-gt1.true) no
+            | then-protected-gt1-via-else-protected-gt1+then-level-gt255 w ↦ either (is_saved state) (no ∙ sense_same ℕ p result not_taken (λ b. ap sent_result (level_above (connection_in state) b level description answered (length out) w.if-level-gt255.true))) no
+            | then-protected-gt1-via-else-protected-gt1+else-level-gt255+then-description-gt255 w ↦ either (is_saved state) (no ∙ sense_same ℕ p result not_taken (λ b. ap sent_result (description_above (connection_in state) b level description answered (length out) w.if-description-gt255.true))) no
+          ];
+      connection =
+          elim c.then-protected-gt1.branch [
+            | then-protected-gt1-via-then-protected-gt1 w ↦ either (is_saved state) (sense_out (List ℕ) p left state w.if-protected-gt1.true) refl
+            | then-protected-gt1-via-else-protected-gt1+then-level-gt255 w ↦ either (is_saved state) (sense_same (List ℕ) p left state (λ b. ap (sent_state state) (level_above (connection_in state) b level description answered (length out) w.if-level-gt255.true))) refl
+            | then-protected-gt1-via-else-protected-gt1+else-level-gt255+then-description-gt255 w ↦ either (is_saved state) (sense_same (List ℕ) p left state (λ b. ap (sent_state state) (description_above (connection_in state) b level description answered (length out) w.if-description-gt255.true))) refl
+          ];
+      bytes =
+          elim c.then-protected-gt1.branch [
+            | then-protected-gt1-via-then-protected-gt1 w ↦ either (is_saved state) (sense_out (List ℕ) p written out w.if-protected-gt1.true) refl
+            | then-protected-gt1-via-else-protected-gt1+then-level-gt255 w ↦ either (is_saved state) (sense_same (List ℕ) p written out (λ b. level_above_output (connection_in state) b level description answered out w.if-level-gt255.true)) refl
+            | then-protected-gt1-via-else-protected-gt1+else-level-gt255+then-description-gt255 w ↦ either (is_saved state) (sense_same (List ℕ) p written out (λ b. description_above_output (connection_in state) b level description answered out w.if-description-gt255.true)) refl
+          ];
+      loads =
+          elim c.then-protected-gt1.branch [
+            | then-protected-gt1-via-then-protected-gt1 w ↦ either (is_saved state) (sense_out Loaded p loads (loaded state) w.if-protected-gt1.true) refl
+            | then-protected-gt1-via-else-protected-gt1+then-level-gt255 w ↦ either (is_saved state) (sense_same Loaded p loads (loaded state) (λ b. ap (sent_loads state) (level_above (connection_in state) b level description answered (length out) w.if-level-gt255.true))) refl
+            | then-protected-gt1-via-else-protected-gt1+else-level-gt255+then-description-gt255 w ↦ either (is_saved state) (sense_same Loaded p loads (loaded state) (λ b. ap (sent_loads state) (description_above (connection_in state) b level description answered (length out) w.if-description-gt255.true))) refl
+          ];
+    }
 
 pub connection_in-requires : goal.connection_in-requires
 connection_in-requires c = saved_size c.args.state.now (sym c.is_saved.ensures.exact ∙ c.if-is_saved.true)
