@@ -2,6 +2,10 @@
 -- `ensures` (`Determined`, in `digest`, says what is stated). `exact` is an equation for the result; each other clause but `loads`,
 -- which is not needed, is one for a lent buffer, in its place among the parameters.
 use mathlib.Core.Path.{refl, sym, ◌∙◌}
+use Prim.Native.Nat.{ℕ}
+use mir.Syntax.{w64}
+use mir.Val.{Fits}
+use denote.Param.{number}
 use Rattle.digest.specs.Determined.{OneOutcome}
 use Rattle.lent.proofs.fresh as fresh
 use Rattle.lent.specs.contracts.fresh as fresh-contract
@@ -175,8 +179,8 @@ report_lay_entry_one κs a x y s u e f = (refl, λ i. ((e ∙ sym f) i, (tt, (tt
 pub save_lay_sent_one : OneOutcome save-lay-sent-contract.ended save-lay-sent.Reads.Learnt
 save_lay_sent_one κs a x y s u e f = (refl, λ i. ((e.0 ∙ sym f.0) i, (tt, tt)))
 
-pub bytes_bytes_within_one : OneOutcome bytes-bytes-within-contract.ended bytes-bytes-within.Reads.Learnt
-bytes_bytes_within_one κs a x y s u e f = (e ∙ sym f, refl)
+pub bytes_bytes_within_one : (n : ℕ) (fits : Fits w64 n) → OneOutcome (bytes-bytes-within-contract.ended (number n)) (bytes-bytes-within.Reads.Learnt n fits)
+bytes_bytes_within_one n fits κs a x y s u e f = (e ∙ sym f, refl)
 
 pub parts_mac_numbered_one : OneOutcome parts-mac-numbered-contract.ended parts-mac-numbered.Reads.Learnt
 parts_mac_numbered_one κs a x y s u e f = (e ∙ sym f, refl)
