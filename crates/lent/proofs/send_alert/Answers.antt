@@ -1,12 +1,11 @@
 -- `send_alert`: three numbers out of range, then the bytes, then the call.
-use mathlib.Core.Path.{◌≡◌, refl, sym, ◌∙◌, ap}
+use mathlib.Core.Path.{refl, sym, ◌∙◌, ap}
 use mathlib.Core.Bool.{Bool}
 use mathlib.Core.List.{List}
 use Prim.Native.Nat.{ℕ}
 use lib.ListN.{length}
 use lib.Dec.{eqb}
-use Rattle.connection.specs.Send.{alert_sent, alert_output, unsent}
-use Rattle.connection.specs.declared.refusal.Refusal.TheVariants.{Argument}
+use Rattle.connection.specs.Send.{alert_sent, alert_output}
 use Rattle.lent.specs.Saved.{is_saved, connection_in, Loaded, loaded}
 use Rattle.lent.specs.Calls.{alert_result, alert_state, alert_out, sent_result, sent_state, sent_loads, not_taken, alert_loads}
 use Rattle.lent.proofs.Calling.{saved_size, test_yes, test_no, either, sense_in, sense_out, sense_same, level_above, level_above_output, description_above, description_above_output}

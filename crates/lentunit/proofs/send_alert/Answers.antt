@@ -1,12 +1,11 @@
 -- `send_alert`: three numbers out of range, then the bytes, then the call.
-use mathlib.Core.Path.{◌≡◌, refl, sym, ◌∙◌, ap}
+use mathlib.Core.Path.{refl, sym, ◌∙◌, ap}
 use mathlib.Core.Bool.{Bool}
 use mathlib.Core.List.{List}
 use Prim.Native.Nat.{ℕ}
 use lib.ListN.{length}
 use lib.Dec.{eqb}
-use Rattle.unit.specs.Send.{alert_sent, alert_output, unsent}
-use Rattle.connection.specs.declared.refusal.Refusal.TheVariants.{Argument}
+use Rattle.unit.specs.Send.{alert_sent, alert_output}
 use Rattle.lentunit.specs.Saved.{is_saved, unit_in, Loaded, loaded}
 use Rattle.lentunit.specs.Calls.{alert_result, alert_state, alert_out, sent_result, sent_state, sent_loads, alert_loads}
 use Rattle.lent.specs.Calls.{not_taken}

@@ -1,5 +1,5 @@
 -- `load::is_saved`: the size and the mark, then what the bytes tell.
-use mathlib.Core.Path.{refl, ◌∙◌}
+use mathlib.Core.Path.{refl}
 use native.Mathlib.Omega.{arith}
 use lib.ListN.{length}
 use Rattle.digest.specs.Bytes.{word_at}
