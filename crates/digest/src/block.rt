@@ -90,8 +90,8 @@ fn added(g: State, h: State) -> State
     }
 }
 
-// The word that stands at `at`, its first byte the most significant. (By `from_be_bytes` a block takes 13 instructions more, and a
-// digest of 40 bytes a twenty-fifth longer: docs/SPEED.md.)
+// The word that stands at `at`, its first byte the most significant. (With `from_be_bytes` SHA-1 is up to three in a hundred
+// slower: docs/SPEED.md.)
 fn word(s: &[u8], at: usize) -> u32
     requires { at + 3 < length s.now }
     ensures { result ≡ word_at s.now at }

@@ -4,6 +4,9 @@ use Rattle.digest.specs.Sha1.{compress, words, joined}
 use Rattle.digest.proofs.Rounds.{none_reached, length_words, k_first, k_second, k_third, k_fourth}
 use Rattle.digest.proofs.block.compressed.Goals as goal
 
+pub late-one-requires-clause-places : goal.late-one-requires-clause-places
+late-one-requires-clause-places c = (omega arith, omega arith, omega arith)
+
 pub late-one-requires-clause-constant : goal.late-one-requires-clause-constant
 late-one-requires-clause-constant c = λ t l h. k_first t (omega arith)
 

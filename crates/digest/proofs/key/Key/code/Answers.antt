@@ -5,6 +5,9 @@ use Rattle.digest.proofs.Lay.{laid_behind}
 use Rattle.digest.proofs.Codes.{begun_absorbed, piece, code_is}
 use Rattle.digest.proofs.key.Key.code.Goals as goal
 
+pub short_code-requires : goal.short_code-requires
+short_code-requires c = (c.lay-in-Some.auto.d ∙ c.lay.auto.d, omega arith)
+
 pub returns-in-Some : goal.returns-in-Some
 returns-in-Some c = let args = c.args in
     let head = args.head.now in
