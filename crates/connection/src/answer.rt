@@ -8,7 +8,7 @@ use message::alert::Description;
 
 #[derive(Clone, Copy)]
 pub enum Answer {
-    // no record stood in this place
+    // no record stood in this place: a row of the report like the others, number 0 in the lent bytes, so no Option
     Nothing,
     // a new reply, of so many bytes
     Reply(usize),
@@ -89,7 +89,7 @@ pub fn handed<'a>(datagram: &'a [u8], answer: Answer) -> &'a [u8]
     }
 }
 
-// How many bytes of the kept reply an answer sends.
+// How many bytes of the kept reply an answer sends. (0 for none, here and below: the numbers that the lent bytes have.)
 pub fn reply_size(answer: Answer) -> usize
     ensures { result ≡ reply_size answer }
 {

@@ -46,7 +46,7 @@ pub(crate) fn whom_of(c: Connection, d: &[u8], r: Record) -> Whom
     }
 }
 
-// The Open rows.
+// The Open rows. (A match: each row has arguments of its own.)
 fn in_open(c: Connection, r: Record, fragment: &[u8], kind: Kind) -> Whom
     ensures { result ≡ open_to c r fragment.now kind }
 {

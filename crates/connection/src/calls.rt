@@ -70,7 +70,7 @@ pub fn start(c: Connection) -> Called
     }
 }
 
-// The number of the refusal that an outcome is; 0 where the call was done.
+// The number of the refusal that an outcome is; 0 where the call was done, as 01 and C have it.
 pub fn refused(outcome: Result<(), Refusal>) -> u8
     ensures { result ≡ outcome_number outcome }
 {

@@ -11,7 +11,8 @@ use crate::sent::SentRecords;
 pub struct Connection {
     // the open handshake, or the only one
     pub handshake: Handshake,
-    // beside an open one: the one that a unit has started, in Replied or Spec; in Idle there is none
+    // beside an open one: the one that a unit has started, in Replied or Spec; in Idle there is none (no Option: the lent
+    // state always has its bytes, and the theorems of `demands` speak of every value)
     pub started: Handshake,
     // the records that we sent since the last start
     pub sent: SentRecords,

@@ -34,7 +34,8 @@ pub(crate) fn judge(
     ruled(h, sent, random, rule_of(state, is), is, r, fragment)
 }
 
-// What the table's rule does with the fragment of a record. A ClientHello may stand only first in its datagram.
+// What the table's rule does with the fragment of a record. A ClientHello may stand only first in its datagram. (A match and no
+// closures: each row is a call with arguments of its own.)
 fn ruled(
     h: Handshake,
     sent: SentRecords,
@@ -90,7 +91,7 @@ pub(crate) fn step_by(h: Handshake, sent: SentRecords, d: &[u8], r: Record) -> S
     ruled_else(h, sent, rule_of(state, is), is, r, fragment)
 }
 
-// What the table's rule does with the fragment of such a record.
+// What the table's rule does with the fragment of such a record. (A match, as above.)
 fn ruled_else(
     h: Handshake,
     sent: SentRecords,

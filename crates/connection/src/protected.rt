@@ -37,7 +37,7 @@ pub(crate) fn open_record(
     }
 }
 
-// The content of a genuine new record, whose number is marked in the window.
+// The content of a genuine new record, whose number is marked in the window. (A match: each row has arguments of its own.)
 fn content(h: Handshake, window: Window, kind: Kind, number: u16, at: usize, content: &[u8]) -> Step
     ensures { stepped_by h result ≡ content_by (with_window h window) kind number at content.now }
 {

@@ -87,7 +87,7 @@ pub fn counted(tally: Tally, received: Received) -> Tally
     tally.with_answers(answers)
 }
 
-// The number of the refusal of a whole datagram; 0 where it was taken.
+// The number of the refusal of a whole datagram; 0 where it was taken, as 01 and C have it.
 pub fn refused(taken: Result<usize, Untaken>) -> u8
     ensures { result ≡ taken_number taken }
 {
@@ -98,7 +98,7 @@ pub fn refused(taken: Result<usize, Untaken>) -> u8
     }
 }
 
-// The offset of the record at fault, of 1 to 5.
+// The offset of the record at fault, of 1 to 5; else 0, as C has it.
 pub fn refused_at(taken: Result<usize, Untaken>) -> usize
     ensures { result ≡ taken_at taken }
 {

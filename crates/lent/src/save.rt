@@ -77,6 +77,7 @@ fn put_handshake(d: &mut [u8], h: Handshake)
     put(d, 431, &standing_bytes(protection));
 }
 
+// (State is another crate's, so `From` cannot stand here.)
 pub fn state_number(state: State) -> u8
     ensures exact { result ≡ state_number state }
 {

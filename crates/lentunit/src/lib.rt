@@ -1,4 +1,5 @@
 // The calls of the shipboard end, on a unit and a tally that live in bytes which the caller lends, as the shore's are in `lent`.
+// They are calls of their own and no instances of those: C exports each, over another type of state with definitions of its own.
 // Nothing is kept between calls. No call has a `requires`: what is lent is tested. Each call answers one number of three parts
 // (`lent::result_of`), and a refused call leaves every lent byte as it was. The crate `shipboard` exports them to C and Rust.
 #![tactic(auto)]

@@ -53,6 +53,7 @@ fn state_number(state: State) -> u8
     }
 }
 
+// (Kinds and State are other crates', so `From` cannot stand here.)
 fn kinds_number(kinds: Kinds) -> u8
     ensures { result ≡ kinds_number kinds }
 {

@@ -8,7 +8,7 @@ use message::alert::Description;
 
 #[derive(Clone, Copy)]
 pub enum Answer {
-    // no record stood in this place
+    // no record stood in this place: a row of the report like the others, number 0 in the lent bytes, so no Option
     Nothing,
     // a ServerHello that answers the offer
     Hello,

@@ -78,7 +78,7 @@ fn agrees(rule: Rule, start: usize) -> bool
     }
 }
 
-// The step of any other record.
+// The step of any other record. (A match and no closures: each row is a call with arguments of its own.)
 fn step_by(
     sent: SentRecords,
     protection: Protection,

@@ -51,7 +51,7 @@ pub(crate) fn unprotect(
     }
 }
 
-// The content of a genuine new record, whose number is marked.
+// The content of a genuine new record, whose number is marked. (A match: each row has arguments of its own.)
 fn content(
     window: Window,
     mac: Mac,

@@ -18,7 +18,7 @@ pub enum Under {
 // Places count from the datagram's front.
 #[derive(Clone, Copy)]
 pub enum Reason {
-    // no refusal
+    // no refusal: the first row of the list, number 0 in the lent bytes, so no Option
     NotRefused,
     // 16: the random, the edition or the index
     Argument,
