@@ -1,6 +1,6 @@
 -- The laws of blocks absorbed in a row: a message may be cut anywhere.
 use Rattle.std.specs.Simd.{first_chunks}
-use Rattle.std.proofs.Common.{◌≡◌, ℕ, zero, suc, ◌+◌, ◌-◌, ◌*◌, ◌/◌, ◌<◌, ◌≤◌, List, [], ◌++◌, length, get_or, take, drop, sym, refl, ap, ◌∙◌, ap₂, add-zero, add-suc, add-one, arith, length-append, length-drop, length-take-le, take_all, drop-drop}
+use Rattle.std.proofs.Common.{◌≡◌, ℕ, zero, suc, ◌+◌, ◌-◌, ◌*◌, ◌/◌, ◌<◌, ◌≤◌, List, [], ◌++◌, length, get_or, take, drop, sym, refl, ap, ◌∙◌, ap₂, add-zero, zero-add, add-suc, add-one, arith, length-append, length-drop, length-take-le, take_all, drop-drop}
 use lib.Seq.{take-append-le, drop-append-le}
 use Rattle.digest.specs.Sha1.{compress, absorb, blocks_of}
 use Rattle.digest.specs.declared.block.State.{State}
@@ -12,6 +12,15 @@ absorb_one b g l = ap (λ x. compress x g) (take_all 64 b (omega arith))
 
 pub absorb_block : (b : List ℕ) (g : State) → length b ≡ 64 → absorb b (blocks_of b) g ≡ compress b g
 absorb_block b g l = ap (λ n. absorb b (n / 64) g) l ∙ absorb_one b g l
+
+-- One block more, as a loop counts it.
+pub absorb_more : (s : List ℕ) (from i : ℕ) (h g r : State)
+    → r ≡ compress (take 64 (drop (from + 64 * i) s)) g → g ≡ absorb (drop from s) i h → r ≡ absorb (drop from s) (i + 1) h
+unfolding absorb
+absorb_more s from i h g r e p =
+    e
+    ∙ ap₂ (λ l k. compress (take 64 l) k) (sym (drop-drop (64 * i) from s)) p
+    ∙ sym (ap (λ n. absorb (drop from s) n h) (add-one i))
 
 -- The blocks of s, cut off one by one.
 chunk_at : (n i : ℕ) (s d : List ℕ) → i < n → get_or (first_chunks 64 n s) i d ≡ take 64 (drop (64 * i) s)
@@ -28,14 +37,13 @@ chunk_long n i s blocks cut count b l =
     ∙ ap length (chunk_at n i s [] (omega arith))
     ∙ length-take-le 64 (drop (64 * i) s) (omega (arith, length-drop (64 * i) s))
 
--- One block more, as a loop takes it.
-pub absorb_more : (s : List ℕ) (i n : ℕ) (h g r : State) (blocks : List (List ℕ)) → blocks ≡ first_chunks 64 n s → i < n
+-- One block more, as a loop over them takes it.
+pub absorb_next : (s : List ℕ) (i n : ℕ) (h g r : State) (blocks : List (List ℕ)) → blocks ≡ first_chunks 64 n s → i < n
     → r ≡ compress (get_or blocks i []) g → g ≡ absorb s i h → r ≡ absorb s (i + 1) h
-unfolding absorb
-absorb_more s i n h g r blocks cut b e p =
-    e
-    ∙ ap₂ compress (ap (λ l. get_or l i []) cut ∙ chunk_at n i s [] b) p
-    ∙ sym (ap (λ n. absorb s n h) (add-one i))
+absorb_next s i n h g r blocks cut b e p =
+    let block : get_or blocks i [] ≡ take 64 (drop (0 + 64 * i) s)
+    = ap (λ l. get_or l i []) cut ∙ chunk_at n i s [] b ∙ ap (λ k. take 64 (drop k s)) (sym (zero-add (64 * i))) in
+    absorb_more s 0 i h g r (e ∙ ap (λ l. compress l g) block) p
 
 -- Some blocks, and then others.
 pub absorb_add : (s : List ℕ) (n k : ℕ) (h : State) → absorb s (n + k) h ≡ absorb (drop (64 * n) s) k (absorb s n h)

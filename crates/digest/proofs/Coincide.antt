@@ -85,14 +85,14 @@ key_key_expand_one κs a x y s u e f = (refl, ap (λ w. (tt, (tt, (tt, (tt, (tt,
 pub key_prf_one : OneOutcome key-prf-contract.ended key-prf.Reads.Learnt
 key_prf_one κs a x y s u e f = (refl, ap (λ w. (tt, (tt, (tt, (tt, (tt, (w, tt))))))) (e ∙ sym f))
 
-pub edition_mac_named_one : (static : List ℕ) → OneOutcome edition-mac-named-contract.ended (λ κs. edition-mac-named.Reads.Learnt (static, κs))
-edition_mac_named_one static κs a x y s u e f = (e ∙ sym f, refl)
+pub edition_mac_named_one : OneOutcome edition-mac-named-contract.ended edition-mac-named.Reads.Learnt
+edition_mac_named_one κs a x y s u e f = (e ∙ sym f, refl)
 
 pub named_named_name_one : (static : List ℕ) → OneOutcomeBy named-named-name-contract.ended (λ κs x y. x.now ≡ y.now) (λ κs. named-named-name.Reads.Learnt (static, κs))
 named_named_name_one static κs a x y s u e f = (e.0 ∙ sym f.0, refl)
 
-pub named_named_sizes_one : (static : List ℕ) → OneOutcome named-named-sizes-contract.ended (λ κs. named-named-sizes.Reads.Learnt (static, κs))
-named_named_sizes_one static κs a x y s u e f = (e ∙ sym f, refl)
+pub named_named_sizes_one : OneOutcome named-named-sizes-contract.ended named-named-sizes.Reads.Learnt
+named_named_sizes_one κs a x y s u e f = (e ∙ sym f, refl)
 
 pub mac_mac_number_one : OneOutcome mac-mac-number-contract.ended mac-mac-number.Reads.Learnt
 mac_mac_number_one κs a x y s u e f = (e ∙ sym f, refl)

@@ -6,8 +6,8 @@ use mathlib.Core.Logic.{by_cases}
 use native.Mathlib.Decide.{dec_le}
 use Rattle.digest.proofs.Picks.{picks}
 use Rattle.digest.specs.Pick.{pick}
-use Rattle.digest.specs.Named.{Told}
-use Rattle.digest.specs.Edition.{entry_of, named_in, named, where_listed, name_in, sizes_in, sha_xor40}
+use Rattle.digest.specs.Named.{Told, sha_xor40}
+use Rattle.digest.specs.Edition.{entry_of, named_in, named, where_listed, name_in, sizes_in}
 use Rattle.digest.specs.declared.edition.Entry.{Entry}
 use Rattle.digest.specs.declared.named.Unnamed.{Unnamed}
 use Rattle.digest.specs.declared.named.Unnamed.TheVariants.{Unlisted, UnknownEdition}
@@ -27,6 +27,17 @@ older_by n = refl
 pub later_by : (n : ℕ) → named_in 2 n ≡ named (where_listed (λ e. e.later) (entry_of n))
 unfolding named_in
 later_by n = refl
+
+-- The entry as the older edition lists it, and as that of April 2001 does.
+pub in_older : (r : Result Told Unnamed) (e : Option Entry) (edition n : ℕ) → e ≡ entry_of n → r ≡ named (where_listed (λ e. e.older) e) → edition ≡ 1
+    → r ≡ named_in edition n
+in_older r e edition n ee er one =
+    er ∙ ap (λ x. named (where_listed (λ e. e.older) x)) ee ∙ sym (older_by n) ∙ ap (λ x. named_in x n) (sym one)
+
+pub in_later : (r : Result Told Unnamed) (e : Option Entry) (edition n : ℕ) → e ≡ entry_of n → r ≡ named (where_listed (λ e. e.later) e) → edition ≡ 2
+    → r ≡ named_in edition n
+in_later r e edition n ee er two =
+    er ∙ ap (λ x. named (where_listed (λ e. e.later) x)) ee ∙ sym (later_by n) ∙ ap (λ x. named_in x n) (sym two)
 
 -- An entry filtered by whether an edition has it.
 pub filtered : (lists : Entry → Bool) (P : Entry → Bool → Type 0) (row r : Option Entry) → ((e : Entry) (b : Bool) → P e b → b ≡ lists e)

@@ -118,10 +118,10 @@ left_over s rest count l =
 
 -- The first block, topped by the front of the piece.
 pub topped_by : (rest s block : List ℕ) (fill : ℕ) (h g : State) → length rest ≡ 64 → fill < 64 → (fill ≡ 0 → ⊥) → 64 ≤ fill + length s
-    → block ≡ laid_over rest fill (take (64 - fill) s) → length block ≡ 64 → g ≡ compress block h
+    → block ≡ laid_over rest fill (take (64 - fill) s) → g ≡ absorb (drop 0 block) 1 h
     → g ≡ absorb (take fill rest ++ s) ((fill + 63) / 64) h
 unfolding laid_over
-topped_by rest s block fill h g l b some long e lb eg =
+topped_by rest s block fill h g l b some long e eg =
     let n = 64 - fill in
     let x = take fill rest ++ take n s in
     let size : length x ≡ 64
@@ -130,11 +130,16 @@ topped_by rest s block fill h g l b some long e lb eg =
     = append_assoc (take fill rest) (take n s) (drop n s) ∙ ap (λ y. take fill rest ++ y) (take-append-drop n s) in
     let one : 1 ≡ (fill + 63) / 64 = one_block fill b some in
     eg
-    ∙ sym (absorb_one block h lb)
     ∙ ap (λ y. absorb y 1 h) e
     ∙ absorb_front x (drop (fill + length (take n s)) rest) 1 h (omega arith)
     ∙ sym (absorb_front x (drop n s) 1 h (omega arith))
     ∙ ap₂ (λ y k. absorb y k h) whole one
+
+-- The same of a block by itself.
+pub topped_alone : (rest s block : List ℕ) (fill : ℕ) (h g : State) → length rest ≡ 64 → fill < 64 → (fill ≡ 0 → ⊥) → 64 ≤ fill + length s
+    → block ≡ laid_over rest fill (take (64 - fill) s) → length block ≡ 64 → g ≡ compress block h
+    → g ≡ absorb (take fill rest ++ s) ((fill + 63) / 64) h
+topped_alone rest s block fill h g l b some long e lb eg = topped_by rest s block fill h g l b some long e (eg ∙ sym (absorb_one block h lb))
 
 pub none_topped : (p : List ℕ) (fill : ℕ) (h : State) → fill ≡ 0 → h ≡ absorb p ((fill + 63) / 64) h
 unfolding absorb
@@ -195,18 +200,32 @@ padded_by f d₁ d₃ d₄ end x lo hi e₁ e₃ e₄ =
     ∙ append_assoc f ((128 ∷ replicate (end - (length f + 9)) 0) ++ bytes4 (x / 4294967296)) (bytes4 (x % 4294967296))
     ∙ ap (λ y. f ++ y) (append_assoc (128 ∷ replicate (end - (length f + 9)) 0) (bytes4 (x / 4294967296)) (bytes4 (x % 4294967296)))
 
--- The last blocks: n of them in d hold the bytes f that are left of c, and the padding.
-pub ended_by : (f d : List ℕ) (h g : State) (c n : ℕ) → length f < 120 → length f % 64 ≡ c % 64 → n ≡ (length f + 72) / 64
+-- The last blocks: d, n of them, holds the bytes f that are left of c, and the padding.
+pub ended_alone : (f d : List ℕ) (h g : State) (c n : ℕ) → length f < 120 → length f % 64 ≡ c % 64 → n ≡ (length f + 72) / 64
     → d ≡ f ++ ((128 ∷ replicate (64 * n - (length f + 9)) 0) ++ bytes8 (8 * c % 2 ^ 64))
     → g ≡ absorb d (blocks_of d) h → g ≡ absorb (f ++ padding c) (blocks_of (f ++ padding c)) h
 unfolding padding
-ended_by f d h g c n few l en t eg =
+ended_alone f d h g c n few l en t eg =
     let zeros : 64 * n - (length f + 9) ≡ (119 - c % 64) % 64 = zeros_are (length f) (c % 64) n l en few in
     let p-is : d ≡ f ++ padding c = t ∙ ap (λ x. f ++ ((128 ∷ replicate x 0) ++ bytes8 (8 * c % 2 ^ 64))) zeros in
     eg ∙ ap (λ x. absorb x (blocks_of x) h) p-is
   where
     zeros_are : (fill m n : ℕ) → fill % 64 ≡ m → n ≡ (fill + 72) / 64 → fill < 120 → 64 * n - (fill + 9) ≡ (119 - m) % 64
     zeros_are fill m n e en h = omega arith
+
+-- The same of the n blocks at the front of d.
+pub ended_by : (f d : List ℕ) (h g : State) (c n : ℕ) → length f < 120 → length f % 64 ≡ c % 64 → n ≡ (length f + 72) / 64 → 64 * n ≤ length d
+    → take (64 * n) d ≡ f ++ ((128 ∷ replicate (64 * n - (length f + 9)) 0) ++ bytes8 (8 * c % 2 ^ 64))
+    → g ≡ absorb (drop 0 d) n h → g ≡ absorb (f ++ padding c) (blocks_of (f ++ padding c)) h
+ended_by f d h g c n few l en b t eg =
+    let front = take (64 * n) d in
+    let size : length front ≡ 64 * n = length-take-le (64 * n) d b in
+    let all : n ≡ blocks_of front = omega arith in
+    ended_alone f front h g c n few l en t
+    (eg
+    ∙ ap (λ x. absorb x n h) (sym (take-append-drop (64 * n) d))
+    ∙ absorb_front front (drop (64 * n) d) n h (omega arith)
+    ∙ ap (λ k. absorb front k h) all)
 
 -- What the end means: the digest of the message.
 pub finished_from : (g : State) (n : ℕ) (h : Hasher) (m : List ℕ) → n % 64 ≡ 0 → AbsorbedFrom g n h m → finished h ≡ digest_from g n m

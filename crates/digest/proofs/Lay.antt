@@ -1,8 +1,9 @@
 -- The laws of bytes laid over others.
-use Rattle.std.proofs.Common.{◌≡◌, ℕ, suc, ◌+◌, ◌-◌, ◌<◌, ◌≤◌, List, ◌∷◌, ◌++◌, length, take, drop, set, replicate, sym, refl, ap, ◌∙◌, ap₂, append_assoc, zero-add, arith, length-append, length-drop, length-take-le, drop-drop, take_at, drop_at}
+use Rattle.std.proofs.Common.{◌≡◌, ℕ, suc, ◌+◌, ◌-◌, ◌<◌, ◌≤◌, List, [], ◌∷◌, ◌++◌, length, take, drop, set, replicate, sym, refl, ap, ◌∙◌, ap₂, append_assoc, zero-add, arith, length-append, length-drop, length-take-le, drop-drop, take_at, drop_at}
+use native.Mathlib.Numerals.{towards_suc}
 use lib.ListN.{length-replicate, replicate-append-replicate}
 use borrow.Rule.Slice.PartMut.{put_mid}
-use lib.Seq.{paste, take-length, set_at, take-append-add, drop-append-add}
+use lib.Seq.{paste, take-length, sets-eq, set_at, take-append-add, drop-append-add}
 use Rattle.digest.proofs.Picks.{picks}
 use Rattle.digest.specs.Bytes.{laid_over, laid_within, bytes4}
 
@@ -21,6 +22,12 @@ pub length_laid : (d : List ℕ) (at : ℕ) (s : List ℕ) → at + length s ≤
 unfolding laid_over
 length_laid d at s h =
     simp (length-append, length-drop) (omega (arith, length-take-le at d (omega arith)))
+
+-- four stores in a row
+pub laid_four : (d : List ℕ) (at x y z w : ℕ) → at + 4 ≤ length d
+    → set (set (set (set d at x) (at + 1) y) (at + 2) z) (at + 3) w ≡ laid_over d at (x ∷ y ∷ z ∷ w ∷ [])
+unfolding laid_over
+laid_four d at x y z w h = simp towards_suc (simp towards_suc at (sets-eq (x ∷ y ∷ z ∷ w ∷ []) d at h))
 
 -- five words spelled one behind the other
 pub laid_words : (z : List ℕ) (a b c d e : ℕ) (d₁ d₂ d₃ d₄ d₅ : List ℕ) → z ≡ replicate 20 0
@@ -78,6 +85,12 @@ laid_pieces d d₁ d₂ d₃ d₄ s t u v e₁ e₂ e₃ e₄ =
     ∙ laid_behind d (s ++ t) u (length s + length t) two)
     ∙ laid_behind d (s ++ t ++ u) v (length s + length t + length u) three
     ∙ ap (laid_over d 0) (append_assoc (s ++ t) u v ∙ append_assoc s t (u ++ v) ∙ ap (λ x. s ++ x) (sym (append_assoc t u v)))
+
+pub length_pieces : (s t u v : List ℕ) → length (s ++ (t ++ u ++ v)) ≡ length s + length t + length u + length v
+length_pieces s t u v =
+    length-append s (t ++ u ++ v)
+    ∙ ap (λ x. length s + x) (length-append (t ++ u) v ∙ ap (λ x. x + length v) (length-append t u))
+    ∙ omega arith
 
 -- what stands at the front of one block, laid in another behind twenty bytes a that come last
 pub laid_second : (s d₁ e₁ e₂ a : List ℕ) (n : ℕ) → length s ≡ n → n ≤ 108 → length a ≡ 20 → d₁ ≡ laid_over (replicate 128 0) 0 s

@@ -119,12 +119,17 @@ schedule_none : (m : List ℕ) → schedule m 0 ≡ m
 unfolding schedule
 schedule_none m = refl
 
-pub block_word : (s : List ℕ) (t x : ℕ) → t < 16 → x ≡ word_at s (4 * t) → x ≡ get_or (schedule (words s 16) 64) t 0
-block_word s t x h e =
+pub front_word : (s : List ℕ) (t x : ℕ) → t < 16 → x ≡ word_at s (4 * t) → x ≡ get_or (schedule (words s 16) 64) t 0
+front_word s t x h e =
     e
     ∙ sym (word_at_lem s 16 t h)
     ∙ ap (λ l. get_or l t 0) (sym (schedule_none (words s 16)))
     ∙ front (words s 16) 0 t (omega arith) (omega (arith, length_words s 16))
+
+-- wherever the block stands,
+pub block_word : (s : List ℕ) (at t x : ℕ) → t < 16 → x ≡ word_at s (at + 4 * t)
+    → x ≡ get_or (schedule (words (take 64 (drop at s)) 16) 64) t 0
+block_word s at t x h e = front_word (take 64 (drop at s)) t x h (e ∙ sym (word_part s at 64 (4 * t) (omega arith)))
 
 -- and word t + 16 is made of words before it.
 last_word : (m : List ℕ) (n : ℕ) → length m ≡ 16 → get_or (schedule m (suc n)) (n + 16) 0 ≡ next_word (schedule m n) (16 + n)

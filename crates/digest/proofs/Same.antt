@@ -1,5 +1,5 @@
 -- The laws of the comparison of codes.
-use Rattle.std.proofs.Common.{◌≡◌, ℕ, suc, Bool, true, false, ◌&&◌, eqb, List, [], ◌∷◌, length, take, sym, refl, ap, ◌∙◌, arith, take_all, eq-eqb, ne_eqb}
+use Rattle.std.proofs.Common.{◌≡◌, ℕ, suc, ◌+◌, ◌<◌, Bool, true, false, ◌&&◌, eqb, List, [], ◌∷◌, ◌++◌, length, get_or, take, sym, refl, ap, ◌∙◌, add-one, arith, take_all, get_or-take, take-suc, take-take, eq-eqb, ne_eqb}
 use mathlib.Core.Logic.{by_cases, ◌⊎◌, inl, inr}
 use native.Mathlib.Decide.{ℕ_discrete}
 use lib.Bits.{bit_or, bit_xor, or_add_and, xor_add_and, and_le_l, and_le_r, xor_self, or_zero_l}
@@ -45,6 +45,27 @@ or_none a b e = (omega (arith, or_add_and a b, and_le_l a b, and_le_r a b), omeg
 
 xor_none : (a b : ℕ) → bit_xor a b ≡ 0 → a ≡ b
 xor_none a b e = omega (arith, xor_add_and a b, and_le_l a b, and_le_r a b)
+
+-- A byte more of each.
+pub differ_more : (a b : List ℕ) (differ i : ℕ) → i < length a → i < length b
+    → (differ ≡ 0 → take i a ≡ take i b) → (take i a ≡ take i b → differ ≡ 0)
+    → (bit_or differ (bit_xor (get_or a i 0) (get_or b i 0)) ≡ 0 → take (i + 1) a ≡ take (i + 1) b)
+    × (take (i + 1) a ≡ take (i + 1) b → bit_or differ (bit_xor (get_or a i 0) (get_or b i 0)) ≡ 0)
+differ_more a b differ i ha hb yes_so only_so = (
+  λ e.
+      let both = or_none differ (bit_xor (get_or a i 0) (get_or b i 0)) e in
+      ap (λ n. take n a) (add-one i)
+      ∙ take-suc a i 0 ha
+      ∙ (λ j. yes_so both.0 j ++ (xor_none (get_or a i 0) (get_or b i 0) both.1 j ∷ []))
+      ∙ sym (ap (λ n. take n b) (add-one i) ∙ take-suc b i 0 hb),
+  λ e.
+      let front : take i a ≡ take i b = sym (take-take i (i + 1) a (omega arith)) ∙ ap (take i) e ∙ take-take i (i + 1) b (omega arith) in
+      let here : get_or a i 0 ≡ get_or b i 0
+      = sym (get_or-take (i + 1) a i 0 (omega arith)) ∙ ap (λ l. get_or l i 0) e ∙ get_or-take (i + 1) b i 0 (omega arith) in
+      (λ j. bit_or (only_so front j) (bit_xor (here j) (get_or b i 0)))
+      ∙ or_zero_l (bit_xor (get_or b i 0) (get_or b i 0))
+      ∙ xor_self (get_or b i 0),
+)
 
 -- Whether any bits differ tells whether the codes are the same.
 pub differ_whole : (a b : List ℕ) (differ : ℕ) → length a ≡ length b → (differ ≡ 0 → take (length a) a ≡ take (length a) b)

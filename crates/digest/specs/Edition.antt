@@ -1,36 +1,11 @@
 -- The list of MAC kinds in its two editions (002 appendix A, table 6; 02, P11).
-use Rattle.std.specs.Prelude.{ℕ, Bool, true, false, List, [], ◌∷◌, ◌==◌, Option, Some, None, Result, Ok, Err}
+use Rattle.std.specs.Prelude.{ℕ, Bool, true, false, List, [], ◌==◌, Option, Some, None, Result, Ok, Err}
 use Rattle.digest.specs.Pick.{pick}
-use Rattle.digest.specs.Named.{Told}
+use Rattle.digest.specs.Named.{Told, sha0, sha40, sha80, sha, sha_xor40, md540, md580, md5}
 use Rattle.digest.specs.declared.edition.Entry.{Entry}
 use Rattle.digest.specs.declared.named.Sizes.{Sizes}
 use Rattle.digest.specs.declared.named.Unnamed.{Unnamed}
 use Rattle.digest.specs.declared.named.Unnamed.TheVariants.{Unlisted, UnknownEdition}
-
--- the names
-abbrev pub sha0 : List ℕ
-sha0 = 83 ∷ 72 ∷ 65 ∷ 95 ∷ 48 ∷ []
-
-abbrev pub sha40 : List ℕ
-sha40 = 83 ∷ 72 ∷ 65 ∷ 95 ∷ 52 ∷ 48 ∷ []
-
-abbrev pub sha80 : List ℕ
-sha80 = 83 ∷ 72 ∷ 65 ∷ 95 ∷ 56 ∷ 48 ∷ []
-
-abbrev pub sha : List ℕ
-sha = 83 ∷ 72 ∷ 65 ∷ []
-
-abbrev pub sha_xor40 : List ℕ
-sha_xor40 = 83 ∷ 72 ∷ 65 ∷ 95 ∷ 88 ∷ 79 ∷ 82 ∷ 95 ∷ 52 ∷ 48 ∷ []
-
-abbrev pub md540 : List ℕ
-md540 = 77 ∷ 68 ∷ 53 ∷ 95 ∷ 52 ∷ 48 ∷ []
-
-abbrev pub md580 : List ℕ
-md580 = 77 ∷ 68 ∷ 53 ∷ 95 ∷ 56 ∷ 48 ∷ []
-
-abbrev pub md5 : List ℕ
-md5 = 77 ∷ 68 ∷ 53 ∷ []
 
 -- an entry: its name, its sizes where they are shown, and whether each edition lists it
 abbrev pub row : List ℕ → Option Sizes → Bool → Bool → Entry

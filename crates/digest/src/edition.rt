@@ -1,11 +1,12 @@
 // The list of MAC kinds (002 appendix A, table 6) in its two editions: the older with SHA_XOR_40, that of April 2001 without.
-ghost use Rattle.std.specs.Prelude.{◌≡◌, ◌≤◌, length};
+ghost use Rattle.std.specs.Prelude.{◌≡◌};
 ghost use Rattle.digest.specs.Edition.{entry_of, named_in, named, both};
+ghost use Rattle.digest.specs.Named.{bytes_of};
 
-use crate::named::{Named, Sizes, Unnamed};
+use crate::named::{Name, Named, Sizes, Unnamed};
 
 // An entry: what the list says of the kind, and which editions have it.
-#[derive(Drop)]
+#[derive(Clone, Copy)]
 struct Entry {
     named: Named,
     older: bool,
@@ -35,26 +36,25 @@ fn row_of(n: u8) -> Option<Entry>
     ensures { result ≡ entry_of n }
 {
     match n {
-        0 => Some(both(b"SHA_0", 0, 0)),
-        1 => Some(both(b"SHA_40", 20, 5)),
-        2 => Some(both(b"SHA_80", 20, 10)),
-        3 => Some(both(b"SHA", 20, 20)),
+        0 => Some(both(Name::Sha0, 0, 0)),
+        1 => Some(both(Name::Sha40, 20, 5)),
+        2 => Some(both(Name::Sha80, 20, 10)),
+        3 => Some(both(Name::Sha, 20, 20)),
         4 => Some(Entry {
-            named: Named::new(b"SHA_XOR_40", None),
+            named: Named::new(Name::ShaXor40, None),
             older: true,
             later: false,
         }),
-        5 => Some(both(b"MD5_40", 16, 5)),
-        6 => Some(both(b"MD5_80", 16, 10)),
-        7 => Some(both(b"MD5", 16, 16)),
+        5 => Some(both(Name::Md540, 16, 5)),
+        6 => Some(both(Name::Md580, 16, 10)),
+        7 => Some(both(Name::Md5, 16, 16)),
         _ => None,
     }
 }
 
 // An entry that both editions list, with its key size and its code size.
-fn both(name: &'static [u8], key: usize, code: usize) -> Entry
-    requires { length name.now ≤ 10 }
-    ensures { result ≡ both name.now key code }
+fn both(name: Name, key: usize, code: usize) -> Entry
+    ensures { result ≡ both (bytes_of name) key code }
 {
     Entry {
         named: Named::new(name, Some(Sizes { key, code })),

@@ -1,7 +1,7 @@
 -- `block::absorbed`: after i turns the state has absorbed i blocks.
-use Rattle.std.proofs.Common.{◌≡◌, refl, arith, length}
+use Rattle.std.proofs.Common.{◌≡◌, refl, arith}
 use Rattle.digest.specs.Sha1.{absorb, blocks_of}
-use Rattle.digest.proofs.Absorb.{absorb_more, chunk_long}
+use Rattle.digest.proofs.Absorb.{absorb_next, chunk_long}
 use Rattle.digest.proofs.block.absorbed.Goals as goal
 
 pub loop-block-init : goal.loop-block-init
@@ -14,7 +14,7 @@ compressed-g-requires c = let cut = c.as_chunks.ensures in
 
 pub loop-block-preserved : goal.loop-block-preserved
 loop-block-preserved c = let at = c.loop-block in
-    absorb_more c.args.s.now at.block-index (blocks_of c.args.s.now) c.args.h at.g c.compressed-g.result _
+    absorb_next c.args.s.now at.block-index (blocks_of c.args.s.now) c.args.h at.g c.compressed-g.result _
     c.as_chunks.ensures.front (omega arith) c.compressed-g.ensures at.invariant
 
 pub returns : goal.returns

@@ -1,6 +1,6 @@
 -- `block::first`: each turn is a word of the block and its round, with the function and the constant of the first twenty.
 use Rattle.std.proofs.Common.{◌≡◌, ◌%◌, ◌∙◌, arith, length-set, rules}
-use Rattle.digest.proofs.Rounds.{block_word, round_more, k_first}
+use Rattle.digest.proofs.Rounds.{front_word, round_more, k_first}
 use Rattle.digest.proofs.block.first.Goals as goal
 
 pub loop-t-init : goal.loop-t-init
@@ -12,7 +12,7 @@ loop-t-preserved c = let at = c.loop-t in
       length-set at.w (at.t % 16) x.result ∙ at.invariant.0,
       λ h p.
           round_more _ at.w at.t x.result h at.g c.turned-g.result at.invariant.0 (at.invariant.1 h p)
-          (block_word _ at.t x.result (omega arith) x.ensures)
+          (front_word _ at.t x.result (omega arith) x.ensures)
           (c.turned-g.ensures at.t (c.choice.ensures at.t (omega arith)) (k_first at.t (omega arith))),
     )
 

@@ -1,7 +1,7 @@
 -- `pieces::closed`: the one behind the bytes that are left, the length at the end, and the last block or two.
 use Rattle.std.proofs.Common.{◌≡◌, ◌+◌, ◌-◌, ◌*◌, ◌/◌, ◌%◌, ◌^◌, ◌∷◌, ◌++◌, length, take, set, replicate, sym, ap, ◌∙◌, arith, length-set}
 use Rattle.digest.specs.Bytes.{laid_over, bytes4, bytes8}
-use Rattle.digest.proofs.Hashing.{padded_by, ended_by}
+use Rattle.digest.proofs.Hashing.{padded_by, ended_alone}
 use Rattle.digest.proofs.pieces.closed.Goals as goal
 
 pub put_word-requires : goal.put_word-requires
@@ -27,4 +27,4 @@ returns c = λ m l e.
     let written
     = padded_by m args.d.now c.put_word.new.d c.put_word-2.new.d (64 * n) x (omega arith) (omega arith) e marked c.put_word-2.ensures
     ∙ ap (λ k. m ++ ((128 ∷ replicate (64 * n - (length m + 9)) 0) ++ bytes8 k)) bits in
-    ended_by m (take (64 * n) c.put_word-2.new.d) args.h c.absorbed.result args.count n (omega arith) (ap (λ k. k % 64) l ∙ omega arith) (ap (λ k. (k + 72) / 64) (sym l)) written c.absorbed.ensures
+    ended_alone m (take (64 * n) c.put_word-2.new.d) args.h c.absorbed.result args.count n (omega arith) (ap (λ k. k % 64) l ∙ omega arith) (ap (λ k. (k + 72) / 64) (sym l)) written c.absorbed.ensures
