@@ -132,6 +132,33 @@ done s sum i w h small =
     ∙ ap (λ (x : List ℕ). word_at x 0) (sym w.so_far)
 
 -- the last block, by how many bytes it has
+pub none_left : (s : List ℕ) → length s ≡ 0 → 0 ≡ word_at (padded s) 0
+unfolding word_at padded
+none_left [] e = refl
+none_left (p ∷ s) e = absurd (omega arith)
+
+pub one_left : (s : List ℕ) → length s ≡ 1 → spelled (get_or s 0 0) 0 0 0 ≡ word_at (padded s) 0
+unfolding word_at padded
+one_left [] e = absurd (omega arith)
+one_left (p ∷ []) e = refl
+one_left (p ∷ q ∷ s) e = absurd (omega arith)
+
+pub two_left : (s : List ℕ) → length s ≡ 2 → spelled (get_or s 0 0) (get_or s 1 0) 0 0 ≡ word_at (padded s) 0
+unfolding word_at padded
+two_left [] e = absurd (omega arith)
+two_left (p ∷ []) e = absurd (omega arith)
+two_left (p ∷ q ∷ []) e = refl
+two_left (p ∷ q ∷ r ∷ s) e = absurd (omega arith)
+
+pub three_left : (s : List ℕ) → length s ≡ 3 → spelled (get_or s 0 0) (get_or s 1 0) (get_or s 2 0) 0 ≡ word_at (padded s) 0
+unfolding word_at padded
+three_left [] e = absurd (omega arith)
+three_left (p ∷ []) e = absurd (omega arith)
+three_left (p ∷ q ∷ []) e = absurd (omega arith)
+three_left (p ∷ q ∷ r ∷ []) e = refl
+three_left (p ∷ q ∷ r ∷ t ∷ s) e = absurd (omega arith)
+
+-- the last block, as zeros with its bytes over them
 pub last_block : (s t b : List ℕ) → length s < 4 → t ≡ s → b ≡ put_mid 0 (length s) (0 ∷ 0 ∷ 0 ∷ 0 ∷ []) t → from_be_bytes w32 b ≡ word_at (padded s) 0
 unfolding word_at padded
 last_block [] t b h e f = rw (f, e) (omega arith)

@@ -140,3 +140,12 @@ walkable d w = told (framing_of d) refl
           each = λ i h. subst (Lies d) (sym (found_at rs i h)) (lies_at rs i d 0 (omega arith) (covers d rs q).0 h);
         })
     told (faulty f at) q e = let z : ◌≡◌ {A = ℕ} 0 1 = cc in absurd (omega arith)
+
+pub walk_count : (d : List ℕ) (w : Walk) → walk_of d ≡ Ok w → w.count ≤ 8
+walk_count d w e = (walkable d w e).few
+
+pub walk_eight : (d : List ℕ) (w : Walk) → walk_of d ≡ Ok w → length w.records ≡ 8
+walk_eight d w e = (walkable d w e).eight
+
+pub walk_lies : (d : List ℕ) (w : Walk) → walk_of d ≡ Ok w → (i : ℕ) → i < w.count → Lies d (get_or w.records i blank)
+walk_lies d w e = (walkable d w e).each

@@ -2,7 +2,8 @@
 use mathlib.Core.Path.{◌≡◌, refl, sym, ap, ap₂, ◌∙◌}
 use mathlib.Core.List.{List, [], ◌∷◌, ◌++◌, append-nil}
 use Prim.Native.Nat.{ℕ, zero, suc, ◌+◌, ◌*◌, ◌/◌, ◌%◌, ◌≤◌, ◌<◌}
-use native.Mathlib.Nat.{zero-add, div-add-mod', mod-lt, mod-eq-sub-mod}
+use native.Mathlib.Nat.{zero-add, div-add-mod', mod-lt, mod-eq-sub-mod, add-mod_right}
+use native.Mathlib.Numerals.{add-one}
 use native.Mathlib.Omega.{arith}
 use lib.Bits.{bit_xor, xor_self, xor_zero_r}
 use lib.Dec.{lit<}
@@ -29,8 +30,11 @@ unfolding numbers_over
 length_numbers number n =
     length-take-le n (times ((n + 1) / 2) (bytes2 number)) (omega (arith, length_times number ((n + 1) / 2), enough n))
 
-two_more : (i : ℕ) → suc (suc i) % 2 ≡ i % 2
-two_more i = mod-eq-sub-mod {n = suc (suc i)} {m = 2} (omega arith) ∙ ap (λ (x : ℕ). x % 2) (omega arith)
+two_later : (i : ℕ) → suc (suc i) % 2 ≡ i % 2
+two_later i = mod-eq-sub-mod {n = suc (suc i)} {m = 2} (omega arith) ∙ ap (λ (x : ℕ). x % 2) (omega arith)
+
+pub two_on : (i : ℕ) → i % 2 ≡ 0 → (i + 2) % 2 ≡ 0
+two_on i e = add-mod_right i 2 ∙ e
 
 -- the number's two bytes in turn
 in_turn : (number i n : ℕ) → i < n * 2 → get_or (times n (bytes2 number)) i 0 ≡ get_or (bytes2 number) (i % 2) 0
@@ -39,12 +43,21 @@ in_turn number i zero h = absurd (omega arith)
 in_turn number zero (suc n) h = refl
 in_turn number (suc zero) (suc n) h = refl
 in_turn number (suc (suc i)) (suc n) h =
-    in_turn number i n (omega arith) ∙ ap (λ (x : ℕ). get_or (bytes2 number) x 0) (sym (two_more i))
+    in_turn number i n (omega arith) ∙ ap (λ (x : ℕ). get_or (bytes2 number) x 0) (sym (two_later i))
 
 pub byte_over : (number n i : ℕ) → i < n → get_or (numbers_over number n) i 0 ≡ get_or (bytes2 number) (i % 2) 0
 unfolding numbers_over
 byte_over number n i h =
     get_or-take n (times ((n + 1) / 2) (bytes2 number)) i 0 h ∙ in_turn number i ((n + 1) / 2) (omega (arith, enough n))
+
+-- the high byte at the even places, the low one at the odd
+pub even_byte : (number n i : ℕ) → i % 2 ≡ 0 → i < n → get_or (numbers_over number n) i 0 ≡ number / 256 % 256
+even_byte number n i e h = byte_over number n i h ∙ ap (λ (x : ℕ). get_or (bytes2 number) x 0) e
+
+pub odd_byte : (number n i : ℕ) → i % 2 ≡ 0 → suc i < n → get_or (numbers_over number n) (suc i) 0 ≡ number % 256
+odd_byte number n i e h =
+    let odd : suc i % 2 ≡ 1 = omega arith in
+    byte_over number n (suc i) h ∙ ap (λ (x : ℕ). get_or (bytes2 number) x 0) odd
 
 -- ---- XOR byte by byte
 
@@ -115,6 +128,15 @@ module _ (iv : List ℕ) (number : ℕ) where
       ∙ ap (λ (k : ℕ). set (so_far i) k (get_or (mask_of iv number) i 0)) (sym (zero-add i))
       ∙ paste-suc iv 0 (mask_of iv number) i 0 (omega arith) (omega (arith, length_mask iv number))
 
+  -- a turn: the number's two bytes, from an even place on
+  pub two_more : (v x : List ℕ) (i : ℕ) → i % 2 ≡ 0 → i + 1 < length iv → v ≡ so_far i → x ≡ set v i (bit_xor (get_or v i 0) (number / 256 % 256)) → set x (i + 1) (bit_xor (get_or x (i + 1) 0) (number % 256)) ≡ so_far (i + 2)
+  two_more v x i even h e f =
+      ap (λ (k : ℕ). set x k (bit_xor (get_or x k 0) (number % 256))) (add-one i)
+      ∙ one_more x (suc i) (number % 256) (omega arith)
+      (f ∙ one_more v i (number / 256 % 256) (omega arith) e (even_byte number (length iv) i even (omega arith)))
+      (odd_byte number (length iv) i even (omega arith))
+      ∙ ap so_far {x = suc (suc i)} {y = i + 2} (omega arith)
+
   -- the whole vector
   pub all_done : (i : ℕ) → i ≡ length iv → so_far i ≡ mask_of iv number
   all_done i e =
@@ -122,3 +144,8 @@ module _ (iv : List ℕ) (number : ℕ) where
       (take_all i (mask_of iv number) (omega (arith, length_mask iv number)))
       (ap (λ (k : ℕ). drop k iv) (zero-add i ∙ e) ∙ drop-length iv)
       ∙ append-nil (mask_of iv number)
+
+  -- the last byte of an odd number
+  pub last_one : (v : List ℕ) (i : ℕ) → i % 2 ≡ 0 → i < length iv → length iv ≤ suc i → v ≡ so_far i → set v i (bit_xor (get_or v i 0) (number / 256 % 256)) ≡ mask_of iv number
+  last_one v i even h k e =
+      one_more v i (number / 256 % 256) h e (even_byte number (length iv) i even h) ∙ all_done (suc i) (omega arith)

@@ -95,9 +95,13 @@ protected_key key k e size long content number body =
 
 -- ---- as the code makes them
 
-pub coded_head : (number byte : ℕ) (content n size : List ℕ) → n ≡ to_be_bytes w16 number → size ≡ to_be_bytes w16 (length content % 65536) → (get_or n 0 0 ∷ get_or n 1 0 ∷ byte ∷ get_or size 0 0 ∷ get_or size 1 0 ∷ []) ++ content ≡ coded_of number byte content
+pub coded_head : (number byte : ℕ) (content : List ℕ) → (number / 256 % 256 ∷ number % 256 ∷ byte ∷ length content / 256 % 256 ∷ length content % 256 ∷ []) ++ content ≡ coded_of number byte content
 unfolding coded_of
-coded_head number byte content n size e f =
+coded_head number byte content = refl
+
+pub coded_bytes : (number byte : ℕ) (content n size : List ℕ) → n ≡ to_be_bytes w16 number → size ≡ to_be_bytes w16 (length content % 65536) → (get_or n 0 0 ∷ get_or n 1 0 ∷ byte ∷ get_or size 0 0 ∷ get_or size 1 0 ∷ []) ++ content ≡ coded_of number byte content
+unfolding coded_of
+coded_bytes number byte content n size e f =
     let high : length content % 65536 / 256 % 256 ≡ length content / 256 % 256 = omega arith in
     let low : length content % 65536 % 256 ≡ length content % 256 = omega arith in
     rw (e, f, high, low)
