@@ -58,6 +58,18 @@ use Rattle.record.proofs.checksum.checksum as checksum-checksum
 use Rattle.record.specs.contracts.checksum.checksum as checksum-checksum-contract
 use Rattle.record.proofs.mask.mask as mask-mask
 use Rattle.record.specs.contracts.mask.mask as mask-mask-contract
+use Rattle.record.proofs.header.KindFromU8.from as header-kind-from-u8
+use Rattle.record.specs.contracts.header.KindFromU8.from as header-kind-from-u8-contract
+use Rattle.record.proofs.header.U8FromKind.from as header-u8-from-kind
+use Rattle.record.specs.contracts.header.U8FromKind.from as header-u8-from-kind-contract
+use Rattle.record.proofs.header.ContentFromU8.from as header-content-from-u8
+use Rattle.record.specs.contracts.header.ContentFromU8.from as header-content-from-u8-contract
+use Rattle.record.proofs.header.U8FromContent.from as header-u8-from-content
+use Rattle.record.specs.contracts.header.U8FromContent.from as header-u8-from-content-contract
+use Rattle.record.proofs.reader.U8FromFault.from as reader-u8-from-fault
+use Rattle.record.specs.contracts.reader.U8FromFault.from as reader-u8-from-fault-contract
+use Rattle.record.proofs.protection.UnopenedFromNotNew.from as protection-unopened-from-not-new
+use Rattle.record.specs.contracts.protection.UnopenedFromNotNew.from as protection-unopened-from-not-new-contract
 
 pub header_split_one : OneOutcome header-split-contract.ended header-split.Reads.Learnt
 header_split_one κs a x y s u e f = (e ∙ sym f, refl)
@@ -142,3 +154,22 @@ protection_writing_size_one κs a x y s u e f = (e ∙ sym f, refl)
 
 pub mask_mask_one : OneOutcome mask-mask-contract.ended mask-mask.Reads.Learnt
 mask_mask_one κs a x y s u e f = (refl, ap (λ w. (w, (tt, tt))) (e ∙ sym f))
+
+-- The conversions: what comes back is what the law `from_gives` says.
+pub header_kind_from_u8_one : OneOutcome header-kind-from-u8-contract.ended header-kind-from-u8.Reads.Learnt
+header_kind_from_u8_one κs a x y s u e f = (e ∙ sym f, refl)
+
+pub header_u8_from_kind_one : OneOutcome header-u8-from-kind-contract.ended header-u8-from-kind.Reads.Learnt
+header_u8_from_kind_one κs a x y s u e f = (e ∙ sym f, refl)
+
+pub header_content_from_u8_one : OneOutcome header-content-from-u8-contract.ended header-content-from-u8.Reads.Learnt
+header_content_from_u8_one κs a x y s u e f = (e ∙ sym f, refl)
+
+pub header_u8_from_content_one : OneOutcome header-u8-from-content-contract.ended header-u8-from-content.Reads.Learnt
+header_u8_from_content_one κs a x y s u e f = (e ∙ sym f, refl)
+
+pub reader_u8_from_fault_one : OneOutcome reader-u8-from-fault-contract.ended reader-u8-from-fault.Reads.Learnt
+reader_u8_from_fault_one κs a x y s u e f = (e ∙ sym f, refl)
+
+pub protection_unopened_from_not_new_one : OneOutcome protection-unopened-from-not-new-contract.ended protection-unopened-from-not-new.Reads.Learnt
+protection_unopened_from_not_new_one κs a x y s u e f = (e ∙ sym f, refl)
