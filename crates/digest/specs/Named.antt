@@ -1,5 +1,6 @@
 -- What a list of MAC kinds says of one kind (002 appendix A, table 6).
-use Rattle.std.specs.Prelude.{◌≡◌, refl, ℕ, List, [], ◌∷◌, Option}
+use Rattle.std.specs.Prelude.{◌≡◌, refl, ℕ, ◌≤◌, List, [], ◌∷◌, length, Option}
+use Rattle.std.proofs.Common.{arith}
 use Rattle.digest.specs.Pick.{pick}
 use Rattle.digest.specs.Mac.{same_bytes}
 use Rattle.digest.specs.declared.named.Name.{Name}
@@ -47,7 +48,18 @@ bytes_of N.Md540 = md540
 bytes_of N.Md580 = md580
 bytes_of N.Md5 = md5
 
--- the name that has these bytes: no two have the same
+-- none is longer than ten
+pub bytes_fit : (n : Name) → length (bytes_of n) ≤ 10
+bytes_fit N.Sha0 = omega arith
+bytes_fit N.Sha40 = omega arith
+bytes_fit N.Sha80 = omega arith
+bytes_fit N.Sha = omega arith
+bytes_fit N.ShaXor40 = omega arith
+bytes_fit N.Md540 = omega arith
+bytes_fit N.Md580 = omega arith
+bytes_fit N.Md5 = omega arith
+
+-- the name that has these bytes, since no two have the same; of any others the last
 unfoldable pub name_of : List ℕ → Name
 name_of s =
     pick (same_bytes s sha0) N.Sha0
