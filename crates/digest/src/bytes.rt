@@ -7,7 +7,10 @@ pub(crate) fn lay(d: &mut [u8], at: usize, s: &[u8])
     requires { at + length s.now ≤ length d.old }
     ensures { d.new ≡ laid_over d.old at s.now }
 {
-    d[at..at + s.len()].copy_from_slice(s);
+    // (byte by byte in the source: copy_from_slice would have the archives for C need memmove)
+    for i in 0..s.len() {
+        d[at + i] = s[i];
+    }
 }
 
 // s laid over d from place `at` on, where all of it fits; else nothing is written.
