@@ -85,9 +85,9 @@ few k (s ∷ slots) store n =
       hot_once s.reference n,
     )
 
--- whatever the gatherer, which has four slots by its type, and the store are, at most four references are held
-pub four_references : (g : Gatherer) (store : List ℕ) → length g.slots ≡ 4 → held_in (map_of g store) ≤ 4
-four_references g store four = omega (arith, few 0 g.slots store 256)
+-- whatever the gatherer and the store are, at most four references are held
+pub four_references : (g : Gatherer) (store : List ℕ) → held_in (map_of g store) ≤ 4
+four_references g store = omega (arith, few 0 g.slots store 256, g.four)
 
 -- and each has at most 1,400 bytes
 pub bytes_each : (s : Slot) (store : List ℕ) (k : ℕ) → length (joined (places_of s.sizes (room_of store k))) ≤ 1400
