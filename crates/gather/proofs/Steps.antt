@@ -6,11 +6,11 @@ use Prim.Native.Nat.{ℕ, ◌+◌, ◌-◌, ◌*◌, ◌≤◌, ◌<◌}
 use native.Mathlib.Nat.{ℕ_set}
 use lib.ListN.{length, get_or, take, drop, set}
 use borrow.Author.Tests.{eq-eqb, ne_eqb, lt-ltb, le-ltb, le-leb, lt-leb}
-use Rattle.std.specs.Prelude.{Result, Ok, Err}
+use Rattle.std.specs.Prelude.{Some, Result, Ok, Err}
 use Rattle.digest.specs.Bytes.{laid_over}
 use Rattle.gather.specs.Header.{heading_of}
 use Rattle.gather.specs.Slot.{free, count_of, below, sized}
-use Rattle.gather.specs.Gatherer.{with_slot, lower, upper, Left, leaves, again_of, add_of, join_of, step_by, step_of}
+use Rattle.gather.specs.Gatherer.{slot_at, with_slot, held_at, lower, upper, Left, leaves, again_of, add_of, join_of, step_by, step_of}
 use Rattle.gather.specs.declared.slot.Slot.{Slot}
 use Rattle.gather.specs.declared.header.Ports.{Ports}
 use Rattle.gather.specs.declared.header.Place.{Place}
@@ -66,6 +66,12 @@ module _ (g : Gatherer) (k : ℕ) (s : Slot) (i : ℕ) (store part : List ℕ) (
         lt-leb s.total (count_of s.sizes + 1) (rw eh at t),
       )
       (λ j. leaves (same_slots h (with_slot g k (sized s i (length part))) ef j) (Ok (Waiting ports s.reference (eh j + 1) s.total)) (ed j) assembly)
+
+-- a part of a reference that is held, by another total
+pub join_differs : (g : Gatherer) (store part : List ℕ) (ports : Ports) (p : Place) (assembly : List ℕ) (k total : ℕ)
+    → held_at g p.reference ≡ Some k → total ≡ (slot_at g k).total → (total ≡ p.total → ⊥)
+    → leaves g (Err R.Differs) store assembly ≡ join_of g store part ports p assembly
+join_differs g store part ports p assembly k total e et n = rw (e, ne_eqb (slot_at g k).total p.total (λ q. n (et ∙ q)))
 
 module _ (g : Gatherer) (store message assembly : List ℕ) where
   pub step_argument : length store < 5600 → leaves g (Err R.Argument) store assembly ≡ step_of g store message assembly
