@@ -42,6 +42,10 @@ use Rattle.connection.proofs.answer.level as answer-level
 use Rattle.connection.specs.contracts.answer.level as answer-level-contract
 use Rattle.connection.proofs.refusal.number as refusal_number_lem
 use Rattle.connection.specs.contracts.refusal.number as refusal_number_lem-contract
+use Rattle.connection.proofs.refusal.RefusalFromUnopened.from as refusal-from-unopened
+use Rattle.connection.specs.contracts.refusal.RefusalFromUnopened.from as refusal-from-unopened-contract
+use Rattle.connection.proofs.refusal.RefusalFromUnwritten.from as refusal-from-unwritten
+use Rattle.connection.specs.contracts.refusal.RefusalFromUnwritten.from as refusal-from-unwritten-contract
 use Rattle.connection.proofs.state.kind_of as state-kind-of
 use Rattle.connection.specs.contracts.state.kind_of as state-kind-of-contract
 use Rattle.connection.proofs.state.rule_of as state-rule-of
@@ -133,6 +137,12 @@ answer_reply_size_one κs a x y s u e f = (e ∙ sym f, refl)
 
 pub refusal_number_one : OneOutcome refusal_number_lem-contract.ended refusal_number_lem.Reads.Learnt
 refusal_number_one κs a x y s u e f = (e ∙ sym f, refl)
+
+pub refusal_refusal_from_unopened_one : OneOutcome refusal-from-unopened-contract.ended refusal-from-unopened.Reads.Learnt
+refusal_refusal_from_unopened_one κs a x y s u e f = (e ∙ sym f, refl)
+
+pub refusal_refusal_from_unwritten_one : OneOutcome refusal-from-unwritten-contract.ended refusal-from-unwritten.Reads.Learnt
+refusal_refusal_from_unwritten_one κs a x y s u e f = (e ∙ sym f, refl)
 
 pub state_kind_of_one : OneOutcome state-kind-of-contract.ended state-kind-of.Reads.Learnt
 state_kind_of_one κs a x y s u e f = (e ∙ sym f, refl)

@@ -5,7 +5,7 @@ use mathlib.Core.List.{List, [], ◌∷◌, ◌++◌, map}
 use Prim.Native.Nat.{ℕ, zero, suc, ◌+◌, ◌-◌, ◌<◌, ◌≤◌}
 use native.Mathlib.Omega.{arith}
 use native.Mathlib.Numerals.{add-one}
-use lib.ListN.{length, take, drop, get_or, set, replicate, length-append, length-drop, length-map}
+use lib.ListN.{length, take, drop, get_or, set, replicate, length-append, length-take, length-drop, length-map}
 use Rattle.digest.specs.Bytes.{laid_over}
 use lib.Dec.{eqb}
 use borrow.Author.Tests.{ne_eqb}
@@ -187,6 +187,12 @@ walk_refused d m e = go (framing_of d) refl
         let z : Err m ≡ misframed_at other there = sym e ∙ ap answered q in
         let m-is : m ≡ record { fault = other; at = there } = cc in
         q ∙ sym (ap (λ (x : Misframed). faulty x.fault x.at) m-is)
+
+-- which has one record at least
+pub walk_some : (d : List ℕ) (w : Walk) → walk_of d ≡ Ok w → 0 < w.count
+walk_some d w e =
+    let c = covers d (take w.count w.records) (walk_sound d w e) in
+    omega (arith, c.3, length-take w.count w.records)
 
 -- nothing sent leaves the output as it was
 pub laid_nothing : (out : List ℕ) → out ≡ laid_over out 0 []

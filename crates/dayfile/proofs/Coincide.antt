@@ -5,6 +5,8 @@ use mathlib.Core.Path.{refl, sym, ◌∙◌, ap}
 use Rattle.digest.specs.Determined.{OneOutcome}
 use Rattle.dayfile.proofs.refusal.number as refusal_number_lem
 use Rattle.dayfile.specs.contracts.refusal.number as refusal_number_lem-contract
+use Rattle.dayfile.proofs.refusal.U8FromRefusal.from as refusal-u8-from-refusal
+use Rattle.dayfile.specs.contracts.refusal.U8FromRefusal.from as refusal-u8-from-refusal-contract
 use Rattle.dayfile.proofs.report.report_at as report-report-at
 use Rattle.dayfile.specs.contracts.report.report_at as report-report-at-contract
 use Rattle.dayfile.proofs.read.read_file as read-read-file
@@ -24,6 +26,9 @@ use Rattle.dayfile.specs.contracts.dayfile_report as dayfile-report-contract
 
 pub refusal_number_one : OneOutcome refusal_number_lem-contract.ended refusal_number_lem.Reads.Learnt
 refusal_number_one κs a x y s u e f = (e ∙ sym f, refl)
+
+pub refusal_u8_from_refusal_one : OneOutcome refusal-u8-from-refusal-contract.ended refusal-u8-from-refusal.Reads.Learnt
+refusal_u8_from_refusal_one κs a x y s u e f = (e ∙ sym f, refl)
 
 pub report_report_at_one : OneOutcome report-report-at-contract.ended report-report-at.Reads.Learnt
 report_report_at_one κs a x y s u e f = (e.0 ∙ sym f.0, refl)

@@ -5,8 +5,9 @@ use mathlib.Core.Bool.{Bool, true, false}
 use mathlib.Core.List.{List, [], ◌∷◌, ◌++◌}
 use Prim.Native.Nat.{ℕ, ◌+◌, ◌-◌, ◌≤◌, ◌<◌}
 use native.Mathlib.Omega.{arith}
+use native.Mathlib.Nat.{le_of_eq}
 use lib.ListN.{length, get_or, take, drop, length-append, length-drop}
-use lib.Seq.{length-take-le, take-add, take_at}
+use lib.Seq.{length-take-le, take-add, take_at, take_all}
 use lib.Dec.{eqb, ltb}
 use borrow.Author.Tests.{eqb-true, ltb-false, eq-eqb, ne_eqb, lt-ltb, le-ltb}
 use Rattle.digest.specs.Pick.{pick}
@@ -121,6 +122,9 @@ pub front_opened : (s : List ℕ) (n z : ℕ) → 5 ≤ length s → get_or s 0 
 unfolding front_of
 front_opened s n z h e p q =
     rw (le-ltb (length s) 5 h, eq-eqb (get_or s 0 0) 209 e) (λ i. whole_if (p i) (q i) (length s - 5))
+
+pub part_on : (d : List ℕ) (at : ℕ) → take (length d - at) (drop at d) ≡ drop at d
+part_on d at = take_all (length d - at) (drop at d) (le_of_eq (length-drop at d))
 
 -- ---- what is found stands there
 

@@ -5,7 +5,7 @@ use mathlib.Core.Path.{◌≡◌, refl, sym, ◌∙◌, ap, subst}
 use mathlib.Core.Bool.{Bool, true, false, ◌&&◌}
 use mathlib.Core.List.{List, [], ◌∷◌, ◌++◌, append_assoc}
 use mathlib.Core.Logic.{◌⊎◌, inl, inr, by_cases}
-use Prim.Native.Nat.{ℕ, ◌+◌, ◌*◌, ◌/◌, ◌%◌, ◌≤◌, ◌<◌}
+use Prim.Native.Nat.{ℕ, ◌+◌, ◌-◌, ◌*◌, ◌/◌, ◌%◌, ◌≤◌, ◌<◌}
 use native.Mathlib.Omega.{arith}
 use native.Mathlib.Decide.{ℕ_discrete, dec_le}
 use native.Mathlib.Nat.{zero-add}
@@ -271,6 +271,13 @@ module _ (b : List ℕ) (run : Run) (w : RunStands b run) where
 
   pub run_length : length (body_of (run_of b)) ≡ end
   run_length = ap length w.stands ∙ length-take-le end b w.inside
+
+  pub file_length : length (file_of (run_of b)) ≡ end + (3 + 2 * run.count)
+  file_length = length_file (run_of b) ∙ (λ i. run_length i + (3 + 2 * sym w.many i))
+
+  -- another length behind the run than that of a trailer
+  pub other_length : (length b - end ≡ 3 + 2 * run.count → ⊥) → false ≡ same_bytes b (file_of (run_of b))
+  other_length h = sym (differ_same b (file_of (run_of b)) (λ e. h (omega (arith, ap length e, file_length, w.inside))))
 
   pub again : ((k : ℕ) → get_or b k 0 < 256) → run_of (take end b) ≡ run_of b
   again below = ap run_of (sym w.stands) ∙ run_body (run_of b) (run_sound b below)

@@ -1,6 +1,6 @@
 -- What holds of every value: at most four references, eleven places, 1,400 bytes each; and of every step: a refusal other
 -- than 22 leaves the gathering, and every refusal leaves both buffers.
-use mathlib.Core.Path.{◌≡◌, refl, ap}
+use mathlib.Core.Path.{◌≡◌, refl, ap, sym}
 use mathlib.Core.Bool.{Bool, true, false}
 use mathlib.Core.List.{List, [], ◌∷◌}
 use mathlib.Core.Logic.{by_cases}
@@ -27,6 +27,8 @@ use Rattle.gather.specs.declared.refusal.Refusal.TheVariants as R
 use Rattle.gather.specs.declared.gatherer.Gatherer.{Gatherer}
 use Rattle.gather.specs.declared.gatherer.Answer.{Answer}
 use Rattle.gather.specs.declared.gatherer.Answer.TheVariants.{Waiting, Received, Gathered}
+use Rattle.digest.proofs.Picks.{pick_yes}
+use Rattle.gather.proofs.Steps.{add_again}
 use Rattle.gather.proofs.Places.{joined_few}
 
 -- ---- four references, 1,400 bytes each
@@ -85,9 +87,9 @@ few k (s ∷ slots) store n =
       hot_once s.reference n,
     )
 
--- whatever the gatherer, which has four slots by its type, and the store are, at most four references are held
-pub four_references : (g : Gatherer) (store : List ℕ) → length g.slots ≡ 4 → held_in (map_of g store) ≤ 4
-four_references g store four = omega (arith, few 0 g.slots store 256)
+-- whatever the gatherer and the store are, at most four references are held
+pub four_references : (g : Gatherer) (store : List ℕ) → held_in (map_of g store) ≤ 4
+four_references g store = omega (arith, few 0 g.slots store 256, g.four)
 
 -- and each has at most 1,400 bytes
 pub bytes_each : (s : Slot) (store : List ℕ) (k : ℕ) → length (joined (places_of s.sizes (room_of store k))) ≤ 1400
@@ -157,8 +159,12 @@ module _ (g : Gatherer) (store assembly : List ℕ) where
 pub seen_twice : (g : Gatherer) (k : ℕ) (s : Slot) (i : ℕ) (store part : List ℕ) (ports : Ports) (assembly : List ℕ)
     → (get_or s.sizes i 0 ≡ 0 → ⊥) → same_bytes (within store k s i) part ≡ true
     → add_of g k s i store part ports assembly ≡ leaves g (Ok (Waiting ports s.reference (count_of s.sizes) s.total)) store assembly
-unfolding add_of again_of
-seen_twice g k s i store part ports assembly h e = rw (ne_eqb (get_or s.sizes i 0) 0 h, e)
+unfolding again_of
+seen_twice g k s i store part ports assembly h e =
+    let seen = Ok (Waiting ports s.reference (count_of s.sizes) s.total) in
+    sym
+    (add_again g k s i store part ports assembly seen h
+    (pick_yes (Result Answer Refusal) seen seen (Err R.Differs) (same_bytes (within store k s i) part) e refl))
 
 -- "dropping one not held changes nothing"
 pub drop_nothing : (g : Gatherer) (r : ℕ) → held_at g r ≡ None → drop_of g r ≡ g

@@ -6,6 +6,8 @@ use Rattle.digest.specs.Determined.{OneOutcome, OneOutcomeBy}
 use Rattle.gather.specs.Gatherer.{Left}
 use Rattle.gather.proofs.refusal.refusal_number as refusal-refusal-number
 use Rattle.gather.specs.contracts.refusal.refusal_number as refusal-refusal-number-contract
+use Rattle.gather.proofs.refusal.U8FromRefusal.from as refusal-u8-from-refusal
+use Rattle.gather.specs.contracts.refusal.U8FromRefusal.from as refusal-u8-from-refusal-contract
 use Rattle.gather.proofs.header.read as header_read
 use Rattle.gather.specs.contracts.header.read as header_read-contract
 use Rattle.gather.proofs.gatherer.Gatherer.fresh as gatherer-gatherer-fresh
@@ -21,6 +23,9 @@ use Rattle.gather.specs.contracts.slot.Slot.held_places as slot-slot-held_places
 
 pub refusal_refusal_number_one : OneOutcome refusal-refusal-number-contract.ended refusal-refusal-number.Reads.Learnt
 refusal_refusal_number_one κs a x y s u e f = (e ∙ sym f, refl)
+
+pub refusal_u8_from_refusal_one : OneOutcome refusal-u8-from-refusal-contract.ended refusal-u8-from-refusal.Reads.Learnt
+refusal_u8_from_refusal_one κs a x y s u e f = (e ∙ sym f, refl)
 
 pub header_read_one : OneOutcome header_read-contract.ended header_read.Reads.Learnt
 header_read_one κs a x y s u e f = (e ∙ sym f, refl)

@@ -98,12 +98,12 @@ apart g sound i k r hi hk n e = go (holds (slot_at g k) r) refl
 
 pub four_held : (g : Gatherer) (store : List ℕ) → Sound g → vacant_at g ≡ None → held_in (map_of g store) ≡ 4
 four_held g store sound e =
-    count_used 0 g.slots store (all_full g e) (λ i l. (sound.fits i (omega (arith, sound.four))).byte)
+    count_used 0 g.slots store (all_full g e) (λ i l. (sound.fits i (omega (arith, g.four))).byte)
     (λ i k l m.
-    apart g sound i k (slot_at g i).reference (omega (arith, sound.four)) (omega (arith, sound.four)) (λ q. omega arith)
+    apart g sound i k (slot_at g i).reference (omega (arith, g.four)) (omega (arith, g.four)) (λ q. omega arith)
     (holds_own (slot_at g i) (all_full g e i (omega arith))))
-    ∙ sound.four
+    ∙ g.four
 
 pub fewer_held : (g : Gatherer) (store : List ℕ) (k : ℕ) → Sound g → vacant_at g ≡ Some k → held_in (map_of g store) < 4
 fewer_held g store k sound e =
-    let v = vacant g k e in omega (arith, count_free 0 g.slots store k v.0 v.1, sound.four)
+    let v = vacant g k e in omega (arith, count_free 0 g.slots store k v.0 v.1, g.four)

@@ -1,10 +1,9 @@
 -- A part put among those that are held: room made for it between them, and all of them joined.
-use mathlib.Core.Path.{◌≡◌, refl, sym, ap, ◌∙◌}
+use mathlib.Core.Path.{◌≡◌, refl, ap, ◌∙◌}
 use mathlib.Core.List.{List, ◌++◌}
 use Prim.Native.Nat.{ℕ, ◌+◌, ◌-◌, ◌*◌, ◌≤◌, ◌<◌}
 use native.Mathlib.Omega.{arith}
 use lib.ListN.{length, take, drop}
-use Rattle.std.specs.List.{copy_within}
 use Rattle.digest.specs.Bytes.{laid_over, laid_within}
 use Rattle.digest.proofs.Lay.{length_laid}
 use Rattle.gather.specs.Slot.{together, below}
@@ -18,30 +17,22 @@ pub below_none : (s : Slot) → below s 0 ≡ 0
 unfolding below together
 below_none s = refl
 
--- bytes moved up, as std says it
-moved : (d : List ℕ) (i j at : ℕ) → i ≤ j → j ≤ length d → copy_within d i j at ≡ laid_over d at (take (j - i) (drop i d))
-unfolding laid_over
-moved d i j at h k =
-    let n : length (take (j - i) (drop i d)) ≡ j - i = length_cut (j - i) i d (omega arith) in
-    ap (λ (m : ℕ). take at d ++ take (j - i) (drop i d) ++ drop (at + m) d) (sym n)
-
 module _ (s : Slot) (k i : ℕ) (store part : List ℕ) (few : k < 4) (eleven : i < 11) (long : 5600 ≤ length store)
     (room : length part ≤ 1400 - below s 11) where
   -- a part put in its place: those of the higher places moved up, and the part laid before them
   pub inserted : (from end : ℕ) (d₁ d₂ : List ℕ) → from ≡ k * 1400 + below s i → end ≡ k * 1400 + below s 11
-      → d₁ ≡ copy_within store from end (from + length part) → d₂ ≡ laid_within d₁ from part
+      → d₁ ≡ laid_over store (from + length part) (take (end - from) (drop from store)) → d₂ ≡ laid_within d₁ from part
       → d₂ ≡ laid_over store (k * 1400 + below s i) (part ++ upper store k s i)
   inserted from end d₁ d₂ ef ee e₁ e₂ =
       let small = below_small s 11 in
       let more = below_mono s i 11 (omega arith) in
       let mid = take (end - from) (drop from store) in
       let l : length mid ≡ end - from = length_cut (end - from) from store (omega arith) in
-      let shifted : d₁ ≡ laid_over store (from + length part) mid = e₁ ∙ moved store from end (from + length part) (omega arith) (omega arith) in
-      let l₁ : length d₁ ≡ length store = ap length shifted ∙ length_laid store (from + length part) mid (omega arith) in
+      let l₁ : length d₁ ≡ length store = ap length e₁ ∙ length_laid store (from + length part) mid (omega arith) in
       let width : end - from ≡ below s 11 - below s i = omega arith in
       e₂
       ∙ fits d₁ from part (omega arith)
-      ∙ ap (λ (q : List ℕ). laid_over q from part) shifted
+      ∙ ap (λ (q : List ℕ). laid_over q from part) e₁
       ∙ laid_in_front store from part mid (omega arith)
       ∙ (λ j. laid_over store (ef j) (part ++ take (width j) (drop (ef j) store)))
 

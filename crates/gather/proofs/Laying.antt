@@ -5,7 +5,8 @@ use Prim.Native.Nat.{ℕ, suc, ◌+◌, ◌-◌, ◌≤◌, ◌<◌}
 use native.Mathlib.Omega.{arith}
 use native.Mathlib.Nat.{zero-add, add-zero}
 use lib.ListN.{length, get_or, take, drop, set, length-append, length-drop, length-set, take-append-drop}
-use lib.Seq.{take-suc, drop-cons, set_at, take_at, drop_at, take-take, take-append-le, drop-append-le, get_or-take, length-take-le, take-add, drop-drop}
+use lib.Seq.{take-suc, drop-cons, set_at, take_at, drop_at, take-take, take-append-le, drop-append-le, get_or-take, length-take-le, take-add, drop-drop, take-append-add, drop-append-add}
+use Rattle.std.proofs.lemmas.List.{drop-take}
 use Rattle.digest.specs.Bytes.{laid_over, laid_within}
 use Rattle.digest.proofs.Lay.{laid_all, length_laid}
 
@@ -157,3 +158,77 @@ length_cut n at d h = length-take-le n (drop at d) (omega (arith, length-drop at
 -- a part that reaches to the end
 pub rest_of : (d : List ℕ) (at : ℕ) → take (length d - at) (drop at d) ≡ drop at d
 rest_of d at = lib.Seq.take_all (length d - at) (drop at d) (native.Mathlib.Nat.le_of_eq (length-drop at d))
+
+-- ---- blocks moved up
+
+-- behind other bytes
+laid_after : (a d : List ℕ) (at : ℕ) (s : List ℕ) → a ++ laid_over d at s ≡ laid_over (a ++ d) (length a + at) s
+unfolding laid_over
+laid_after a d at s =
+    let rest = drop (at + length s) d in
+    let sum : length a + at + length s ≡ length a + (at + length s) = omega arith in
+    let joined : a ++ (take at d ++ s ++ rest) ≡ a ++ take at d ++ s ++ rest = simp append_assoc in
+    joined
+    ∙ ap (λ (l : List ℕ). l ++ s ++ rest) (sym (take-append-add a d at))
+    ∙ ap (λ (l : List ℕ). take (length a + at) (a ++ d) ++ s ++ l) (sym (ap (λ (n : ℕ). drop n (a ++ d)) sum ∙ drop-append-add a d (at + length s)))
+
+-- what stands before what was laid
+front_kept : (d : List ℕ) (at : ℕ) (s : List ℕ) (i : ℕ) → i ≤ at → at ≤ length d → take i (laid_over d at s) ≡ take i d
+unfolding laid_over
+front_kept d at s i h k =
+    let rest = drop (at + length s) d in
+    let l : length (take at d) ≡ at = length-take-le at d k in
+    ap (take i) (append_assoc (take at d) s rest) ∙ take-append-le i (take at d) (s ++ rest) (omega arith) ∙ take-take i at d h
+
+-- bytes laid over themselves
+pub laid_same : (d : List ℕ) (at n : ℕ) → at + n ≤ length d → laid_over d at (take n (drop at d)) ≡ d
+unfolding laid_over
+laid_same d at n h =
+    let l : length (take n (drop at d)) ≡ n = length_cut n at d h in
+    let sum : at + length (take n (drop at d)) ≡ at + n = omega arith in
+    ap (λ (m : ℕ). take at d ++ take n (drop at d) ++ drop m d) sum
+    ∙ ap (λ (r : List ℕ). take at d ++ take n (drop at d) ++ r) (sym (drop-drop n at d))
+    ∙ append_assoc (take at d) (take n (drop at d)) (drop n (drop at d))
+    ∙ ap (λ (r : List ℕ). take at d ++ r) (take-append-drop n (drop at d))
+    ∙ take-append-drop at d
+
+-- a block moved up from right below i, where the bytes are lent in two parts that meet at i
+pub some_moved : (d₀ : List ℕ) (from end n : ℕ) (d : List ℕ) (i : ℕ) → Shifted d₀ from end n d i
+    → (m : ℕ) → m ≤ n → m + from ≤ i → (low high s moved : List ℕ) → d ≡ low ++ high → length low ≡ i → s ≡ drop (i - m) low
+    → moved ≡ laid_within high (n - m) s → Shifted d₀ from end n (low ++ moved) (i - m)
+some_moved d₀ from end n d i w m few room low high s moved both front es em =
+    let j = i - m in
+    let ij : i ≡ j + m = omega arith in
+    let rest = take (end - i) (drop i d₀) in
+    let block = take m (drop j d₀) in
+    let lr : length rest ≡ end - i = length_cut (end - i) i d₀ (omega (arith, w.high, w.room)) in
+    let lb : length block ≡ m = length_cut m j d₀ (omega (arith, w.high, w.room)) in
+    let low_is : low ≡ take (j + m) d₀ =
+    sym (take_at low high i front) ∙ ap (take i) (sym both ∙ w.so_far)
+    ∙ front_kept d₀ (i + n) rest i (omega arith) (omega (arith, w.high, w.room)) ∙ ap (λ (k : ℕ). take k d₀) ij in
+    let s_is : s ≡ block = es ∙ ap (drop j) low_is ∙ drop-take j m d₀ in
+    let ls : length s ≡ m = ap length s_is ∙ lb in
+    let sizes : length low + length high ≡ length d₀ = sym (length-append low high) ∙ ap length (sym both) ∙ w.size in
+    let up : length low + (n - m) ≡ j + n = omega arith in
+    let behind : i + n ≡ j + n + length block = omega arith in
+    let more : m + (end - i) ≡ end - j = omega (arith, w.high) in
+    let laid : low ++ moved ≡ laid_over d (j + n) s =
+    ap (λ (l : List ℕ). low ++ l) (em ∙ fits high (n - m) s (omega (arith, w.high, w.room)))
+    ∙ laid_after low high (n - m) s
+    ∙ (λ k. laid_over (sym both k) (up k) s) in
+    let joined : block ++ rest ≡ take (end - j) (drop j d₀) =
+    ap (λ (l : List ℕ). block ++ take (end - i) l) (ap (λ (k : ℕ). drop k d₀) (omega arith) ∙ sym (drop-drop m j d₀))
+    ∙ sym (take-add m (end - i) (drop j d₀))
+    ∙ ap (λ (k : ℕ). take k (drop j d₀)) more in
+    record {
+      low = omega arith;
+      high = omega (arith, w.high);
+      room = w.room;
+      so_far =
+          laid
+          ∙ (λ k. laid_over (w.so_far k) (j + n) (s_is k))
+          ∙ ap (λ (k : ℕ). laid_over (laid_over d₀ k rest) (j + n) block) behind
+          ∙ laid_in_front d₀ (j + n) block rest (omega (arith, w.high, w.room))
+          ∙ ap (laid_over d₀ (j + n)) joined;
+      size = ap length laid ∙ length_laid d (j + n) s (omega (arith, w.size, w.high, w.room)) ∙ w.size;
+    }

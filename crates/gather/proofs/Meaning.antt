@@ -69,7 +69,7 @@ holds_own : (s : Slot) → eqb s.total 0 ≡ false → holds s s.reference ≡ t
 holds_own s h = rw (h, eq-eqb s.reference s.reference refl)
 
 module _ (g : Gatherer) (store message assembly : List ℕ) (k : ℕ) (s : Slot) (i : ℕ) (part : List ℕ) (ports : Ports)
-    (four : length g.slots ≡ 4) (few : k < 4) (place : i < 11) (fits : Fits s) (used : eqb s.total 0 ≡ false)
+    (few : k < 4) (place : i < 11) (fits : Fits s) (used : eqb s.total 0 ≡ false)
     (old : (x : ℕ) → (x ≡ s.reference → ⊥) → holds (slot_at g k) x ≡ false)
     (others : (j : ℕ) → j < length g.slots → (j ≡ k → ⊥) → holds (slot_at g j) s.reference ≡ false)
     (long : 5600 ≤ length store) (roomy : 1400 ≤ length assembly) (gone : get_or s.sizes i 0 ≡ 0) where
@@ -103,7 +103,7 @@ module _ (g : Gatherer) (store message assembly : List ℕ) (k : ℕ) (s : Slot)
   have_then = have_set places i part inside missed ∙ ap (λ (n : ℕ). n + 1) (have_places s.sizes (room_of store k))
 
   room : k < length g.slots
-  room = omega arith
+  room = omega (arith, g.four)
 
   -- a free slot holds nothing
   free_holds : (x : ℕ) → (x ≡ s.reference → ⊥) → holds free x ≡ false
@@ -119,7 +119,7 @@ module _ (g : Gatherer) (store message assembly : List ℕ) (k : ℕ) (s : Slot)
   too_long h =
       let e = put_long (map_of g store) s.reference s.total filled (omega (arith, bytes_then, whole, fits.bytes)) in
       subst (λ (l : Left). Means message l next)
-      (add_long g k s i store part ports assembly free (below s 11) gone refl (omega arith) refl)
+      (add_long g k s i store part ports assembly (with_slot g k free) (below s 11) gone refl (omega arith) refl)
       (record { answer = ap (λ (n : Next). n.said) (sym e); gathering = λ x. freed x ∙ ap (λ (n : Next). n.map x) (sym e) })
 
   finished : length part ≤ 1400 - below s 11 → s.total ≤ count_of s.sizes + 1 → Means message (add_of g k s i store part ports assembly) next
@@ -127,7 +127,7 @@ module _ (g : Gatherer) (store message assembly : List ℕ) (k : ℕ) (s : Slot)
       let e = put_done (map_of g store) s.reference s.total filled (omega (arith, bytes_then, whole, fits.bytes)) (omega (arith, have_then)) in
       let shown = finished_joined s k i store part few fits.eleven place long fits.bytes gone (omega (arith, whole)) assembly roomy in
       subst (λ (l : Left). Means message l next)
-      (add_finished g k s i store part ports assembly free (below s 11) (count_of s.sizes) (below s 11 + length part)
+      (add_finished g k s i store part ports assembly (with_slot g k free) (below s 11) (count_of s.sizes) (below s 11 + length part)
       (laid_over assembly 0 (lower store k s i ++ part ++ upper store k s i)) gone refl h refl t refl refl refl)
       (record {
         answer = ap gathered shown ∙ ap (λ (n : Next). n.said) (sym e);
@@ -147,7 +147,7 @@ module _ (g : Gatherer) (store message assembly : List ℕ) (k : ℕ) (s : Slot)
       let upmost : length (upper store k s i) ≡ below s 11 - below s i =
       length_cut (below s 11 - below s i) (k * 1400 + below s i) store (omega (arith, whole, fits.bytes)) in
       subst (λ (l : Left). Means message l next)
-      (add_waiting g k s i store part ports assembly s₁ (below s 11) (count_of s.sizes) store₁ gone refl h refl t refl refl)
+      (add_waiting g k s i store part ports assembly (with_slot g k s₁) (below s 11) (count_of s.sizes) store₁ gone refl h refl t refl refl)
       (record {
         answer = ap (λ (n : ℕ). waiting s.reference n s.total) (sym have_then) ∙ ap (λ (n : Next). n.said) (sym e);
         gathering =

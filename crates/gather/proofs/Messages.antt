@@ -83,17 +83,17 @@ held_by g store message assembly k s i part ports false h e =
 -- ---- a part, whether its place is held or not
 
 module _ (g : Gatherer) (store message assembly : List ℕ) (long : 5600 ≤ length store) (roomy : 1400 ≤ length assembly) where
-  added : (k : ℕ) (s : Slot) (i : ℕ) (part : List ℕ) (ports : Ports) → length g.slots ≡ 4 → k < 4 → i < 11 → Fits s → eqb s.total 0 ≡ false
+  added : (k : ℕ) (s : Slot) (i : ℕ) (part : List ℕ) (ports : Ports) → k < 4 → i < 11 → Fits s → eqb s.total 0 ≡ false
       → ((x : ℕ) → (x ≡ s.reference → ⊥) → holds (slot_at g k) x ≡ false)
       → ((j : ℕ) → j < length g.slots → (j ≡ k → ⊥) → holds (slot_at g j) s.reference ≡ false)
       → Means message (add_of g k s i store part ports assembly)
       (placed (map_of g store) s.reference s.total (places_of s.sizes (room_of store k)) i part (get_or (places_of s.sizes (room_of store k)) i missing))
-  added k s i part ports four few place fits used old others =
+  added k s i part ports few place fits used old others =
       by_cases (ℕ_discrete (get_or s.sizes i 0) 0)
       (λ gone.
       subst (λ (p : Part). Means message (add_of g k s i store part ports assembly) (placed (map_of g store) s.reference s.total (places_of s.sizes (room_of store k)) i part p))
       (sym (place_missing s.sizes (room_of store k) i gone))
-      (put_means g store message assembly k s i part ports four few place fits used old others long roomy gone))
+      (put_means g store message assembly k s i part ports few place fits used old others long roomy gone))
       (λ there-is.
       let size : get_or s.sizes i 0 ≡ suc (get_or s.sizes i 0 - 1) = omega arith in
       subst (λ (p : Part). Means message (add_of g k s i store part ports assembly) (placed (map_of g store) s.reference s.total (places_of s.sizes (room_of store k)) i part p))
@@ -118,13 +118,13 @@ module _ (g : Gatherer) (store message assembly : List ℕ) (long : 5600 ≤ len
         (joins (map_of g store) p part (held (slot_at g k).total (places_of (slot_at g k).sizes (room_of store k))))
     held_means k at true e =
         let there = found g p.reference k at in
-        let few : k < 4 = omega (arith, sound.four, there.0) in
+        let few : k < 4 = omega (arith, g.four, there.0) in
         let is = owned (slot_at g k) p.reference there.1 in
         rw e
         (subst (λ (r : ℕ). Means message (add_of g k (slot_at g k) (p.place - 1) store part ports assembly) (placed (map_of g store) r (slot_at g k).total (places_of (slot_at g k).sizes (room_of store k)) (p.place - 1) part (get_or (places_of (slot_at g k).sizes (room_of store k)) (p.place - 1) missing)))
         is.1
-        (added k (slot_at g k) (p.place - 1) part ports sound.four few (omega arith) (sound.fits k few) is.0 (λ x n. holds_no (slot_at g k) x (λ q. n (sym q)))
-        (λ j l n. apart g sound k j (slot_at g k).reference few (omega (arith, sound.four)) (λ q. n (sym q)) (holds_own (slot_at g k) is.0))))
+        (added k (slot_at g k) (p.place - 1) part ports few (omega arith) (sound.fits k few) is.0 (λ x n. holds_no (slot_at g k) x (λ q. n (sym q)))
+        (λ j l n. apart g sound k j (slot_at g k).reference few (omega (arith, g.four)) (λ q. n (sym q)) (holds_own (slot_at g k) is.0))))
     held_means k at false e = rw e (record { answer = refl; gathering = λ x. refl })
 
     new_means : held_at g p.reference ≡ None → (room : Option ℕ) → vacant_at g ≡ room
@@ -138,7 +138,7 @@ module _ (g : Gatherer) (store message assembly : List ℕ) (long : 5600 ≤ len
         let s = begun p.reference p.total in
         let fits : Fits s = record { byte = byte; eleven = refl; bytes = zeros } in
         rw (lt-leb 4 (held_in (map_of g store)) (fewer_held g store k sound e))
-        (put_means g store message assembly k s (p.place - 1) part ports sound.four (omega (arith, sound.four, v.0)) (omega arith) fits
+        (put_means g store message assembly k s (p.place - 1) part ports (omega (arith, g.four, v.0)) (omega arith) fits
         (ne_eqb p.total 0 several) (λ x q. free_holds (slot_at g k) x v.1) (λ j l q. none_holds g p.reference none j l) long roomy
         (zero_sizes (p.place - 1)))
 

@@ -50,9 +50,8 @@ clash false e f = let z : ◌≡◌ {A = ℕ} 0 1 = cc in omega arith
 sound_with : (g : Gatherer) (k : ℕ) (s : Slot) → Sound g → k < 4 → Fits s
     → ((x : ℕ) → holds s x ≡ true → (j : ℕ) → j < 4 → (j ≡ k → ⊥) → holds (slot_at g j) x ≡ false) → Sound (with_slot g k s)
 sound_with g k s sound few fits lone =
-    let room : k < length g.slots = omega (arith, sound.four) in
+    let room : k < length g.slots = omega (arith, g.four) in
     record {
-      four = length-set g.slots k s ∙ sound.four;
       fits =
           λ j l.
           by_cases (ℕ_discrete j k) (λ e. subst Fits (slot_same g s k j room e) fits)
@@ -94,7 +93,6 @@ free_at (suc n) (suc i) = free_at n i
 pub fresh_sound : Sound fresh_of
 fresh_sound =
     record {
-      four = refl;
       fits = λ i l. subst Fits (sym (free_at 4 i)) free_fits;
       once = λ i k r hi hk ei ek. absurd (not_free r (rw (free_at 4 i) at ei));
     }
@@ -121,12 +119,12 @@ module _ (g : Gatherer) (store assembly : List ℕ) (sound : Sound g) where
       too_long : get_or s.sizes i 0 ≡ 0 → (length part ≤ 1400 - below s 11 → ⊥) → Sound (add_of g k s i store part ports assembly).gatherer
       too_long gone h =
           subst (λ (l : Left). Sound l.gatherer)
-          (add_long g k s i store part ports assembly free (below s 11) gone refl (omega arith) refl) (freed_sound g k sound few)
+          (add_long g k s i store part ports assembly (with_slot g k free) (below s 11) gone refl (omega arith) refl) (freed_sound g k sound few)
 
       finished : get_or s.sizes i 0 ≡ 0 → length part ≤ 1400 - below s 11 → s.total ≤ count_of s.sizes + 1 → Sound (add_of g k s i store part ports assembly).gatherer
       finished gone h t =
           subst (λ (l : Left). Sound l.gatherer)
-          (add_finished g k s i store part ports assembly free (below s 11) (count_of s.sizes) (below s 11 + length part)
+          (add_finished g k s i store part ports assembly (with_slot g k free) (below s 11) (count_of s.sizes) (below s 11 + length part)
           (laid_over assembly 0 (lower store k s i ++ part ++ upper store k s i)) gone refl h refl t refl refl refl)
           (freed_sound g k sound few)
 
@@ -140,7 +138,7 @@ module _ (g : Gatherer) (store assembly : List ℕ) (sound : Sound g) where
             bytes = omega (arith, sum_set s.sizes i (length part) (omega (arith, fits.eleven)) gone, whole, fits.bytes);
           } in
           subst (λ (l : Left). Sound l.gatherer)
-          (add_waiting g k s i store part ports assembly s₁ (below s 11) (count_of s.sizes)
+          (add_waiting g k s i store part ports assembly (with_slot g k s₁) (below s 11) (count_of s.sizes)
           (laid_over store (k * 1400 + below s i) (part ++ upper store k s i)) gone refl h refl t refl refl)
           (sound_with g k s₁ sound few fits₁ (λ x e j l n. ap (holds (slot_at g j)) (sym (owned s₁ x e).1) ∙ others j l n))
 
@@ -152,7 +150,7 @@ module _ (g : Gatherer) (store assembly : List ℕ) (sound : Sound g) where
       → Sound (join_by g store part ports p assembly at room).gatherer
   join_sound part ports p positive eleven byte (Some k) room e v =
       let there = found g p.reference k e in
-      let few : k < 4 = omega (arith, sound.four, there.0) in
+      let few : k < 4 = omega (arith, g.four, there.0) in
       let s = slot_at g k in
       let is = owned s p.reference there.1 in
       either_way Left (λ q. Sound q.gatherer) (eqb s.total p.total) _ _
@@ -161,8 +159,8 @@ module _ (g : Gatherer) (store assembly : List ℕ) (sound : Sound g) where
       sound
   join_sound part ports p positive eleven byte None (Some k) e v =
       let free_one = vacant g k v in
-      added_sound k (begun p.reference p.total) (p.place - 1) part ports (omega (arith, sound.four, free_one.0)) (omega arith)
-      (record { byte = byte; eleven = refl; bytes = zeros }) (λ j l q. none_holds g p.reference e j (omega (arith, sound.four)))
+      added_sound k (begun p.reference p.total) (p.place - 1) part ports (omega (arith, g.four, free_one.0)) (omega arith)
+      (record { byte = byte; eleven = refl; bytes = zeros }) (λ j l q. none_holds g p.reference e j (omega (arith, g.four)))
   join_sound part ports p positive eleven byte None None e v = sound
 
   by_sound : (message : List ℕ) → Bytes message → (h : Result Heading Refusal) → heading_of message ≡ h
@@ -185,7 +183,7 @@ module _ (g : Gatherer) (store assembly : List ℕ) (sound : Sound g) where
 
 dropped_sound : (g : Gatherer) (r : ℕ) (at : Option ℕ) → Sound g → held_at g r ≡ at → Sound (drop_by g at)
 dropped_sound g r None sound e = sound
-dropped_sound g r (Some k) sound e = freed_sound g k sound (omega (arith, sound.four, (found g r k e).0))
+dropped_sound g r (Some k) sound e = freed_sound g k sound (omega (arith, g.four, (found g r k e).0))
 
 pub drop_sound : (g : Gatherer) (r : ℕ) → Sound g → Sound (drop_of g r)
 drop_sound g r sound = dropped_sound g r (held_at g r) sound refl
@@ -203,7 +201,7 @@ dropped_means g store r (Some k) sound e x =
     let is = owned (slot_at g k) r there.1 in
     updated g store store k r free absent there.0 (λ m q. refl) (λ y q. refl)
     (λ y q. holds_no (slot_at g k) y (λ z. q (sym z ∙ is.1)))
-    (λ j l q. apart g sound k j r (omega (arith, sound.four, there.0)) (omega (arith, sound.four)) (λ z. q (sym z)) there.1) refl x
+    (λ j l q. apart g sound k j r (omega (arith, g.four, there.0)) (omega (arith, g.four)) (λ z. q (sym z)) there.1) refl x
 
 -- "a finished or dropped reference gives its room back": the map without it
 pub drop_means : (g : Gatherer) (store : List ℕ) (r : ℕ) → Sound g → (x : ℕ) → map_of (drop_of g r) store x ≡ with (map_of g store) r absent x

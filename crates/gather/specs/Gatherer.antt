@@ -1,9 +1,10 @@
 -- The gatherer's calls, exactly: numbers by value, and the bytes of the store and of the assembly buffer.
 -- What they mean for a map from references to totals and places is in Map.antt.
-use Rattle.std.specs.Prelude.{List, [], ◌++◌, ℕ, ◌+◌, ◌-◌, ◌*◌, length, get_or, take, drop, set, replicate, eqb, ltb, leb, position, Option, Some, None, Result, Ok, Err}
+use mathlib.Core.Path.{refl, ◌∙◌}
+use lib.ListN.{length-set}
+use Rattle.std.specs.Prelude.{List, ◌++◌, ℕ, ◌+◌, ◌-◌, ◌*◌, length, get_or, drop, set, replicate, eqb, ltb, leb, position, Option, Some, None, Result, Ok, Err}
 use Rattle.digest.specs.Pick.{pick}
 use Rattle.digest.specs.Bytes.{laid_over}
-use Rattle.digest.specs.Mac.{same_bytes}
 use Rattle.gather.specs.Header.{heading_of}
 use Rattle.gather.specs.Slot.{free, begun, holds, count_of, below, sized}
 use Rattle.gather.specs.declared.slot.Slot.{Slot}
@@ -16,17 +17,19 @@ use Rattle.gather.specs.declared.refusal.Refusal.TheVariants as R
 use Rattle.gather.specs.declared.gatherer.Gatherer.{Gatherer}
 use Rattle.gather.specs.declared.gatherer.Answer.{Answer}
 use Rattle.gather.specs.declared.gatherer.Answer.TheVariants.{Waiting, Received, Gathered}
+pub use Rattle.gather.specs.Answer.{kept, lower, within, upper, datagram_of}
+unfoldable pub use Rattle.gather.specs.Answer.{again_of}
 
 -- ---- the four slots
 
 abbrev pub fresh_of : Gatherer
-fresh_of = record { slots = replicate 4 free }
+fresh_of = record { slots = replicate 4 free; four = refl }
 
 abbrev pub slot_at : Gatherer → ℕ → Slot
 slot_at g k = get_or g.slots k free
 
 abbrev pub with_slot : Gatherer → ℕ → Slot → Gatherer
-with_slot g k s = record { slots = set g.slots k s }
+with_slot g k s = record { slots = set g.slots k s; four = length-set g.slots k s ∙ g.four }
 
 -- the first slot that holds a reference
 unfoldable pub held_at : Gatherer → ℕ → Option ℕ
@@ -35,22 +38,6 @@ held_at g r = position (λ s. holds s r) g.slots
 -- the first slot that is free
 unfoldable pub vacant_at : Gatherer → Option ℕ
 vacant_at g = position (λ s. eqb s.total 0) g.slots
-
--- ---- the bytes
-
--- of slot k's part of the store, the bytes from one number up to another
-abbrev pub kept : List ℕ → ℕ → ℕ → ℕ → List ℕ
-kept store k from end = take (end - from) (drop (k * 1400 + from) store)
-
--- the bytes that stand below place i of a slot, those in it, and those above it
-abbrev pub lower : List ℕ → ℕ → Slot → ℕ → List ℕ
-lower store k s i = kept store k 0 (below s i)
-
-abbrev pub within : List ℕ → ℕ → Slot → ℕ → List ℕ
-within store k s i = kept store k (below s i) (below s (i + 1))
-
-abbrev pub upper : List ℕ → ℕ → Slot → ℕ → List ℕ
-upper store k s i = kept store k (below s i) (below s 11)
 
 -- ---- a step
 
@@ -63,11 +50,6 @@ pub record Left : Type 0 where
 
 abbrev pub leaves : Gatherer → Result Answer Refusal → List ℕ → List ℕ → Left
 leaves g answer store assembly = record { gatherer = g; answer = answer; store = store; assembly = assembly }
-
--- a part whose place is held
-unfoldable pub again_of : ℕ → Slot → ℕ → List ℕ → List ℕ → Ports → Result Answer Refusal
-again_of k s i store part ports =
-    pick (same_bytes (within store k s i) part) (Ok (Waiting ports s.reference (count_of s.sizes) s.total)) (Err R.Differs)
 
 -- the part put in its place i of slot s, which is slot k: 20, 22, finished, or waiting
 unfoldable pub add_of : Gatherer → ℕ → Slot → ℕ → List ℕ → List ℕ → Ports → List ℕ → Left
@@ -115,10 +97,3 @@ drop_by g (Some k) = with_slot g k free
 
 abbrev pub drop_of : Gatherer → ℕ → Gatherer
 drop_of g r = drop_by g (held_at g r)
-
--- "the datagram is a part of the one or of the other"
-abbrev pub datagram_of : Result Answer Refusal → List ℕ → List ℕ → List ℕ
-datagram_of (Ok (Received ports start)) message assembly = drop start message
-datagram_of (Ok (Gathered ports size)) message assembly = take size assembly
-datagram_of (Ok (Waiting ports reference have total)) message assembly = []
-datagram_of (Err refusal) message assembly = []

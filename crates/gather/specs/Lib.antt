@@ -2,5 +2,6 @@
 pub mod Refusal
 pub mod Header
 pub mod Slot
+pub mod Answer
 pub mod Gatherer
 pub mod Map

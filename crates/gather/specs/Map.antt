@@ -143,9 +143,8 @@ pub record Fits (s : Slot) : Type 0 where
   pub eleven : length s.sizes ≡ 11
   pub bytes : sum_of s.sizes ≤ 1400
 
--- a gatherer as steps leave it: four slots, and no reference is in two of them
+-- a gatherer as steps leave it: and no reference is in two slots
 pub record Sound (g : Gatherer) : Type 0 where
-  pub four : length g.slots ≡ 4
   pub fits : (k : ℕ) → k < 4 → Fits (slot_at g k)
   pub once : (i k r : ℕ) → i < 4 → k < 4 → holds (slot_at g i) r ≡ true → holds (slot_at g k) r ≡ true → i ≡ k
 

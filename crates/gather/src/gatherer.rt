@@ -2,8 +2,7 @@
 // value; the bytes of the parts stand in a store that the caller lends to each step, and a gathered datagram is written to
 // the assembly buffer.
 ghost use Rattle.std.specs.Prelude.{◌≡◌, ◌≤◌, ◌<◌, length, IfSome};
-ghost use Rattle.gather.specs.Gatherer.{fresh_of, held_at, vacant_at, drop_of, datagram_of};
-ghost use Rattle.gather.specs.Gatherer.{leaves, again_of, add_of, join_of, step_of};
+ghost use Rattle.gather.specs.Answer.{again_of, datagram_of};
 
 use crate::header::{Heading, Place, Ports, read};
 use crate::refusal::Refusal;
@@ -14,6 +13,7 @@ use crate::spot::Spot;
 #[derive(Clone, Copy, PartialEq, Eq, Debug)]
 pub struct Gatherer {
     pub slots: [Slot; 4],
+    pub ghost four: { length slots ≡ 4 },
 }
 
 // What a message that is not refused comes to.
@@ -36,6 +36,8 @@ struct Part<'a> {
 }
 
 impl Gatherer {
+    ghost use Rattle.gather.specs.Gatherer.{fresh_of, held_at, vacant_at, drop_of, leaves, add_of, join_of, step_of};
+
     // No reference held.
     pub fn fresh() -> Gatherer
         ensures exact { result ≡ fresh_of }

@@ -1,5 +1,5 @@
 // Where a part belongs, and the bytes of its slot: those of the lower places, its own, and those of the higher ones.
-ghost use Rattle.std.specs.Prelude.{◌≡◌, ◌++◌, ◌+◌, ◌-◌, ◌*◌, ◌≤◌, ◌<◌, length};
+ghost use Rattle.std.specs.Prelude.{◌≡◌, ◌++◌, ◌+◌, ◌-◌, ◌*◌, ◌≤◌, ◌<◌, length, take, drop};
 ghost use Rattle.digest.specs.Bytes.{laid_over};
 ghost use Rattle.digest.specs.Mac.{same_bytes};
 ghost use Rattle.gather.specs.Slot.{below};
@@ -48,7 +48,7 @@ impl Spot {
             (part.now ++ upper store.old self.now.k self.now.slot self.now.i) }
     {
         let from = self.begin(self.i);
-        store.copy_within(from..self.begin(11), from + part.len());
+        shift(store, from, self.begin(11), part.len());
         digest::put(store, from, part);
     }
 
@@ -67,5 +67,23 @@ impl Spot {
         ensures at_most { result ≤ 5600 }
     {
         self.k * 1400 + self.slot.bytes_below(place)
+    }
+}
+
+// The bytes from `from` up to `end` moved up by n, the last of them first, n at a time: so many do not reach into where they go, and
+// the archive needs no memmove.
+fn shift(d: &mut [u8], from: usize, end: usize, n: usize)
+    requires { (from ≤ end) × (end + n ≤ length d.old) }
+    ensures { d.new ≡ laid_over d.old (from + n) (take (end - from) (drop from d.old)) }
+{
+    if n == 0 {
+        return;
+    }
+    let mut i = end;
+    while from < i {
+        let m = n.min(i - from);
+        let (low, high) = d.split_at_mut(i);
+        digest::put(high, n - m, &low[i - m..]);
+        i -= m;
     }
 }

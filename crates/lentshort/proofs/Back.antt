@@ -16,18 +16,19 @@ use Rattle.lent.specs.Fields.{joined, bytes_in}
 use Rattle.lent.specs.Saved.{Bytes}
 use Rattle.lent.proofs.Calling.{both_true}
 use Rattle.gather.specs.Slot.{free}
+use Rattle.gather.proofs.Steps.{same_slots}
 use Rattle.lentshort.specs.Saved.{gatherer_size, store_at, mark, row_in, slot_bytes, head_fields, saved_gatherer, is_gatherer, slot_in, gatherer_in, store_in, Is, No, loaded_gatherer, SlotRanged, Ranged}
 use Rattle.lentshort.proofs.Rows.{row_size, row_back, row_there}
-use Rattle.lentshort.proofs.Spelling.{slot_back, slot_size, slot_there, slot_ranged, many_in}
+use Rattle.lentshort.proofs.Spelling.{slot_back, slot_size, slot_there, slot_ranged}
 
 -- ---- loading what was saved
 
 -- the slots are a row of 24 bytes each
 pub each_slot : (g : Gatherer) → Ranged g → (i : ℕ) → i < length g.slots → SlotRanged (get_or g.slots i free)
-each_slot g r i h = r.slot i (omega (arith, r.four))
+each_slot g r i h = r.slot i (omega (arith, g.four))
 
 slots_size : (g : Gatherer) → Ranged g → length (joined (map slot_bytes g.slots)) ≡ 96
-slots_size g r = row_size free slot_in slot_bytes SlotRanged 24 slot_size g.slots (each_slot g r) ∙ ap (λ n. 24 * n) r.four
+slots_size g r = row_size free slot_in slot_bytes SlotRanged 24 slot_size g.slots (each_slot g r) ∙ ap (λ n. 24 * n) g.four
 
 pub head_size : (g : Gatherer) → Ranged g → length (joined (head_fields g)) ≡ store_at
 unfolding joined
@@ -37,12 +38,9 @@ pub gatherer_back : (g : Gatherer) (store : List ℕ) → Ranged g → gatherer_
 unfolding saved_gatherer joined
 gatherer_back g store r =
     let b = saved_gatherer g store in
-    λ i. record {
-      slots =
-          (ap (λ n. row_in slot_in 24 n b 4) (sym r.four)
-          ∙ row_back free slot_in slot_bytes SlotRanged 24 slot_size slot_back g.slots b 4 store (each_slot g r) refl)
-          i;
-    }
+    same_slots (gatherer_in b) g
+    (ap (λ n. row_in slot_in 24 n b 4) (sym g.four)
+    ∙ row_back free slot_in slot_bytes SlotRanged 24 slot_size slot_back g.slots b 4 store (each_slot g r) refl)
 
 pub store_back : (g : Gatherer) (store : List ℕ) → Ranged g → store_in (saved_gatherer g store) ≡ store
 unfolding saved_gatherer
@@ -112,4 +110,4 @@ ranged_in (suc n) b at all (suc k) h = ranged_in n b (at + 24) all k (omega arit
 -- What loads is in range.
 pub loads_ranged : (b : List ℕ) (g : Gatherer) (store : List ℕ) → Bytes b → loaded_gatherer b ≡ Is g store → Ranged g
 loads_ranged b g store all e =
-    let is = is_loaded b g store e in subst Ranged is.1.0 (record { four = many_in slot_in 24 4 b 4; slot = ranged_in 4 b 4 all })
+    let is = is_loaded b g store e in subst Ranged is.1.0 (record { slot = ranged_in 4 b 4 all })

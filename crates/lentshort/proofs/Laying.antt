@@ -72,15 +72,15 @@ module _ (d : List ℕ) (slots : List Slot) (four : length slots ≡ 4) where
         ranged = ranged;
       }
 
-module _ (g : Gatherer) (d e : List ℕ) (four : length g.slots ≡ 4) (w : SlotsLaid d g.slots e 4) where
+module _ (g : Gatherer) (d e : List ℕ) (w : SlotsLaid d g.slots e 4) where
   all_ranged : Ranged g
-  all_ranged = record { four = four; slot = w.ranged }
+  all_ranged = record { slot = w.ranged }
 
   pub gatherer_laid : e ≡ saved_gatherer g (store_in d)
   unfolding laid_over saved_gatherer joined
   gatherer_laid =
       w.bytes
-      ∙ ap (λ l. laid_over d 0 (mark ++ joined (map slot_bytes l))) (take_all 4 g.slots (omega arith))
+      ∙ ap (λ l. laid_over d 0 (mark ++ joined (map slot_bytes l))) (take_all 4 g.slots (omega (arith, g.four)))
       ∙ ap (λ n. joined (head_fields g) ++ drop (0 + n) d) (head_size g all_ranged)
 
   pub gatherer_loads_lem : loaded_gatherer e ≡ Is g (store_in d)

@@ -11,7 +11,7 @@ use Rattle.gather.specs.declared.slot.Slot.{Slot}
 use Rattle.lent.specs.Fields.{bytes_in, two_in}
 use Rattle.lent.specs.Saved.{Bytes}
 use Rattle.lent.proofs.Numbers.{two_part, two_there}
-use Rattle.lentshort.specs.Saved.{row_in, slot_bytes, slot_in, SlotRanged}
+use Rattle.lentshort.specs.Saved.{row_in, many_in, slot_bytes, slot_in, SlotRanged}
 use Rattle.lentshort.proofs.Rows.{row_size, row_back, row_there}
 
 -- ---- from where they were spelled
@@ -61,12 +61,7 @@ slot_there b at all h =
     ∙ ap (λ l. take 2 (drop at b) ++ take 22 l) (sym (drop-drop 2 at b))
     ∙ sym (take-add 2 22 (drop at b))
 
--- numbers that are read from bytes are of sixteen bits, and as many as were asked for
-pub many_in : {A : Type 0} (read : List ℕ → ℕ → A) (step n : ℕ) (b : List ℕ) (at : ℕ) → length (row_in read step n b at) ≡ n
-unfolding row_in
-many_in read step zero b at = refl
-many_in read step (suc n) b at = ap suc (many_in read step n b (at + step))
-
+-- numbers that are read from bytes are of sixteen bits
 two_below : (p q : ℕ) → p < 256 → q < 256 → p * 256 + q < 65536
 two_below p q hp hq = omega arith
 

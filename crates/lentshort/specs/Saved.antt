@@ -14,6 +14,7 @@
 --         0      1  the reference
 --         1      1  the total; 0: the slot is free
 --         2     22  the sizes of the eleven places, two bytes each: 0 where the part has not come, else its bytes and one more
+use mathlib.Core.Path.{refl, ap}
 use Rattle.std.specs.Prelude.{Bool, false, List, [], ◌∷◌, ◌++◌, ◌≡◌, ℕ, zero, suc, ◌+◌, ◌<◌, length, get_or, map, take, drop, eqb}
 use Rattle.digest.specs.Pick.{pick}
 use Rattle.digest.specs.Bytes.{bytes2}
@@ -39,6 +40,12 @@ unfoldable pub row_in : {A : Type 0} → (List ℕ → ℕ → A) → ℕ → �
 row_in read step zero b at = []
 row_in read step (suc n) b at = read b at ∷ row_in read step n b (at + step)
 
+-- as many as were asked for
+pub many_in : {A : Type 0} (read : List ℕ → ℕ → A) (step n : ℕ) (b : List ℕ) (at : ℕ) → length (row_in read step n b at) ≡ n
+unfolding row_in
+many_in read step zero b at = refl
+many_in read step (suc n) b at = ap suc (many_in read step n b (at + step))
+
 -- numbers in two bytes each, one behind the other
 abbrev pub spelled : List ℕ → List ℕ
 spelled ns = joined (map bytes2 ns)
@@ -63,7 +70,7 @@ unfoldable pub slot_in : List ℕ → ℕ → Slot
 slot_in b at = record { reference = get_or b at 0; total = get_or b (at + 1) 0; sizes = row_in two_in 2 11 b (at + 2) }
 
 abbrev pub gatherer_in : List ℕ → Gatherer
-gatherer_in b = record { slots = row_in slot_in 24 4 b 4 }
+gatherer_in b = record { slots = row_in slot_in 24 4 b 4; four = many_in slot_in 24 4 b 4 }
 
 abbrev pub store_in : List ℕ → List ℕ
 store_in b = drop store_at b
@@ -76,7 +83,7 @@ pub data Loaded : Type 0 where
 unfoldable pub loaded_gatherer : List ℕ → Loaded
 loaded_gatherer b = pick (is_gatherer b) (Is (gatherer_in b) (store_in b)) No
 
--- A gatherer is what its types say: four slots, bytes, and eleven sizes of sixteen bits.
+-- A gatherer is what its types say: bytes, and eleven sizes of sixteen bits.
 pub record SlotRanged (s : Slot) : Type 0 where
   pub reference : s.reference < 256
   pub total : s.total < 256
@@ -84,5 +91,4 @@ pub record SlotRanged (s : Slot) : Type 0 where
   pub size : (i : ℕ) → get_or s.sizes i 0 < 65536
 
 pub record Ranged (g : Gatherer) : Type 0 where
-  pub four : length g.slots ≡ 4
   pub slot : (k : ℕ) → k < 4 → SlotRanged (get_or g.slots k free)

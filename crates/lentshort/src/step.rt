@@ -2,7 +2,7 @@
 ghost use Rattle.std.specs.Prelude.{◌≡◌, length};
 ghost use Rattle.gather.specs.Gatherer.{step_of};
 ghost use Rattle.lentshort.specs.Saved.{gatherer_size, gatherer_in, store_in, loaded_gatherer};
-ghost use Rattle.lentshort.specs.Gathered.{touches, gatherer_after, gatherer_then};
+ghost use Rattle.lentshort.specs.Gathered.{drops, touches, gatherer_after, gatherer_then};
 
 use crate::load::gatherer_in;
 use crate::save::put_gatherer;
@@ -27,8 +27,22 @@ pub(crate) fn stepped(d: &mut [u8], message: &[u8], assembly: &mut [u8]) -> Resu
 fn touching(answer: Result<Answer, Refusal>) -> bool
     ensures { result ≡ touches answer }
 {
-    matches!(
-        answer,
-        Ok(Answer::Waiting(_, _, _, _) | Answer::Gathered(_, _)) | Err(Refusal::Long)
-    )
+    match answer {
+        Ok(answer) => matches!(answer, Answer::Waiting(_, _, _, _) | Answer::Gathered(_, _)),
+        Err(refusal) => dropping(refusal),
+    }
+}
+
+// 22 alone drops the reference.
+fn dropping(refusal: Refusal) -> bool
+    ensures { result ≡ drops refusal }
+{
+    match refusal {
+        Refusal::Argument => false,
+        Refusal::Room => false,
+        Refusal::Header => false,
+        Refusal::Differs => false,
+        Refusal::Full => false,
+        Refusal::Long => true,
+    }
 }

@@ -1,10 +1,10 @@
 -- The searches of acceptance go on from where they stand: over what is left of the list.
-use mathlib.Core.Path.{◌≡◌, refl, ◌∙◌, ap}
+use mathlib.Core.Path.{◌≡◌, refl, sym, ◌∙◌, ap}
 use mathlib.Core.List.{List, [], ◌∷◌}
 use mathlib.Core.Bool.{Bool, true, false}
 use Prim.Native.Nat.{ℕ, ◌+◌, ◌≤◌, ◌<◌}
 use native.Mathlib.Omega.{arith}
-use lib.ListN.{length, get_or, drop}
+use lib.ListN.{length, get_or, drop, length-drop, drop_of_length-le}
 use lib.Dec.{eqb}
 use Rattle.std.specs.List.{list_any}
 use Rattle.std.specs.Prelude.{◌||◌}
@@ -36,6 +36,12 @@ fit_short [] h = refl
 fit_short (a ∷ []) h = refl
 fit_short (a ∷ b ∷ s) h = absurd (omega arith)
 
+pub fit_none : (s : List ℕ) (i : ℕ) → length s ≤ i → first_fit (drop i s) ≡ 0
+fit_none s i h = sym (fit_short (drop i s) (omega (arith, length-drop i s)))
+
+pub fit_odd : (s : List ℕ) (i : ℕ) → i + 1 ≡ length s → first_fit (drop i s) ≡ 0
+fit_odd s i h = sym (fit_short (drop i s) (omega (arith, length-drop i s)))
+
 pub null_here : (s : List ℕ) (i : ℕ) → i < length s → get_or s i 0 ≡ 0 → has_null (drop i s) ≡ true
 unfolding has_null
 null_here s i h k = ap has_null (byte_piece s i (omega arith)) ∙ rw (eq-eqb (get_or s i 0) 0 k) refl
@@ -43,6 +49,10 @@ null_here s i h k = ap has_null (byte_piece s i (omega arith)) ∙ rw (eq-eqb (g
 pub null_later : (s : List ℕ) (i : ℕ) → i < length s → (get_or s i 0 ≡ 0 → ⊥) → has_null (drop i s) ≡ has_null (drop (i + 1) s)
 unfolding has_null
 null_later s i h k = ap has_null (byte_piece s i (omega arith)) ∙ rw (ne_eqb (get_or s i 0) 0 k) refl
+
+pub null_none : (s : List ℕ) (i : ℕ) → length s ≤ i → has_null (drop i s) ≡ false
+unfolding has_null
+null_none s i h = ap has_null (drop_of_length-le s h)
 
 -- it is in the list where some method of the list is 0
 pub null_any : (s : List ℕ) → list_any (λ method. eqb method 0) s ≡ has_null s

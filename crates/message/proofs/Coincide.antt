@@ -20,6 +20,10 @@ use Rattle.message.proofs.acceptance.hear as acceptance-hear
 use Rattle.message.specs.contracts.acceptance.hear as acceptance-hear-contract
 use Rattle.message.proofs.acceptance.accept as acceptance-accept
 use Rattle.message.specs.contracts.acceptance.accept as acceptance-accept-contract
+use Rattle.message.proofs.acceptance.UnheardFromCondition.from as acceptance-unheard-from-condition
+use Rattle.message.specs.contracts.acceptance.UnheardFromCondition.from as acceptance-unheard-from-condition-contract
+use Rattle.message.proofs.acceptance.UnheardFromField.from as acceptance-unheard-from-field
+use Rattle.message.specs.contracts.acceptance.UnheardFromField.from as acceptance-unheard-from-field-contract
 use Rattle.message.proofs.server.write as server-write
 use Rattle.message.specs.contracts.server.write as server-write-contract
 use Rattle.message.proofs.set.read as set_read
@@ -89,6 +93,12 @@ acceptance_hear_one κs a x y s u e f = (e ∙ sym f, refl)
 
 pub acceptance_accept_one : OneOutcome acceptance-accept-contract.ended acceptance-accept.Reads.Learnt
 acceptance_accept_one κs a x y s u e f = (e ∙ sym f, refl)
+
+pub acceptance_unheard_from_condition_one : OneOutcome acceptance-unheard-from-condition-contract.ended acceptance-unheard-from-condition.Reads.Learnt
+acceptance_unheard_from_condition_one κs a x y s u e f = (e ∙ sym f, refl)
+
+pub acceptance_unheard_from_field_one : OneOutcome acceptance-unheard-from-field-contract.ended acceptance-unheard-from-field.Reads.Learnt
+acceptance_unheard_from_field_one κs a x y s u e f = (e ∙ sym f, refl)
 
 pub server_write_one : OneOutcome server-write-contract.ended server-write.Reads.Learnt
 server_write_one κs a x y s u e f = (e.0 ∙ sym f.0, ap (λ w. (tt, (tt, (tt, (w, tt))))) (e.1 ∙ sym f.1))

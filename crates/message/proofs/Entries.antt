@@ -115,3 +115,11 @@ unfolding keys_end
 keys_by m at end list sound e p w =
     ap (λ (b : Bool). pick b end 0) (w ∙ ap key_list p)
     ∙ ap (λ (k : ℕ). pick (key_list (part_of m (at + 2) k)) k 0) e
+
+pub keys_sound : (m : List ℕ) (at end : ℕ) (list : List ℕ) (sound : Bool) → end ≡ long_end m at → list ≡ part_of m (at + 2) end
+    → sound ≡ key_list list → sound ≡ true → end ≡ keys_end m at
+keys_sound m at end list sound e p w h = ap (λ (b : Bool). pick b end 0) (sym h) ∙ keys_by m at end list sound e p w
+
+pub keys_unsound : (m : List ℕ) (at end : ℕ) (list : List ℕ) (sound : Bool) → end ≡ long_end m at → list ≡ part_of m (at + 2) end
+    → sound ≡ key_list list → sound ≡ false → 0 ≡ keys_end m at
+keys_unsound m at end list sound e p w h = ap (λ (b : Bool). pick b end 0) (sym h) ∙ keys_by m at end list sound e p w

@@ -10,12 +10,13 @@ use lib.ListN.{length, get_or}
 use lib.Dec.{eqb}
 use borrow.Author.Tests.{eq-eqb, ne_eqb, le-leb, lt-leb}
 use Rattle.digest.specs.Pick.{pick}
-use Rattle.message.specs.Field.{told_end, short_end}
+use Rattle.message.specs.Field.{told_end, field_end, short_end}
+use Rattle.message.specs.Keys.{keys_end}
 use Rattle.message.specs.Handshake.{fills, client_hello}
-use Rattle.message.specs.Hello.{suites_end, walk_on, walk_of, read_of}
+use Rattle.message.specs.Hello.{suites_end, placed, walk_on, walk_of, read_of}
 use Rattle.message.specs.declared.hello.Hello.{Hello}
 use Rattle.message.specs.declared.hello.Field.{Field}
-use Rattle.message.specs.declared.hello.Field.TheVariants.{Header, Size, Rest}
+use Rattle.message.specs.declared.hello.Field.TheVariants.{Header, Size, Version, Random, SessionId, ClientKeyIds, TrustedKeyIds, CipherSuites, CompressionMethods, SequenceNumberMode, KeyRefresh, Rest}
 use Rattle.message.proofs.Fields.{refused_by, end_none, end_some, short_cut, pick_same}
 use Rattle.std.specs.Prelude.{Err, Ok, Result, None, Some, Option, ok_or}
 
@@ -69,3 +70,43 @@ over_size m h l = rw (h, lt-leb (length m) 256 l) refl
 pub walked : (m : List ℕ) (r : Result Hello Field) → fills client_hello m ≡ true → length m ≤ 256 → r ≡ walk_of m → r ≡ read_of m
 unfolding read_of
 walked m r h l e = rw (h, le-leb (length m) 256 l) e
+
+-- all ends given
+abbrev pub told_by : ℕ → ℕ → ℕ → ℕ → ℕ → ℕ → ℕ → ℕ → ℕ → ℕ → Result Hello Field
+told_by v r s c t p z n k size =
+    pick (eqb v 0) (Err Version)
+    (pick (eqb r 0) (Err Random)
+    (pick (eqb s 0) (Err SessionId)
+    (pick (eqb c 0) (Err ClientKeyIds)
+    (pick (eqb t 0) (Err TrustedKeyIds)
+    (pick (eqb p 0) (Err CipherSuites)
+    (pick (eqb z 0) (Err CompressionMethods)
+    (pick (eqb n 0) (Err SequenceNumberMode)
+    (pick (eqb k 0) (Err KeyRefresh)
+    (pick (eqb k size) (Ok (placed v r s c t p z n k)) (Err Rest))))))))))
+
+pub by_ends : (m : List ℕ) (v r s c t p z n k : ℕ) (reading : Result Hello Field)
+    → fills client_hello m ≡ true
+    → length m ≤ 256
+    → v ≡ field_end m 3 1
+    → r ≡ field_end m v 16
+    → s ≡ short_end 0 8 m r
+    → c ≡ keys_end m s
+    → t ≡ keys_end m c
+    → p ≡ suites_end m t
+    → z ≡ short_end 1 255 m p
+    → n ≡ field_end m z 1
+    → k ≡ field_end m n 1
+    → reading ≡ told_by v r s c t p z n k (length m)
+    → reading ≡ read_of m
+unfolding walk_on
+by_ends m v r s c t p z n k reading h l ev er es ec et ep ez en ek e =
+    let dr = er ∙ ap (λ (a : ℕ). field_end m a 16) ev in
+    let ds = es ∙ ap (short_end 0 8 m) dr in
+    let dc = ec ∙ ap (keys_end m) ds in
+    let dt = et ∙ ap (keys_end m) dc in
+    let dp = ep ∙ ap (suites_end m) dt in
+    let dz = ez ∙ ap (short_end 1 255 m) dp in
+    let dn = en ∙ ap (λ (a : ℕ). field_end m a 1) dz in
+    let dk = ek ∙ ap (λ (a : ℕ). field_end m a 1) dn in
+    walked m reading h l (e ∙ (λ i. told_by (ev i) (dr i) (ds i) (dc i) (dt i) (dp i) (dz i) (dn i) (dk i) (length m)))

@@ -14,9 +14,9 @@ loop-k-preserved c = slot_laid _ _ (search rules) _ _ _ _ c.loop-k.invariant (se
 pub returns-clause-d_after : goal.returns-clause-d_after
 returns-clause-d_after c =
     let all : c.loop-k.k ≡ 4 = omega arith in
-    gatherer_laid c.args.g c.args.d.now c.loop-k.d (search rules) (subst (SlotsLaid c.args.d.now c.args.g.slots c.loop-k.d) all c.loop-k.invariant)
+    gatherer_laid c.args.g c.args.d.now c.loop-k.d (subst (SlotsLaid c.args.d.now c.args.g.slots c.loop-k.d) all c.loop-k.invariant)
 
 pub returns-clause-d_after_2 : goal.returns-clause-d_after_2
 returns-clause-d_after_2 c =
     let all : c.loop-k.k ≡ 4 = omega arith in
-    gatherer_loads_lem c.args.g c.args.d.now c.loop-k.d (search rules) (subst (SlotsLaid c.args.d.now c.args.g.slots c.loop-k.d) all c.loop-k.invariant)
+    gatherer_loads_lem c.args.g c.args.d.now c.loop-k.d (subst (SlotsLaid c.args.d.now c.args.g.slots c.loop-k.d) all c.loop-k.invariant)

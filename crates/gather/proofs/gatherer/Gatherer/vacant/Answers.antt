@@ -8,4 +8,4 @@ use Rattle.gather.proofs.gatherer.Gatherer.vacant.Goals as goal
 pub returns-clause-value : goal.returns-clause-value
 unfolding vacant_at
 returns-clause-value c =
-    position_from_yields_List _ _ _ _ c.position.ensures.ran (YieldsList-from_slice c.args.self.now.slots cc) (λ x b q k. search (rules, tests))
+    position_from_yields_List _ _ _ _ c.position.ensures.ran (YieldsList-from_slice c.args.self.now.slots c.iter.ensures.rest) (λ x b q k. search (rules, tests))

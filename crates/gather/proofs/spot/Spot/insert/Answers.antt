@@ -5,13 +5,12 @@ use Rattle.gather.proofs.Sums.{below_small, below_mono}
 use Rattle.gather.proofs.Keeping.{inserted}
 use Rattle.gather.proofs.spot.Spot.insert.Goals as goal
 
-pub copy_within-requires-clause-start_le_end : goal.copy_within-requires-clause-start_le_end
-copy_within-requires-clause-start_le_end c = omega (arith, below_mono c.args.self.now.slot c.args.self.now.i 11 (search rules))
-
-pub copy_within-requires-clause-dest_in_bounds : goal.copy_within-requires-clause-dest_in_bounds
-copy_within-requires-clause-dest_in_bounds c =
-    omega (arith, below_small c.args.self.now.slot 11, below_mono c.args.self.now.slot c.args.self.now.i 11 (search rules))
+pub shift-requires : goal.shift-requires
+shift-requires c = (
+  omega (arith, below_mono c.args.self.now.slot c.args.self.now.i 11 (search rules)),
+  omega (arith, below_small c.args.self.now.slot 11, below_mono c.args.self.now.slot c.args.self.now.i 11 (search rules)),
+)
 
 pub returns : goal.returns
 returns c =
-    inserted _ _ _ _ _ (search rules) (search rules) (search rules) (search rules) _ _ _ _ c.begin-from.ensures.value c.begin.ensures.value c.copy_within.ensures.after c.put.ensures.exact
+    inserted _ _ _ _ _ (search rules) (search rules) (search rules) (search rules) _ _ _ _ c.begin-from.ensures.value c.begin.ensures.value c.shift.ensures c.put.ensures.exact
