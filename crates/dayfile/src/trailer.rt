@@ -23,6 +23,10 @@ pub(crate) fn trailer_stands(file: &[u8], run: Run) -> bool
     let [TRAILER, numbers @ ..] = trailer else {
         return false;
     };
+    // the length alone tells most of what is no file, before the reports are walked again
+    if numbers.len() != 2 + 2 * run.count {
+        return false;
+    }
     numbers_stand(numbers, body, run.count)
 }
 

@@ -2,13 +2,13 @@
 use mathlib.Core.Path.{◌≡◌, sym, ◌∙◌, ap}
 use mathlib.Core.List.{◌∷◌, ◌++◌}
 use native.Mathlib.Omega.{arith}
-use lib.ListN.{length, get_or, drop}
+use lib.ListN.{length, get_or, drop, length-drop}
 use Rattle.std.proofs.lemmas.List.{take_rest}
 use Rattle.digest.specs.Mac.{same_bytes}
 use Rattle.digest.specs.Bytes.{bytes2}
 use Rattle.dayfile.specs.File.{distances_of}
 use Rattle.dayfile.specs.Runs.{run_of}
-use Rattle.dayfile.proofs.Trailing.{again, other_opening, opening_there, opened_first, count_in_lem}
+use Rattle.dayfile.proofs.Trailing.{again, other_length, other_opening, opening_there, opened_first, count_in_lem}
 use Rattle.dayfile.proofs.trailer.trailer_stands.Goals as goal
 
 pub returns-in_default : goal.returns-in_default
@@ -18,6 +18,20 @@ pub returns-in_default-2 : goal.returns-in_default-2
 returns-in_default-2 c =
     other_opening _ _ c.requires.run_stands
     (λ rest e. let first : get_or c.split_at.result.1.now 0 0 ≡ 210 = ap (λ l. get_or l 0 0) (c.split_at.ensures.back ∙ e) in omega arith)
+
+pub overflow_mul-run : goal.overflow_mul-run
+overflow_mul-run c = omega (arith, count_in_lem _ _ c.requires.run_stands, c.requires.run_stands.inside, c.requires.file_len_bound)
+
+pub overflow_add-run : goal.overflow_add-run
+overflow_add-run c = omega (arith, count_in_lem _ _ c.requires.run_stands, c.requires.run_stands.inside, c.requires.file_len_bound)
+
+pub returns-then-numbers-run : goal.returns-then-numbers-run
+returns-then-numbers-run c =
+    let trailer = c.split_at.result.1.now in
+    other_length _ _ c.requires.run_stands
+    (λ e.
+    c.if-numbers-run.true
+    (omega (arith, e, ap length c.split_at.ensures.back, ap length (take_rest trailer 1), length-drop 1 trailer, c.in-210.len_at_least)))
 
 pub numbers_stand-requires-clause-reports : goal.numbers_stand-requires-clause-reports
 numbers_stand-requires-clause-reports c =
