@@ -293,11 +293,6 @@ module _ (b : List ℕ) (run : Run) (w : RunStands b run) where
   unfolding trailer_of
   other_opening ne = sym (behind ∙ differ_same (drop end b) (trailer_of (run_of b)) (λ e. ne (distances_of (run_of b) ++ bytes2 (length (run_of b))) e))
 
-  -- what stands behind the run is longer or shorter than its trailer
-  pub other_length : (length (drop end b) ≡ 3 + 2 * run.count → ⊥) → false ≡ same_bytes b (file_of (run_of b))
-  other_length ne =
-      sym (behind ∙ differ_same (drop end b) (trailer_of (run_of b)) (λ e. ne (omega (arith, ap length e, length_trailer (run_of b), w.many))))
-
   pub opening_there : ((k : ℕ) → get_or b k 0 < 256) → (rest : List ℕ) → drop end b ≡ 210 ∷ rest
       → same_bytes rest (distances_of (run_of (take end b)) ++ bytes2 run.count) ≡ same_bytes b (file_of (run_of b))
   unfolding trailer_of

@@ -31,7 +31,7 @@ returns-then-numbers-run c =
     other_length _ _ c.requires.run_stands
     (λ e.
     c.if-numbers-run.true
-    (omega (arith, e, ap length c.split_at.ensures.back, ap length (take_rest trailer 1), length-drop 1 trailer, c.in-210.len_at_least)))
+    (omega (arith, e, ap length c.split_at.ensures.back, length-drop c.args.run.end c.args.file.now, ap length (take_rest trailer 1), length-drop 1 trailer, c.in-210.len_at_least)))
 
 pub numbers_stand-requires-clause-reports : goal.numbers_stand-requires-clause-reports
 numbers_stand-requires-clause-reports c =
