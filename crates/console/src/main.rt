@@ -8,12 +8,12 @@ mod outcome;
 mod run;
 
 use console::Console;
+use lines::output::Output;
 use lines::run::run_lines;
 use std::io;
-use std::io::BufWriter;
 
 fn main(rt: HostRuntime) -> io::Result<()> {
     let mut console = Console::new();
-    let mut out = BufWriter::new(rt.alloc(), io::writer(&rt))?;
+    let mut out = Output::new(io::writer(&rt));
     run_lines(&mut console, &mut rt.reader(), &mut out)
 }

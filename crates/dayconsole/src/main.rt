@@ -9,12 +9,12 @@ mod outcome;
 mod run;
 
 use day::Day;
+use lines::output::Output;
 use lines::run::run_lines;
 use std::io;
-use std::io::BufWriter;
 
 fn main(rt: HostRuntime) -> io::Result<()> {
     let mut day = Day::new();
-    let mut out = BufWriter::new(rt.alloc(), io::writer(&rt))?;
+    let mut out = Output::new(io::writer(&rt));
     run_lines(&mut day, &mut rt.reader(), &mut out)
 }

@@ -10,13 +10,14 @@ mod session;
 mod show;
 
 use digest::Mac;
+use lines::output::Output;
 use message::acceptance;
 use message::acceptance::Plan;
 use std::io;
-use std::io::{BufWriter, Write};
+use std::io::Write;
 
 fn main(rt: HostRuntime) -> io::Result<()> {
-    let mut out = BufWriter::new(rt.alloc(), io::writer(&rt))?;
+    let mut out = Output::new(io::writer(&rt));
     handshake(Mac::Sha80, &mut out)?;
     handshake(Mac::Sha, &mut out)?;
     out.flush()

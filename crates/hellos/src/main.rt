@@ -2,23 +2,24 @@
 // a line for each: the refusal number with the field or the condition, or 0 with MAC number and refresh.
 #![tactic(auto)]
 
-ghost use Rattle.std.specs.Prelude.{◌<◌, length, IfSome};
-
-use message::acceptance;
+use arrayvec::ArrayVec;
+use lines::output::Output;
 use message::acceptance::{Condition, Plan, Unheard};
 use message::hello::Field;
+use message::{acceptance, field};
 use std::io;
-use std::io::{BufWriter, Read, Write};
+use std::io::{Read, Write};
 
 // The most bytes that are read.
-const INPUT: u64 = 65536;
+const INPUT: usize = 65536;
 
 const PLANTED: [u8; 8] = [1, 2, 3, 4, 5, 6, 7, 8];
 
+// A failed read counts as the end of the input.
 fn main(rt: HostRuntime) -> io::Result<()> {
-    let mut input = Vec::new(rt.alloc());
-    rt.reader().take(INPUT).read_to_end(&mut input)?;
-    let mut out = BufWriter::new(rt.alloc(), io::writer(&rt))?;
+    let mut input = ArrayVec::<u8, INPUT>::new();
+    let _ = io::copy(&mut rt.reader().take(INPUT as u64), &mut input);
+    let mut out = Output::new(io::writer(&rt));
     hear_all(&input, &mut out)?;
     out.flush()
 }
@@ -26,19 +27,11 @@ fn main(rt: HostRuntime) -> io::Result<()> {
 // Each message, from the front; what is cut at the end is left.
 fn hear_all<W: Write>(s: &[u8], out: &mut W) -> io::Result<()> {
     let mut rest = s;
-    while let Some((message, behind)) = first_of(rest) {
-        show(acceptance::hear(message, &PLANTED), out)?;
-        rest = behind;
+    while let Some(end) = field::long_end(rest, 0) {
+        show(acceptance::hear(field::part(rest, 2, end), &PLANTED), out)?;
+        rest = &rest[end..];
     }
     Ok(())
-}
-
-// The first message, and what is behind it.
-fn first_of(s: &[u8]) -> Option<(&[u8], &[u8])>
-    ensures { IfSome result (λ p. length p.1.now < length s.now) }
-{
-    let (size, rest) = s.split_first_chunk::<2>()?;
-    rest.split_at_checked(usize::from(u16::from_be_bytes(*size)))
 }
 
 fn show<W: Write>(heard: Result<Plan, Unheard>, out: &mut W) -> io::Result<()> {

@@ -4,6 +4,7 @@
 
 pub mod hex;
 pub mod number;
+pub mod output;
 pub mod run;
 pub mod said;
 pub mod words;

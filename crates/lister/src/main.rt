@@ -5,21 +5,24 @@
 ghost use Rattle.std.specs.Prelude.{◌≡◌, ◌+◌, ◌^◌, ◌<◌, Ok};
 ghost use Rattle.record.specs.Datagram.{walk_of};
 
+use arrayvec::ArrayVec;
+use lines::output::Output;
 use record::datagram::{Misframed, Walk, walked};
 use record::header::number_of;
 use record::reader::{Fault, Record, fault_number};
 use std::io;
-use std::io::{BufWriter, Read, Write};
+use std::io::{Read, Write};
 
 // One byte more than a datagram may have, so that a longer input is seen to be one.
-const MOST: u64 = 1401;
+const MOST: usize = 1401;
 
+// A failed read counts as the end of the input.
 fn main(rt: HostRuntime) -> io::Result<()> {
-    let mut datagram = Vec::new(rt.alloc());
-    let mut input = rt.reader().take(MOST);
-    input.read_to_end(&mut datagram)?;
-    io::copy(&mut input.into_inner(), &mut io::sink())?;
-    let mut out = BufWriter::new(rt.alloc(), io::writer(&rt))?;
+    let mut datagram = ArrayVec::<u8, MOST>::new();
+    let mut input = rt.reader().take(MOST as u64);
+    let _ = io::copy(&mut input, &mut datagram);
+    let _ = io::copy(&mut input.into_inner(), &mut io::sink());
+    let mut out = Output::new(io::writer(&rt));
     list(&datagram, &mut out)?;
     out.flush()
 }

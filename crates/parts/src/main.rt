@@ -4,13 +4,15 @@
 
 ghost use Rattle.std.specs.Prelude.{◌<◌, length, IfSome};
 
+use arrayvec::ArrayVec;
 use gather::{Answer, Gatherer, Heading, Ports, Refusal};
 use lines::hex::Hex;
+use lines::output::Output;
 use std::io;
-use std::io::{BufWriter, Read, Write};
+use std::io::{Read, Write};
 
 // The most bytes that are read.
-const INPUT: u64 = 65536;
+const INPUT: usize = 65536;
 
 // The length that says a drop.
 const DROP: u16 = 65535;
@@ -22,10 +24,11 @@ enum Item<'a> {
     Drop(u8),
 }
 
+// A failed read counts as the end of the input.
 fn main(rt: HostRuntime) -> io::Result<()> {
-    let mut input = Vec::new(rt.alloc());
-    rt.reader().take(INPUT).read_to_end(&mut input)?;
-    let mut out = BufWriter::new(rt.alloc(), io::writer(&rt))?;
+    let mut input = ArrayVec::<u8, INPUT>::new();
+    let _ = io::copy(&mut rt.reader().take(INPUT as u64), &mut input);
+    let mut out = Output::new(io::writer(&rt));
     gather_all(&input, &mut out)?;
     out.flush()
 }

@@ -8,12 +8,13 @@
 mod lengths;
 mod show;
 
+use lines::output::Output;
 use show::line;
 use std::io;
-use std::io::{BufWriter, Write};
+use std::io::Write;
 
 fn main(rt: HostRuntime) -> io::Result<()> {
-    let mut out = BufWriter::new(rt.alloc(), io::writer(&rt))?;
+    let mut out = Output::new(io::writer(&rt));
     papers(&mut out)?;
     lengths::lengths(&mut out)?;
     codes(&mut out)?;

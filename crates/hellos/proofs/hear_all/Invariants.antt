@@ -2,5 +2,5 @@
 use Rattle.std.proofs.Common.{length}
 use Rattle.hellos.proofs.hear_all.Given as goal
 
-abbrev pub decreases-loop-message : goal.decreases-loop-message
-decreases-loop-message g l = length l.rest
+abbrev pub decreases-loop-end : goal.decreases-loop-end
+decreases-loop-end g l = length l.rest
