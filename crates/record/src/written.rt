@@ -91,10 +91,9 @@ pub fn type_byte(long: bool, protected: bool, content: Content) -> u8
 }
 
 // s over d from place `at` on.
-#[tactic(auto, unfolding(digest::specs::Bytes::laid_over))]
 fn put(d: &mut [u8], at: usize, s: &[u8])
     requires { at + length s.now ≤ length d.old }
     ensures { d.new ≡ laid_over d.old at s.now }
 {
-    d[at..at + s.len()].copy_from_slice(s);
+    digest::put(d, at, s);
 }

@@ -55,7 +55,8 @@ pub extern "C" fn speed_prf(
     digest::prf(secret, label, first, second, third, out);
 }
 
-// The code of a message that comes in one piece.
+// The code of a message that comes in one piece. (Not inlined: so the archive needs no memset.)
+#[inline(never)]
 fn code(key: Key, message: &[u8]) -> [u8; 20]
     ensures { (k : List ℕ) → key ≡ key_of k → result ≡ hmac k message.now }
 {
