@@ -7,13 +7,15 @@ const REPORTS: usize = 5000;
 // The most bytes of the reports and of the file, and of the room that a line may lend.
 pub const ROOM: usize = 70000;
 
-// A list of reports, as a file of them is written: their numbers, their sizes, and their bytes one behind the other; and a file.
+// A list of reports, as a file of them is written: their numbers, their sizes, and their bytes one behind the other; a file;
+// and the room that a line lends.
 #[derive(Drop)]
 pub struct Day {
     pub numbers: ArrayVec<u16, REPORTS>,
     pub sizes: ArrayVec<usize, REPORTS>,
     pub bytes: ArrayVec<u8, ROOM>,
     pub file: ArrayVec<u8, ROOM>,
+    pub room: [u8; ROOM],
 }
 
 impl Day {
@@ -23,6 +25,7 @@ impl Day {
             sizes: ArrayVec::new(),
             bytes: ArrayVec::new(),
             file: ArrayVec::new(),
+            room: [0; ROOM],
         }
     }
 

@@ -1,6 +1,6 @@
 // Running the call that a line makes. Its words were read when the call was told (`call_of`).
 use crate::call::{Call, call_of};
-use crate::day::{Day, ROOM};
+use crate::day::Day;
 use crate::outcome::{mended_size, put_mended, put_out, put_reports, refused, state_line};
 use dayfile::mend::mend_file;
 use dayfile::read::read_file;
@@ -49,14 +49,14 @@ fn run_file<W: Write>(day: &mut Day, line: &[u8], out: &mut W) -> io::Result<()>
     }
 }
 
-fn run_write<W: Write>(day: &Day, line: &[u8], out: &mut W) -> io::Result<()> {
-    let mut lent = [0u8; ROOM];
-    let size = room(word(line, 1), &lent);
+fn run_write<W: Write>(day: &mut Day, line: &[u8], out: &mut W) -> io::Result<()> {
+    let lent = &mut day.room[..];
+    let size = room(word(line, 1), lent);
     match write_file(&day.numbers, &day.sizes, &day.bytes, &mut lent[..size]) {
         Err(refusal) => refused("write", refusal, out),
         Ok(written) => {
             writeln!(out, "write ok")?;
-            put_out(&lent, written, out)
+            put_out(lent, written, out)
         }
     }
 }
@@ -71,14 +71,14 @@ fn run_read<W: Write>(day: &Day, out: &mut W) -> io::Result<()> {
     }
 }
 
-fn run_mend<W: Write>(day: &Day, line: &[u8], out: &mut W) -> io::Result<()> {
-    let mut lent = [0u8; ROOM];
-    let size = room(word(line, 1), &lent);
+fn run_mend<W: Write>(day: &mut Day, line: &[u8], out: &mut W) -> io::Result<()> {
+    let lent = &mut day.room[..];
+    let size = room(word(line, 1), lent);
     match mend_file(&day.file, &mut lent[..size]) {
         Err(refusal) => refused("mend", refusal, out),
         Ok(said) => {
             put_mended(said, out)?;
-            put_out(&lent, mended_size(said, day.file.len()), out)
+            put_out(lent, mended_size(said, day.file.len()), out)
         }
     }
 }

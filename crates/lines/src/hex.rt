@@ -1,14 +1,18 @@
 // Byte strings in lowercase hex, `-` for the empty one.
-ghost use Rattle.std.specs.Prelude.{◌<◌, ◌≤◌, ◌≡◌, length, take, Some};
+ghost use Rattle.std.specs.Prelude.{◌<◌, ◌≤◌, ◌≡◌, false, length, take, IsUtf8, Some};
+ghost use Rattle.std.specs.Fmt.{digit_glyph};
 ghost use Rattle.std.specs.List.{list_all};
 ghost use Rattle.lines.specs.Hex.{is_hex_digit, hex_digit, is_bytes, bytes_of};
 ghost use Rattle.lines.specs.Shown.{hex_of, string_of};
 
 use arrayvec::ArrayVec;
-use std::fmt;
+use std::{fmt, str};
 
 // The most bytes that a byte string of a line spells.
 const BYTES: usize = 4096;
+
+// How many bytes are shown at a time.
+const PIECE: usize = 64;
 
 // What a byte string spells.
 pub type Bytes = ArrayVec<u8, BYTES>;
@@ -67,10 +71,40 @@ impl fmt::Display for Hex<'_> {
     ghost output = { λ h. Some (hex_of h.0.now) };
 
     fn fmt<W: fmt::Write>(&self, f: &mut fmt::Formatter<W>) -> fmt::Result {
-        for &b in self.0 {
-            write!(f, "{b:02x}")?;
+        for piece in self.0.chunks(PIECE) {
+            let digits = digits(piece);
+            let Ok(text) = str::from_utf8(digits.as_slice()) else {
+                unreachable!();
+            };
+            f.write_str(text)?;
         }
         Ok(())
+    }
+}
+
+// The digits of a piece, two to each byte.
+fn digits(piece: &[u8]) -> ArrayVec<u8, 128>
+    requires { length piece.now ≤ PIECE }
+    ensures items { result.items ≡ hex_of piece.now }
+    ensures text { IsUtf8 result.items }
+{
+    let mut digits = ArrayVec::new();
+    for b in piece {
+        digits.push(glyph(*b / 16));
+        digits.push(glyph(*b % 16));
+    }
+    digits
+}
+
+// What a digit looks like.
+fn glyph(digit: u8) -> u8
+    requires { digit < 16 }
+    ensures { result ≡ digit_glyph false digit }
+{
+    if digit < 10 {
+        b'0' + digit
+    } else {
+        b'a' + (digit - 10)
     }
 }
 
