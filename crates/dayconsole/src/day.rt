@@ -1,5 +1,6 @@
 // What is at hand from line to line.
 use arrayvec::{ArrayVec, CapacityError};
+use lines::hex::push_bytes;
 
 // The most reports of a list.
 const REPORTS: usize = 5000;
@@ -29,14 +30,14 @@ impl Day {
         }
     }
 
-    // Appends a report to the list, where it has room.
-    pub fn report(&mut self, number: u16, bytes: &[u8]) -> Result<(), CapacityError> {
+    // Appends a report to the list, where it has room: the bytes that a byte string spells.
+    pub fn report(&mut self, number: u16, word: &[u8]) -> Result<(), CapacityError> {
         if self.numbers.is_full() || self.sizes.is_full() {
             return Err(CapacityError::new(()));
         }
-        self.bytes.try_extend_from_slice(bytes)?;
+        let size = push_bytes(word, &mut self.bytes)?;
         self.numbers.push(number);
-        self.sizes.push(bytes.len());
+        self.sizes.push(size);
         Ok(())
     }
 

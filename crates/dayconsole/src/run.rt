@@ -5,7 +5,7 @@ use crate::outcome::{mended_size, put_mended, put_out, put_reports, refused, sta
 use dayfile::mend::mend_file;
 use dayfile::read::read_file;
 use dayfile::write::write_file;
-use lines::hex::bytes;
+use lines::hex::push_bytes;
 use lines::number::{number, room};
 use lines::run::{Driven, bad_line};
 use lines::words::word;
@@ -35,7 +35,7 @@ impl Driven for Day {
 // Appends to the list at hand, where it has room.
 fn run_report<W: Write>(day: &mut Day, line: &[u8], out: &mut W) -> io::Result<()> {
     let number = number(word(line, 1), 65535) as u16;
-    match day.report(number, &bytes(word(line, 2))) {
+    match day.report(number, word(line, 2)) {
         Ok(()) => writeln!(out, "report ok"),
         Err(_) => writeln!(out, "report full"),
     }
@@ -43,8 +43,8 @@ fn run_report<W: Write>(day: &mut Day, line: &[u8], out: &mut W) -> io::Result<(
 
 // Appends to the file at hand, where it has room.
 fn run_file<W: Write>(day: &mut Day, line: &[u8], out: &mut W) -> io::Result<()> {
-    match day.file.try_extend_from_slice(&bytes(word(line, 1))) {
-        Ok(()) => writeln!(out, "file ok"),
+    match push_bytes(word(line, 1), &mut day.file) {
+        Ok(_) => writeln!(out, "file ok"),
         Err(_) => writeln!(out, "file full"),
     }
 }

@@ -1,11 +1,12 @@
 // Byte strings in lowercase hex, `-` for the empty one.
-ghost use Rattle.std.specs.Prelude.{◌<◌, ◌≤◌, ◌≡◌, false, length, take, IsUtf8, Some};
+ghost use Rattle.std.specs.Prelude.{◌+◌, ◌<◌, ◌≤◌, ◌≡◌, ◌↔◌, ◌++◌, false, length, take, IfOk, IsOk, IsUtf8, OnErr, OnOk, Some};
 ghost use Rattle.std.specs.Fmt.{digit_glyph};
 ghost use Rattle.std.specs.List.{list_all};
+ghost use Rattle.arrayvec.specs.ArrayVec.{array_vec_len};
 ghost use Rattle.lines.specs.Hex.{is_hex_digit, hex_digit, is_bytes, bytes_of};
 ghost use Rattle.lines.specs.Shown.{hex_of, string_of};
 
-use arrayvec::ArrayVec;
+use arrayvec::{ArrayVec, CapacityError};
 use std::{fmt, str};
 
 // The most bytes that a byte string of a line spells.
@@ -39,6 +40,26 @@ pub fn bytes(word: &[u8]) -> Bytes
     bytes
 }
 
+// Appends the bytes that a byte string spells, where all of them have room, and answers how many they are.
+pub fn push_bytes<const N: usize>(
+    word: &[u8],
+    to: &mut ArrayVec<u8, N>,
+) -> Result<usize, CapacityError>
+    ensures variant { IsOk result ↔ (array_vec_len to.old + length (bytes_of word.now) ≤ N) }
+    ensures count { IfOk result (λ n. n ≡ length (bytes_of word.now)) }
+    ensures ok { OnOk result (to.new.items ≡ to.old.items ++ bytes_of word.now) }
+    ensures err { OnErr result (to.new ≡ to.old) }
+{
+    let count = word.len() / 2;
+    if to.remaining_capacity() < count {
+        return Err(CapacityError::new(()));
+    }
+    for i in 0..count {
+        to.push(digit(word[2 * i]) * 16 + digit(word[2 * i + 1]));
+    }
+    Ok(count)
+}
+
 fn all_digits(word: &[u8]) -> bool
     ensures { result ≡ list_all is_hex_digit word.now }
 {
@@ -58,7 +79,7 @@ fn digit(b: u8) -> u8
 {
     match b {
         b'0'..=b'9' => b - b'0',
-        b'a'..=b'f' => b - b'a' + 10,
+        b'a'..=b'f' => b - (b'a' - 10),
         _ => 0,
     }
 }

@@ -20,7 +20,7 @@ pub fn put_parts<W: Write>(g: Gatherer, out: &mut W) -> io::Result<()> {
             slot.total
         )?;
         before = ",";
-        from = u16::from(slot.reference) + 1;
+        from = u16::from(slot.reference).saturating_add(1);
     }
     if before.is_empty() {
         return write!(out, "-");
