@@ -1,11 +1,11 @@
 // Running the call that a line makes. Its words were read when the call was told (`call_of`).
 use crate::call::{Call, call_of};
-use crate::day::{Day, ROOM};
+use crate::day::Day;
 use crate::outcome::{mended_size, put_mended, put_out, put_reports, refused, state_line};
 use dayfile::mend::mend_file;
 use dayfile::read::read_file;
 use dayfile::write::write_file;
-use lines::hex::bytes;
+use lines::hex::push_bytes;
 use lines::number::{number, room};
 use lines::run::{Driven, bad_line};
 use lines::words::word;
@@ -35,7 +35,7 @@ impl Driven for Day {
 // Appends to the list at hand, where it has room.
 fn run_report<W: Write>(day: &mut Day, line: &[u8], out: &mut W) -> io::Result<()> {
     let number = number(word(line, 1), 65535) as u16;
-    match day.report(number, &bytes(word(line, 2))) {
+    match day.report(number, word(line, 2)) {
         Ok(()) => writeln!(out, "report ok"),
         Err(_) => writeln!(out, "report full"),
     }
@@ -43,20 +43,20 @@ fn run_report<W: Write>(day: &mut Day, line: &[u8], out: &mut W) -> io::Result<(
 
 // Appends to the file at hand, where it has room.
 fn run_file<W: Write>(day: &mut Day, line: &[u8], out: &mut W) -> io::Result<()> {
-    match day.file.try_extend_from_slice(&bytes(word(line, 1))) {
-        Ok(()) => writeln!(out, "file ok"),
+    match push_bytes(word(line, 1), &mut day.file) {
+        Ok(_) => writeln!(out, "file ok"),
         Err(_) => writeln!(out, "file full"),
     }
 }
 
-fn run_write<W: Write>(day: &Day, line: &[u8], out: &mut W) -> io::Result<()> {
-    let mut lent = [0u8; ROOM];
-    let size = room(word(line, 1), &lent);
+fn run_write<W: Write>(day: &mut Day, line: &[u8], out: &mut W) -> io::Result<()> {
+    let lent = &mut day.room[..];
+    let size = room(word(line, 1), lent);
     match write_file(&day.numbers, &day.sizes, &day.bytes, &mut lent[..size]) {
         Err(refusal) => refused("write", refusal, out),
         Ok(written) => {
             writeln!(out, "write ok")?;
-            put_out(&lent, written, out)
+            put_out(lent, written, out)
         }
     }
 }
@@ -71,14 +71,14 @@ fn run_read<W: Write>(day: &Day, out: &mut W) -> io::Result<()> {
     }
 }
 
-fn run_mend<W: Write>(day: &Day, line: &[u8], out: &mut W) -> io::Result<()> {
-    let mut lent = [0u8; ROOM];
-    let size = room(word(line, 1), &lent);
+fn run_mend<W: Write>(day: &mut Day, line: &[u8], out: &mut W) -> io::Result<()> {
+    let lent = &mut day.room[..];
+    let size = room(word(line, 1), lent);
     match mend_file(&day.file, &mut lent[..size]) {
         Err(refusal) => refused("mend", refusal, out),
         Ok(said) => {
             put_mended(said, out)?;
-            put_out(&lent, mended_size(said, day.file.len()), out)
+            put_out(lent, mended_size(said, day.file.len()), out)
         }
     }
 }

@@ -7,16 +7,20 @@ use std::io::Write;
 pub fn put_parts<W: Write>(g: Gatherer, out: &mut W) -> io::Result<()> {
     write!(out, " parts=")?;
     let mut before = "";
-    for reference in 0..=255 {
-        if let Some(slot) = held_of(g, reference) {
-            write!(
-                out,
-                "{before}{reference}:{}/{}",
-                slot.held_places(),
-                slot.total
-            )?;
-            before = ",";
-        }
+    let mut from: u16 = 0;
+    for _ in 0..4 {
+        let Some(slot) = next_held(&g.slots, from) else {
+            break;
+        };
+        write!(
+            out,
+            "{before}{}:{}/{}",
+            slot.reference,
+            slot.held_places(),
+            slot.total
+        )?;
+        before = ",";
+        from = u16::from(slot.reference).saturating_add(1);
     }
     if before.is_empty() {
         return write!(out, "-");
@@ -24,9 +28,10 @@ pub fn put_parts<W: Write>(g: Gatherer, out: &mut W) -> io::Result<()> {
     Ok(())
 }
 
-// What is held of a reference: no two slots hold the same.
-fn held_of(g: Gatherer, reference: u8) -> Option<Slot> {
-    g.slots
-        .into_iter()
-        .find(|slot| slot.total != 0 && slot.reference == reference)
+// What is held of the least reference from a number on: no two slots hold the same.
+fn next_held(slots: &[Slot], from: u16) -> Option<&Slot> {
+    slots
+        .iter()
+        .filter(|slot| slot.total != 0 && from <= u16::from(slot.reference))
+        .min_by_key(|slot| slot.reference)
 }

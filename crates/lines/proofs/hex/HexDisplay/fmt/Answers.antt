@@ -1,23 +1,40 @@
--- `hex::Hex` shown: one byte more is written.
-use Rattle.std.proofs.Common.{◌≡◌, ◌++◌, [], ℕ, ◌+◌, ◌-◌, ◌^◌, ◌<◌, List, length, take, slice_index_or, rules, refl, sym, ◌∙◌, ap, arith, false}
-use Rattle.std.specs.Fmt.{digits, padded_integral, format_spec}
+-- `hex::Hex` shown: one piece more is written.
+use Rattle.std.proofs.Common.{◌≡◌, List, ℕ, [], ◌++◌, sym, ap, ◌∙◌, rules, append_assoc, append-nil}
 use Rattle.std.proofs.Output.{has_written_append, has_written_of_eq}
-use Rattle.std.proofs.lemmas.Fmt.{hex_byte}
-use Rattle.std.proofs.lemmas.List.{flat_map_more, take_more}
+use Rattle.std.proofs.lemmas.List.{nil_from_length}
+use Rattle.std.proofs.lemmas.List.Concat.{flat_map-append}
+use Rattle.std.specs.Slice.Iter.{chunks_rest}
 use Rattle.lines.specs.Shown.{pair_of, hex_of}
 use Rattle.lines.proofs.hex.HexDisplay.fmt.Goals as goal
 
--- what one more turn writes
-one_more : (s : List ℕ) (i : ℕ) → i < length s → slice_index_or s i 0 < 2 ^ 8
-    → hex_of (take i s) ++ padded_integral (format_spec 32 0 4 2 (2 ^ 64 - 1)) false [] (digits 16 false (slice_index_or s i 0)) ≡ hex_of (take (i + 1) s)
-one_more s i h small =
-    ap (λ t. hex_of (take i s) ++ t) (hex_byte false (slice_index_or s i 0) small)
-    ∙ flat_map_more pair_of [] (take i s) (slice_index_or s i 0)
-    ∙ sym (ap hex_of (take_more s i 0 h))
+pub unreachable-requires : goal.unreachable-requires
+unreachable-requires g c =
+    c.in_default.ensures.cases.0 (rw c.as_slice.ensures.value c.digits-digits.ensures.text)
 
-pub loop-b-preserved : goal.loop-b-preserved
-loop-b-preserved g c p =
-    let so_far = c.loop-b.invariant p in
-    let writes = rw (c.in_radix.ensures, c.laid_out.ensures) at c.in_ok-write.ensures.writes in
-    has_written_of_eq _ _ _ _ _ (one_more c.args.self.now.0.now c.loop-b.b-index (omega arith) (search rules))
-    (has_written_append _ _ _ _ _ _ so_far (writes so_far.plain refl))
+pub loop-piece-init : goal.loop-piece-init
+loop-piece-init g c = (search rules, tt, search rules, λ plain. ([], search rules, search rules))
+
+pub loop-piece-preserved : goal.loop-piece-preserved
+loop-piece-preserved g c =
+    let piece = c.in-Some.piece.now in
+    let steps = c.in-Some.ensures.steps in
+    let shown : c.in-Ok.text.now ≡ hex_of piece = c.in-Ok.ensures.cases.0 ∙ c.as_slice.ensures.value ∙ c.digits-digits.ensures.items in (
+      search rules,
+      tt,
+      steps.0 ∙ c.loop-piece.invariant.2,
+      λ plain.
+          let so_far = c.loop-piece.invariant.3 plain in (
+            so_far.0 ++ c.in-Ok.text.now,
+            has_written_append _ _ _ _ _ _ so_far.1 (search rules),
+            append_assoc so_far.0 _ _
+                ∙ ap (λ (t : List ℕ). so_far.0 ++ t)
+                (rw shown (sym (flat_map-append pair_of piece (chunks_rest c.next.new.self)) ∙ sym (ap hex_of steps.1.0)))
+                ∙ so_far.2,
+          ),
+    )
+
+pub returns-clause-writes : goal.returns-clause-writes
+returns-clause-writes g c = λ plain _.
+    let so_far = c.loop-piece.invariant.3 plain in
+    let none = nil_from_length _ c.in-None.ensures.steps.1.0 in
+    has_written_of_eq _ _ _ _ _ (rw (none, append-nil) at so_far.2) so_far.1
