@@ -77,10 +77,12 @@ fn digit(b: u8) -> u8
     ensures value { result ≡ hex_digit b }
     ensures upper_bound { result < 16 }
 {
-    match b {
-        b'0'..=b'9' => b - b'0',
-        b'a'..=b'f' => b - (b'a' - 10),
-        _ => 0,
+    if b'0' <= b && b <= b'9' {
+        b - b'0'
+    } else if b'a' <= b && b <= b'f' {
+        b - b'a' + 10
+    } else {
+        0
     }
 }
 
