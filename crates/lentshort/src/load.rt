@@ -1,5 +1,5 @@
 // Loading: a gatherer from the bytes that hold it.
-ghost use Rattle.std.specs.Prelude.{◌≡◌, ◌+◌, ◌≤◌, length};
+ghost use Rattle.std.specs.Prelude.{◌≡◌, ◌+◌, ◌*◌, ◌≤◌, length};
 ghost use Rattle.lent.specs.Fields.{two_in};
 ghost use Rattle.lentshort.specs.Saved.{gatherer_size, is_gatherer, gatherer_in, slot_in};
 ghost use Rattle.lentshort.specs.Gathered.{lent_to_gather};
@@ -53,8 +53,16 @@ pub(crate) fn gatherer_in(b: &[u8]) -> Gatherer
     ensures { result ≡ gatherer_in b.now }
 {
     Gatherer {
-        slots: array::from_fn(|k| slot_in(b, 4 + 24 * k)),
+        slots: array::from_fn(|k| nth_slot(b, k)),
     }
+}
+
+// The slot behind so many others, which stand behind the mark.
+fn nth_slot(b: &[u8], k: usize) -> Slot
+    requires { 4 + 24 * k + 24 ≤ length b.now }
+    ensures { result ≡ slot_in b.now (4 + 24 * k) }
+{
+    slot_in(b, 4 + 24 * k)
 }
 
 // The slot whose bytes begin at a place.
@@ -65,8 +73,16 @@ pub(crate) fn slot_in(b: &[u8], at: usize) -> Slot
     Slot {
         reference: b[at],
         total: b[at + 1],
-        sizes: array::from_fn(|i| size_in(b, at + 2 + 2 * i)),
+        sizes: array::from_fn(|i| nth_size(b, at, i)),
     }
+}
+
+// The size behind so many others of the slot whose bytes begin at a place.
+fn nth_size(b: &[u8], at: usize, i: usize) -> u16
+    requires { at + 2 + 2 * i + 2 ≤ length b.now }
+    ensures { result ≡ two_in b.now (at + 2 + 2 * i) }
+{
+    size_in(b, at + 2 + 2 * i)
 }
 
 fn size_in(b: &[u8], at: usize) -> u16
